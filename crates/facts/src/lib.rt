@@ -1,0 +1,54 @@
+// Sets of facts in a 64-bit word. A promise names the set that is returned and says which facts are in it.
+ghost use mathlib.Core.Path.{_≡_};
+ghost use mathlib.Core.Bool.{not, _&&_, _||_};
+ghost use Rattle.lists.specs.Answer.{Decides};
+ghost use Rattle.facts.specs.FactSet.{has, Members, union, difference};
+ghost use Rattle.facts.specs.FactSet.{subset, Subset, meets, Disjoint, foreign, Within};
+
+// Whether fact n is in the set.
+pub fn has(set: u64, n: u8) -> bool
+    ensures { λ r. ⌜ r ≡ has set n ⌝ }
+{
+    if 64 <= n {
+        return false;
+    }
+    (set >> n) % 2 == 1
+}
+
+// The facts in a or in b.
+pub fn union(a: u64, b: u64) -> u64
+    ensures { λ r. ⌜ (r ≡ union a b) × Members r (λ n. has a n || has b n) ⌝ }
+{
+    a | b
+}
+
+// The facts in a and not in b.
+pub fn difference(a: u64, b: u64) -> u64
+    ensures { λ r. ⌜ (r ≡ difference a b) × Members r (λ n. has a n && not (has b n)) ⌝ }
+{
+    a - (a & b)
+}
+
+// Whether every fact in a is in b.
+pub fn subset(a: u64, b: u64) -> bool
+    ensures { λ r. ⌜ (r ≡ subset a b) × Decides r (Subset a b) ⌝ }
+{
+    (a & b) == a
+}
+
+// Whether some fact is in both.
+pub fn meets(a: u64, b: u64) -> bool
+    ensures { λ r. ⌜ (r ≡ meets a b) × Decides (not r) (Disjoint a b) ⌝ }
+{
+    (a & b) != 0
+}
+
+// Whether the set has a fact at or above the number of facts.
+pub fn foreign(facts: u8, set: u64) -> bool
+    ensures { λ r. ⌜ (r ≡ foreign facts set) × Decides (not r) (Within facts set) ⌝ }
+{
+    if 64 <= facts {
+        return false;
+    }
+    (set >> facts) != 0
+}

@@ -1,0 +1,42 @@
+-- The table of a job value, with its counts for the lengths of lists.
+-- Assumes nothing.
+use Prim.Native.Nat.{ℕ}
+use mathlib.Core.Path.{_≡_, refl}
+use mathlib.Core.Bool.{Bool, false, _||_}
+use mathlib.Core.List.{List, [], _∷_, _++_}
+use lib.ListN.{getD}
+use Rattle.lists.specs.Lists.{firsts, any}
+use Rattle.lists.proofs.Tabulate.{length-tabulate}
+use Rattle.lists.proofs.Any.{any-append}
+use Rattle.lists.proofs.Bools.{or-left, or-right}
+use borrow.Author.Tests.{ltb-false}
+use Rattle.facts.specs.FactSet.{foreign}
+use Rattle.job.specs.declared.Job as held
+use Rattle.job.specs.declared.refusal.Refusal.the-variants.{BodySizes, FactCount, Deadline, ForeignFact}
+use Rattle.job.specs.declared.refusal.Refusal.the-variants.{Availability}
+use Rattle.job.specs.declared.Counts.{Counts}
+use Rattle.job.specs.Job.{jobIn, Fits}
+use Rattle.job.specs.Refusal.{Row, _when_}
+use Rattle.job.specs.Valid.{over, actionRows, jobRows}
+
+abbrev pub valueRows : held.Job → List Row
+valueRows j =
+    BodySizes when (over 4 (j .counts .pools) || over 4 (j .counts .stores) || over 64 (j .counts .actions))
+    ∷ FactCount when over 64 (j .facts)
+    ∷ Deadline when over 1440 (j .deadline)
+    ∷ ForeignFact when (foreign (j .facts) (j .start) || foreign (j .facts) (j .goal))
+    ∷ Availability when (any (over 1000000) (jobIn j .pools) || any (over 1000000) (jobIn j .stores))
+    ∷ actionRows (jobIn j)
+
+pub rows-of-value : (j : held.Job) → jobRows (jobIn j) ≡ valueRows j
+unfolding jobRows
+rows-of-value j = simp (length-tabulate, any-append)
+
+-- what test 3 says of the counts
+pub fits-of-counts : (n : Counts) → (over 4 (n .pools) || over 4 (n .stores) || over 64 (n .actions)) ≡ false → Fits n
+fits-of-counts n h =
+    let a = or-left (over 4 (n .pools) || over 4 (n .stores)) (over 64 (n .actions)) h in (
+      ltb-false 4 (n .pools) (or-left (over 4 (n .pools)) (over 4 (n .stores)) a),
+      ltb-false 4 (n .stores) (or-right (over 4 (n .pools)) (over 4 (n .stores)) a),
+      ltb-false 64 (n .actions) (or-right (over 4 (n .pools) || over 4 (n .stores)) (over 64 (n .actions)) h),
+    )

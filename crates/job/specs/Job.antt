@@ -1,0 +1,104 @@
+-- A job, and the job that a value of the program holds.
+-- Assumes nothing.
+use Prim.Native.Nat.{ℕ, zero, suc, _≤_}
+use mathlib.Core.List.{List, [], _∷_, map}
+use lib.ListN.{length, getD, replicate}
+use Rattle.lists.specs.Lists.{tabulate, firsts, filled}
+use Rattle.job.specs.declared.Action as act
+use Rattle.job.specs.declared.Job as held
+use Rattle.job.specs.declared.Counts.{Counts}
+
+-- "An action has a length of 1 to 255 minutes, a set of needed facts, one of added and one of deleted facts,
+-- and a use of 0 to 1,000,000 of each pool and store." Needed facts are the field's preconditions; a pool is a
+-- renewable resource, a store a consumable one.
+pub record Action : Type 0 where
+  pub duration : ℕ
+  pub needs : ℕ
+  pub adds : ℕ
+  pub deletes : ℕ
+  pub pools : List ℕ
+  pub stores : List ℕ
+
+-- "A job has 0 to 64 facts, numbered from 0, a start set and a goal set. Its deadline is 0 to 1,440 minutes. It has
+-- 0 to 4 pools and 0 to 4 stores, each with an availability of 0 to 1,000,000. It has 0 to 64 actions."
+pub record Job : Type 0 where
+  pub facts : ℕ
+  pub deadline : ℕ
+  pub start : ℕ
+  pub goal : ℕ
+  pub pools : List ℕ
+  pub stores : List ℕ
+  pub actions : List Action
+
+-- ── the job in a value: "what is beyond its counts is ignored; two jobs are the same if their counts and all
+-- within them agree" ──
+
+-- what an array of actions has past its end
+abbrev pub beyond : act.Action
+beyond = record { duration = 0; needs = 0; adds = 0; deletes = 0; pools = []; stores = [] }
+
+abbrev pub actionIn : Counts → act.Action → Action
+actionIn counts a =
+    record {
+      duration = a .duration;
+      needs = a .needs;
+      adds = a .adds;
+      deletes = a .deletes;
+      pools = firsts (counts .pools) 0 (a .pools);
+      stores = firsts (counts .stores) 0 (a .stores);
+    }
+
+-- the action at place i
+abbrev pub actionAt : held.Job → ℕ → Action
+actionAt j i = actionIn (j .counts) (getD (j .actions) i beyond)
+
+abbrev pub jobIn : held.Job → Job
+jobIn j =
+    record {
+      facts = j .facts;
+      deadline = j .deadline;
+      start = j .start;
+      goal = j .goal;
+      pools = firsts (j .counts .pools) 0 (j .pools);
+      stores = firsts (j .counts .stores) 0 (j .stores);
+      actions = tabulate (j .counts .actions) (actionAt j);
+    }
+
+-- the arrays of a value have places for all that it counts
+abbrev pub Fits : Counts → Type 0
+Fits counts = (counts .pools ≤ 4) × (counts .stores ≤ 4) × (counts .actions ≤ 64)
+
+-- ── the value of a job: "a job holds its pools, stores and actions by value, unused places zero" ──
+
+abbrev pub unusedAction : act.Action
+unusedAction =
+    record { duration = 0; needs = 0; adds = 0; deletes = 0; pools = replicate 4 0; stores = replicate 4 0 }
+
+abbrev pub actionValue : Action → act.Action
+actionValue a =
+    record {
+      duration = a .duration;
+      needs = a .needs;
+      adds = a .adds;
+      deletes = a .deletes;
+      pools = filled 4 0 (a .pools);
+      stores = filled 4 0 (a .stores);
+    }
+
+abbrev pub jobValue : Job → held.Job
+jobValue J =
+    record {
+      facts = J .facts;
+      deadline = J .deadline;
+      start = J .start;
+      goal = J .goal;
+      counts = record { pools = length (J .pools); stores = length (J .stores); actions = length (J .actions) };
+      pools = filled 4 0 (J .pools);
+      stores = filled 4 0 (J .stores);
+      actions = filled 64 unusedAction (map actionValue (J .actions));
+    }
+
+-- "a job standing beside a refusal is all zero"
+abbrev pub zeroValue : held.Job
+zeroValue =
+    jobValue (record { facts = 0; deadline = 0; start = 0; goal = 0; pools = []; stores = []; actions = [] })

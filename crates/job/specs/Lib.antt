@@ -1,0 +1,3 @@
+pub mod Job
+pub mod Refusal
+pub mod Valid

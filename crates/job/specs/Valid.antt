@@ -1,0 +1,47 @@
+-- Tests 3 to 11 of a job, in the order of the table.
+-- Assumes nothing.
+use Prim.Native.Nat.{ℕ}
+use mathlib.Core.Bool.{Bool, true, false, _||_}
+use mathlib.Core.List.{List, [], _∷_, _++_}
+use lib.Dec.{eqb, ltb}
+use lib.ListN.{length}
+use Rattle.lists.specs.Lists.{any}
+use Rattle.facts.specs.FactSet.{meets, foreign}
+use Rattle.job.specs.declared.refusal.Refusal.the-variants.{BodySizes, FactCount, Deadline, ForeignFact}
+use Rattle.job.specs.declared.refusal.Refusal.the-variants.{Availability, ZeroDuration, ForeignActionFact}
+use Rattle.job.specs.declared.refusal.Refusal.the-variants.{AddedAndDeleted, ActionUse}
+use Rattle.job.specs.declared.validate.ActionRule.{ActionRule}
+use Rattle.job.specs.declared.validate.ActionRule.the-variants.{Duration, Facts, Effects, Uses}
+use Rattle.job.specs.Job.{Action, Job}
+use Rattle.job.specs.Refusal.{Row, _when_}
+
+-- x is over the limit
+abbrev pub over : ℕ → ℕ → Bool
+over limit x = ltb limit x
+
+-- "length 0"; "set bit at or above the number of facts"; "a fact both added and deleted"; "use over 1,000,000"
+abbrev pub breaks : ActionRule → ℕ → Action → Bool
+breaks Duration facts a = eqb (a .duration) 0
+breaks Facts facts a = foreign facts (a .needs) || foreign facts (a .adds) || foreign facts (a .deletes)
+breaks Effects facts a = meets (a .adds) (a .deletes)
+breaks Uses facts a = any (over 1000000) (a .pools ++ a .stores)
+
+-- tests 8 to 11: each over all actions
+unfoldable pub actionRows : Job → List Row
+actionRows J =
+    ZeroDuration when any (breaks Duration (J .facts)) (J .actions)
+    ∷ ForeignActionFact when any (breaks Facts (J .facts)) (J .actions)
+    ∷ AddedAndDeleted when any (breaks Effects (J .facts)) (J .actions)
+    ∷ ActionUse when any (breaks Uses (J .facts)) (J .actions)
+    ∷ []
+
+-- "3: over four pools, four stores or 64 actions"; "over 64 facts"; "deadline over 1,440"; "start or goal bit at or
+-- above the number of facts"; "availability over 1,000,000"; then the actions
+unfoldable pub jobRows : Job → List Row
+jobRows J =
+    BodySizes when (over 4 (length (J .pools)) || over 4 (length (J .stores)) || over 64 (length (J .actions)))
+    ∷ FactCount when over 64 (J .facts)
+    ∷ Deadline when over 1440 (J .deadline)
+    ∷ ForeignFact when (foreign (J .facts) (J .start) || foreign (J .facts) (J .goal))
+    ∷ Availability when any (over 1000000) (J .pools ++ J .stores)
+    ∷ actionRows J

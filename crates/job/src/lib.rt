@@ -1,0 +1,84 @@
+// The job of a day by value: its actions, its resources and its sets of facts, with every limit once.
+pub mod refusal; // the table of refusals
+pub mod validate; // tests 3 to 11 of a job value
+
+ghost use mathlib.Core.Path.{_≡_};
+ghost use Rattle.job.specs.Job.{zeroValue};
+
+// An action of a job. Sets of facts are words: fact n is bit n.
+pub struct Action {
+    pub duration: u8, // minutes (document 01: length)
+    pub needs: u64, // preconditions
+    pub adds: u64,
+    pub deletes: u64,
+    pub pools: [u32; Job::POOLS], // what it holds of each pool while it runs
+    pub stores: [u32; Job::STORES], // what it uses up of each store
+}
+
+impl Action {
+    pub const DURATION: u8 = 255;
+
+    pub const USE: u32 = 1_000_000;
+}
+
+// How many pools, stores and actions a job has. What its arrays hold beyond that is ignored.
+pub struct Counts {
+    pub pools: usize,
+    pub stores: usize,
+    pub actions: usize,
+}
+
+// A job. Pools are renewable resources, stores consumable ones: an availability for each.
+pub struct Job {
+    pub facts: u8,
+    pub deadline: u16,
+    pub start: u64,
+    pub goal: u64,
+    pub counts: Counts,
+    pub pools: [u32; Job::POOLS],
+    pub stores: [u32; Job::STORES],
+    pub actions: [Action; Job::ACTIONS],
+}
+
+impl Job {
+    pub const FACTS: u8 = 64;
+
+    pub const DEADLINE: u16 = 1_440;
+
+    pub const POOLS: usize = 4;
+
+    pub const STORES: usize = 4;
+
+    pub const AVAILABILITY: u32 = 1_000_000;
+
+    pub const ACTIONS: usize = 64;
+
+    // The job that stands beside a refusal: all zero.
+    pub fn zero() -> Job
+        ensures { λ r. ⌜ r ≡ zeroValue ⌝ }
+    {
+        let unused = Action {
+            duration: 0,
+            needs: 0,
+            adds: 0,
+            deletes: 0,
+            pools: [0u32; Job::POOLS],
+            stores: [0u32; Job::STORES],
+        };
+        let none = Counts {
+            pools: 0,
+            stores: 0,
+            actions: 0,
+        };
+        Job {
+            facts: 0,
+            deadline: 0,
+            start: 0,
+            goal: 0,
+            counts: none,
+            pools: [0u32; Job::POOLS],
+            stores: [0u32; Job::STORES],
+            actions: [unused; Job::ACTIONS],
+        }
+    }
+}

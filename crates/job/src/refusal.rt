@@ -1,0 +1,76 @@
+// The refusals in the order of document 01's table, by name; `number` gives the number that is shown.
+ghost use mathlib.Core.Path.{_≡_};
+ghost use Rattle.job.specs.Refusal.{number};
+
+pub enum Refusal {
+    // the file's contents
+    FileSize,
+    Offsets,
+    BodySizes,
+    // its head
+    FactCount,
+    Deadline,
+    ForeignFact,
+    // its pools and stores
+    Availability,
+    // its actions
+    ZeroDuration,
+    ForeignActionFact,
+    AddedAndDeleted,
+    ActionUse,
+    // the plan
+    PlanSize,
+    UnknownAction,
+    StepOrder,
+    AfterDeadline,
+    Clash,
+    PoolExceeded,
+    StoreExceeded,
+    NeedMissing,
+    GoalMissing,
+    // the planner
+    PlanSlice,
+    NoPlan,
+    // the writer
+    FileSlice,
+    // the earliest time
+    ForeignAskedFact,
+}
+
+// What a test of a whole table answers: the first refusal that holds, or none.
+pub enum Verdict {
+    Pass,
+    Refused(Refusal),
+}
+
+// The refusal's number in the table.
+pub fn number(refusal: Refusal) -> u8
+    ensures { λ r. ⌜ r ≡ number refusal ⌝ }
+{
+    match refusal {
+        Refusal::FileSize => 1,
+        Refusal::Offsets => 2,
+        Refusal::BodySizes => 3,
+        Refusal::FactCount => 4,
+        Refusal::Deadline => 5,
+        Refusal::ForeignFact => 6,
+        Refusal::Availability => 7,
+        Refusal::ZeroDuration => 8,
+        Refusal::ForeignActionFact => 9,
+        Refusal::AddedAndDeleted => 10,
+        Refusal::ActionUse => 11,
+        Refusal::PlanSize => 12,
+        Refusal::UnknownAction => 13,
+        Refusal::StepOrder => 14,
+        Refusal::AfterDeadline => 15,
+        Refusal::Clash => 16,
+        Refusal::PoolExceeded => 17,
+        Refusal::StoreExceeded => 18,
+        Refusal::NeedMissing => 19,
+        Refusal::GoalMissing => 20,
+        Refusal::PlanSlice => 21,
+        Refusal::NoPlan => 22,
+        Refusal::FileSlice => 23,
+        Refusal::ForeignAskedFact => 24,
+    }
+}

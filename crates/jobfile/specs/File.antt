@@ -1,0 +1,128 @@
+-- The job file: the bytes of a job, and the job in bytes.
+-- Assumes nothing.
+use Prim.Native.Nat.{ℕ, zero, suc, _+_, _*_, _/_, _%_, _<_}
+use mathlib.Core.Bool.{Bool, not, _&&_, _||_}
+use mathlib.Core.List.{List, [], _∷_, _++_}
+use lib.Dec.{eqb, ltb}
+use lib.ListN.{length}
+use Rattle.encoding.specs.Bytes.{fromBytes, toBytes, part, split, joined}
+use Rattle.job.specs.Job.{Action, Job}
+use Rattle.job.specs.Refusal.{Row, _when_}
+use Rattle.job.specs.Valid.{over}
+use Rattle.job.specs.declared.refusal.Refusal.the-variants.{FileSize, Offsets, BodySizes}
+use Rattle.jobfile.specs.declared.Layout.{Layout}
+
+-- ── the bytes of a job ──
+
+-- "Head, 19 bytes: number of facts (1 byte), deadline (2), start set (8), goal set (8)."
+unfoldable pub headBytes : Job → List ℕ
+headBytes J = toBytes 1 (J .facts) ++ toBytes 2 (J .deadline) ++ toBytes 8 (J .start) ++ toBytes 8 (J .goal)
+
+-- "Pools, then stores: 4 bytes for each availability."
+abbrev pub amountBytes : List ℕ → List ℕ
+amountBytes = joined (toBytes 4)
+
+-- "Actions: length (1 byte), needed, added, deleted (8 bytes each), then 4 bytes for each pool and each store."
+unfoldable pub actionBytes : Action → List ℕ
+actionBytes a =
+    toBytes 1 (a .duration)
+    ++ toBytes 8 (a .needs)
+    ++ toBytes 8 (a .adds)
+    ++ toBytes 8 (a .deletes)
+    ++ amountBytes (a .pools)
+    ++ amountBytes (a .stores)
+
+abbrev pub bodies : Job → List (List ℕ)
+bodies J =
+    headBytes J ∷ amountBytes (J .pools) ∷ amountBytes (J .stores) ∷ joined actionBytes (J .actions) ∷ []
+
+-- "four entries of 4 bytes, each a body's offset and length in bytes (16 bits each)": the numbers of the entries,
+-- where the first body stands at `at`
+abbrev pub contents : ℕ → List (List ℕ) → List ℕ
+contents at [] = []
+contents at (body ∷ rest) = at ∷ length body ∷ contents (at + length body) rest
+
+-- "Contents come first. The bodies follow in the same order without gaps: the first offset is 16."
+unfoldable pub fileOf : Job → List ℕ
+fileOf J = joined (toBytes 2) (contents 16 (bodies J)) ++ joined (λ body. body) (bodies J)
+
+-- ── the job in bytes ──
+
+-- entry k of the contents, and the body that it names
+abbrev pub offset : List ℕ → ℕ → ℕ
+offset file k = fromBytes (part file (4 * k) 2)
+
+abbrev pub size : List ℕ → ℕ → ℕ
+size file k = fromBytes (part file (4 * k + 2) 2)
+
+abbrev pub body : List ℕ → ℕ → List ℕ
+body file k = part file (offset file k) (size file k)
+
+abbrev pub layoutIn : List ℕ → Layout
+layoutIn file =
+    record { head = size file 0; pools = size file 1; stores = size file 2; actions = size file 3 }
+
+-- the bytes of an action in a job with so many pools and stores
+abbrev pub actionSize : ℕ → ℕ → ℕ
+actionSize pools stores = 25 + 4 * pools + 4 * stores
+
+unfoldable pub actionOf : ℕ → ℕ → List ℕ → Action
+actionOf pools stores bytes =
+    record {
+      duration = fromBytes (part bytes 0 1);
+      needs = fromBytes (part bytes 1 8);
+      adds = fromBytes (part bytes 9 8);
+      deletes = fromBytes (part bytes 17 8);
+      pools = split 4 fromBytes (part bytes 25 (4 * pools));
+      stores = split 4 fromBytes (part bytes (25 + 4 * pools) (4 * stores));
+    }
+
+-- the job that the four bodies say
+unfoldable pub jobOf : List ℕ → List ℕ → List ℕ → List ℕ → Job
+jobOf head pools stores actions =
+    let p = length pools / 4 in
+    let s = length stores / 4 in
+    record {
+      facts = fromBytes (part head 0 1);
+      deadline = fromBytes (part head 1 2);
+      start = fromBytes (part head 3 8);
+      goal = fromBytes (part head 11 8);
+      pools = split 4 fromBytes pools;
+      stores = split 4 fromBytes stores;
+      actions = split (actionSize p s) (actionOf p s) actions;
+    }
+
+abbrev pub decoded : List ℕ → Job
+decoded file = jobOf (body file 0) (body file 1) (body file 2) (body file 3)
+
+-- ── tests 1 to 3 of a file ──
+
+-- n bodies from entry k on stand in a row: "each next offset is the last one plus its length, and the last body ends
+-- with the file"
+unfoldable pub gapless : List ℕ → ℕ → ℕ → ℕ → Bool
+gapless file at k zero = eqb at (length file)
+gapless file at k (suc n) = eqb (offset file k) at && gapless file (at + size file k) (suc k) n
+
+-- "head not 19 bytes; pools or stores not a multiple of 4 or over 16 bytes; actions not whole or over 64"
+unfoldable pub missized : Layout → Bool
+missized l =
+    let action = actionSize (l .pools / 4) (l .stores / 4) in
+    not (eqb (l .head) 19)
+    || not (eqb (l .pools % 4) 0)
+    || over 16 (l .pools)
+    || not (eqb (l .stores % 4) 0)
+    || over 16 (l .stores)
+    || not (eqb (l .actions % action) 0)
+    || over 64 (l .actions / action)
+
+-- "under 16 or over 4,096 bytes"; "an offset or the file's end is not as above"; and the lengths of the bodies
+unfoldable pub fileRows : List ℕ → List Row
+fileRows file =
+    FileSize when (ltb (length file) 16 || over 4096 (length file))
+    ∷ Offsets when not (gapless file 16 0 4)
+    ∷ BodySizes when missized (layoutIn file)
+    ∷ []
+
+-- the lengths of 16 bits that a file's contents give
+abbrev pub Small : Layout → Type 0
+Small l = (l .head < 65536) × (l .pools < 65536) × (l .stores < 65536) × (l .actions < 65536)

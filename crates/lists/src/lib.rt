@@ -1,0 +1,1 @@
+// Lists by places: definitions in specs/ and their laws in proofs/, for the crates above. No code.
