@@ -3,13 +3,22 @@
 use Prim.Native.Nat.{ℕ, zero, suc, _+_, _*_, _-_, _/_, _%_, _^_, _≤_, _<_}
 use mathlib.Core.Path.{_≡_, refl, ap, sym, _∙_}
 use mathlib.Core.List.{List, [], _∷_, _++_, append-nil, append-assoc}
-use native.Mathlib.Nat.{suc-mul, zero-mul, mul-div-cancel, mul-comm, div-add-mod}
+use native.Mathlib.Nat.{suc-mul, zero-mul, mul-div-cancel, mul-comm, div-add-mod, mul-le-mul-right}
 use native.Mathlib.Omega.{arith}
 use lib.ListN.{length, take, drop, length-append}
 use lib.Seq.{take-add, take-at, drop-append-add, take-all}
 use Rattle.lists.specs.Lists.{tabulate, Each}
 use Rattle.lists.proofs.Tabulate.{tabulate-cons, tabulate-same}
 use Rattle.encoding.specs.Bytes.{part, split, joined}
+
+-- piece i of size s lies within n
+pub piece-within : (n s i : ℕ) → i < n / s → i * s + s ≤ n
+piece-within n s i h =
+    let d = div-add-mod n s in
+    let c = mul-comm s (n / s) in
+    let m = suc-mul i s in
+    let l : suc i * s ≤ n / s * s = mul-le-mul-right s h in
+    omega arith
 
 module _ {A : Type 0} where
   pub joined-append : (f : A → List ℕ) (xs ys : List A) → joined f (xs ++ ys) ≡ joined f xs ++ joined f ys

@@ -3,7 +3,7 @@ pub mod refusal; // the table of refusals
 pub mod validate; // tests 3 to 11 of a job value
 
 ghost use mathlib.Core.Path.{_≡_};
-ghost use Rattle.job.specs.Job.{zeroValue};
+ghost use Rattle.job.specs.Job.{unusedAction, zeroValue};
 
 // An action of a job. Sets of facts are words: fact n is bit n.
 pub struct Action {
@@ -16,9 +16,25 @@ pub struct Action {
 }
 
 impl Action {
+    // The longest duration, in minutes.
     pub const DURATION: u8 = 255;
 
+    // The largest use of a pool or store.
     pub const USE: u32 = 1_000_000;
+
+    // What stands in an unused place: all zero.
+    pub fn unused() -> Action
+        ensures { λ r. ⌜ r ≡ unusedAction ⌝ }
+    {
+        Action {
+            duration: 0,
+            needs: 0,
+            adds: 0,
+            deletes: 0,
+            pools: [0u32; Job::POOLS],
+            stores: [0u32; Job::STORES],
+        }
+    }
 }
 
 // How many pools, stores and actions a job has. What its arrays hold beyond that is ignored.
@@ -41,30 +57,27 @@ pub struct Job {
 }
 
 impl Job {
+    // The most facts.
     pub const FACTS: u8 = 64;
 
+    // The latest deadline, in minutes.
     pub const DEADLINE: u16 = 1_440;
 
+    // The most pools, stores and actions.
     pub const POOLS: usize = 4;
 
     pub const STORES: usize = 4;
 
-    pub const AVAILABILITY: u32 = 1_000_000;
-
     pub const ACTIONS: usize = 64;
+
+    // The largest availability of a pool or store.
+    pub const AVAILABILITY: u32 = 1_000_000;
 
     // The job that stands beside a refusal: all zero.
     pub fn zero() -> Job
         ensures { λ r. ⌜ r ≡ zeroValue ⌝ }
     {
-        let unused = Action {
-            duration: 0,
-            needs: 0,
-            adds: 0,
-            deletes: 0,
-            pools: [0u32; Job::POOLS],
-            stores: [0u32; Job::STORES],
-        };
+        let unused = Action::unused();
         let none = Counts {
             pools: 0,
             stores: 0,

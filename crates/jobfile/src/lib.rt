@@ -15,34 +15,42 @@ pub struct Layout {
 }
 
 impl Layout {
+    // The most bytes of a file.
     pub const FILE: usize = 4_096;
 
+    // The contents: an entry for each body, and what they take together.
     pub const BODIES: usize = 4;
 
     pub const ENTRY: usize = 4;
 
     pub const CONTENTS: usize = 16;
 
+    // The bytes of the head, of an amount, and of an action without its uses.
     pub const HEAD: usize = 19;
 
     pub const AMOUNT: usize = 4;
 
-    pub const ACTION: usize = 25; // an action without its uses
+    pub const ACTION: usize = 25;
+
+    // The bytes of an action in a job with so many pools and stores.
+    pub fn action_size(pools: usize, stores: usize) -> usize
+        requires { ⌜ (pools < 65536) × (stores < 65536) ⌝ }
+        ensures { λ r. ⌜ r ≡ actionSize pools stores ⌝ }
+    {
+        Layout::ACTION + Layout::AMOUNT * pools + Layout::AMOUNT * stores
+    }
 
     // Whether a body has a length that no job has: refusal 3.
     pub fn missized(self) -> bool
         requires { ⌜ Small self ⌝ }
         ensures { λ r. ⌜ r ≡ missized self ⌝ }
     {
-        let amounts = Layout::AMOUNT * (Job::POOLS);
-        let action = Layout::ACTION
-            + Layout::AMOUNT * (self.pools / Layout::AMOUNT)
-            + Layout::AMOUNT * (self.stores / Layout::AMOUNT);
+        let action = Layout::action_size(self.pools / Layout::AMOUNT, self.stores / Layout::AMOUNT);
         (self.head != Layout::HEAD)
             | (self.pools % Layout::AMOUNT != 0)
-            | (amounts < self.pools)
+            | (Layout::AMOUNT * Job::POOLS < self.pools)
             | (self.stores % Layout::AMOUNT != 0)
-            | (amounts < self.stores)
+            | (Layout::AMOUNT * Job::STORES < self.stores)
             | (self.actions % action != 0)
             | (Job::ACTIONS < self.actions / action)
     }

@@ -2,7 +2,7 @@
 -- Assumes nothing.
 use Prim.Native.Nat.{ℕ, zero, suc, _+_, _-_, _≤_, _<_}
 use mathlib.Core.Path.{_≡_, refl, ap, sym, _∙_}
-use mathlib.Core.List.{List, [], _∷_, _++_, map}
+use mathlib.Core.List.{List, [], _∷_, _++_, map, map-append}
 use native.Mathlib.Decide.{decLt}
 use native.Mathlib.Numerals.{add-one}
 use native.Mathlib.Omega.{arith}
@@ -71,6 +71,19 @@ module _ {A : Type 0} where
       (set-at xs z (replicate (n - (length xs + 1)) z) x (length xs) refl
       ∙ sym (append-snoc xs x (replicate (n - (length xs + 1)) z)))
 
+  -- a loop that fills an array from the front: at first nothing, then one more element
+  pub filled-tabulate-none : (n : ℕ) (z : A) (f : ℕ → A) → filled n z (tabulate 0 f) ≡ replicate n z
+  unfolding tabulate
+  filled-tabulate-none n z f = let e : n - 0 ≡ n = omega arith in rw e
+
+  pub filled-tabulate : (n : ℕ) (z : A) (f : ℕ → A) (i : ℕ) → i < n
+      → set (filled n z (tabulate i f)) i (f i) ≡ filled n z (tabulate (i + 1) f)
+  filled-tabulate n z f i h =
+      let l = length-tabulate i f in
+      rw (tabulate-snoc i f)
+      (ap (λ (k : ℕ). set (filled n z (tabulate i f)) k (f i)) (sym l)
+      ∙ filled-more n z (tabulate i f) (f i) (omega arith))
+
   each-snoc : (P : A → Type 0) (xs : List A) (x : A) → Each P xs → P x → Each P (xs ++ (x ∷ []))
   each-snoc P [] x e p = (p, tt)
   each-snoc P (y ∷ xs) x e p = (e .0, each-snoc P xs x (e .1) p)
@@ -99,3 +112,18 @@ pub getD-map : {A B : Type 0} (f : A → B) (xs : List A) (i : ℕ) (d : B) (e :
 getD-map f [] i d e h = absurd (omega arith)
 getD-map f (x ∷ xs) zero d e h = refl
 getD-map f (x ∷ xs) (suc i) d e h = getD-map f xs i d e (omega arith)
+
+module _ {A B : Type 0} where
+  pub map-tabulate : (f : A → B) (n : ℕ) (g : ℕ → A) → map f (tabulate n g) ≡ tabulate n (λ i. f (g i))
+  unfolding tabulate
+  map-tabulate f zero g = refl
+  map-tabulate f (suc n) g = map-append f (tabulate n g) (g n ∷ []) ∙ rw (map-tabulate f n g)
+
+  -- the same of an array of f (g 0), f (g 1), ..
+  pub filled-none : (n : ℕ) (z : B) (f : A → B) (g : ℕ → A) → filled n z (map f (tabulate 0 g)) ≡ replicate n z
+  filled-none n z f g = rw (map-tabulate f 0 g) (filled-tabulate-none n z (λ k. f (g k)))
+
+  pub filled-next : (n : ℕ) (z : B) (f : A → B) (g : ℕ → A) (i : ℕ) → i < n
+      → set (filled n z (map f (tabulate i g))) i (f (g i)) ≡ filled n z (map f (tabulate (i + 1) g))
+  filled-next n z f g i h =
+      rw (map-tabulate f i g, map-tabulate f (i + 1) g) (filled-tabulate n z (λ k. f (g k)) i h)

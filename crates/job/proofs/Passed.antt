@@ -1,0 +1,127 @@
+-- What a job that passes tests 3 to 11 is like.
+-- Assumes nothing.
+use Prim.Native.Nat.{ℕ, _^_, _≤_, _<_}
+use mathlib.Core.Path.{_≡_, refl}
+use mathlib.Core.Bool.{Bool, false, _||_}
+use mathlib.Core.List.{List, [], _∷_, _++_}
+use native.Mathlib.Omega.{arith}
+use lib.Dec.{eqb}
+use lib.ListN.{length}
+use borrow.Author.Tests.{ltb-false, eqb-false}
+use Rattle.lists.specs.Lists.{any, Each}
+use Rattle.lists.proofs.Any.{any-append, any-none}
+use Rattle.lists.proofs.Bools.{or-left, or-right}
+use Rattle.lists.proofs.Tabulate.{each-map}
+use Rattle.facts.specs.FactSet.{meets, foreign}
+use Rattle.facts.proofs.Membership.{within-word}
+use Rattle.job.specs.declared.validate.ActionRule.{ActionRule}
+use Rattle.job.specs.declared.validate.ActionRule.the-variants.{Duration, Facts, Effects, Uses}
+use Rattle.job.specs.declared.refusal.Verdict.the-variants.{Pass}
+use Rattle.job.specs.Job.{Action, Job, jobValue}
+use Rattle.job.specs.Refusal.{first}
+use Rattle.job.specs.Valid.{over, breaks, actionRows, jobRows}
+use Rattle.job.proofs.Table.{first-pass}
+use Rattle.job.proofs.Rows.{fits-of-counts}
+
+-- an amount of a pool or a store, available or used
+abbrev pub Amounts : List ℕ → Type 0
+Amounts = Each (λ x. x ≤ 1000000)
+
+-- a set with no bit at or above the number of facts, so a word
+pub record WithinFacts (facts set : ℕ) : Type 0 where
+  pub within : foreign facts set ≡ false
+  pub word : set < 2 ^ 64
+
+-- an action that passes tests 8 to 11 of a job with so many facts
+pub record PassedAction (facts : ℕ) (a : Action) : Type 0 where
+  pub duration : 0 < a .duration
+  pub needs : WithinFacts facts (a .needs)
+  pub adds : WithinFacts facts (a .adds)
+  pub deletes : WithinFacts facts (a .deletes)
+  pub effects : meets (a .adds) (a .deletes) ≡ false
+  pub pools : Amounts (a .pools)
+  pub stores : Amounts (a .stores)
+
+pub record Passed (J : Job) : Type 0 where
+  pub fewPools : length (J .pools) ≤ 4
+  pub fewStores : length (J .stores) ≤ 4
+  pub fewActions : length (J .actions) ≤ 64
+  pub facts : J .facts ≤ 64
+  pub deadline : J .deadline ≤ 1440
+  pub start : WithinFacts (J .facts) (J .start)
+  pub goal : WithinFacts (J .facts) (J .goal)
+  pub pools : Amounts (J .pools)
+  pub stores : Amounts (J .stores)
+  pub actions : Each (PassedAction (J .facts)) (J .actions)
+
+within-facts : (facts set : ℕ) → facts ≤ 64 → foreign facts set ≡ false → WithinFacts facts set
+within-facts facts set l h = record { within = h; word = within-word facts set h l }
+
+amounts : (xs : List ℕ) → any (over 1000000) xs ≡ false → Amounts xs
+amounts xs h = each-map (λ x e. ltb-false 1000000 x e) xs (any-none (over 1000000) xs h)
+
+-- of two lists one after the other
+both-amounts : (xs ys : List ℕ) → any (over 1000000) (xs ++ ys) ≡ false → Amounts xs × Amounts ys
+both-amounts xs ys h =
+    let x = any (over 1000000) xs in
+    let y = any (over 1000000) ys in
+    let e : (x || y) ≡ false = rw (any-append (over 1000000) xs ys) at h in
+    (amounts xs (or-left x y e), amounts ys (or-right x y e))
+
+passed-action : (facts : ℕ) → facts ≤ 64 → (a : Action) → ((rule : ActionRule) → breaks rule facts a ≡ false)
+    → PassedAction facts a
+passed-action facts l a h =
+    let n = foreign facts (a .needs) in
+    let d = foreign facts (a .adds) in
+    let e = foreign facts (a .deletes) in
+    let nd = or-left (n || d) e (h Facts) in
+    let uses = both-amounts (a .pools) (a .stores) (h Uses) in
+    let none = eqb-false (a .duration) 0 (h Duration) in
+    record {
+      duration = omega arith;
+      needs = within-facts facts (a .needs) l (or-left n d nd);
+      adds = within-facts facts (a .adds) l (or-right n d nd);
+      deletes = within-facts facts (a .deletes) l (or-right (n || d) e (h Facts));
+      effects = h Effects;
+      pools = uses .0;
+      stores = uses .1;
+    }
+
+passed-actions : (facts : ℕ) → facts ≤ 64 → (actions : List Action)
+    → ((rule : ActionRule) → Each (λ a. breaks rule facts a ≡ false) actions) → Each (PassedAction facts) actions
+passed-actions facts l [] h = tt
+passed-actions facts l (a ∷ actions) h =
+    (passed-action facts l a (λ rule. h rule .0), passed-actions facts l actions (λ rule. h rule .1))
+
+pub passed : (J : Job) → first (jobRows J) ≡ Pass → Passed J
+unfolding jobRows actionRows
+passed J h =
+    let t3 = first-pass _ _ _ h in
+    let t4 = first-pass _ _ _ (t3 .1) in
+    let t5 = first-pass _ _ _ (t4 .1) in
+    let t6 = first-pass _ _ _ (t5 .1) in
+    let t7 = first-pass _ _ _ (t6 .1) in
+    let t8 = first-pass _ _ _ (t7 .1) in
+    let t9 = first-pass _ _ _ (t8 .1) in
+    let t10 = first-pass _ _ _ (t9 .1) in
+    let t11 = first-pass _ _ _ (t10 .1) in
+    let counts = fits-of-counts (jobValue J .counts) (t3 .0) in
+    let few : J .facts ≤ 64 = ltb-false 64 (J .facts) (t4 .0) in
+    let s = foreign (J .facts) (J .start) in
+    let g = foreign (J .facts) (J .goal) in
+    let available = both-amounts (J .pools) (J .stores) (t7 .0) in
+    let kept : (rule : ActionRule) → any (breaks rule (J .facts)) (J .actions) ≡ false = λ rule.
+    elim rule [ Duration ↦ t8 .0 | Facts ↦ t9 .0 | Effects ↦ t10 .0 | Uses ↦ t11 .0 ] in
+    record {
+      fewPools = counts .0;
+      fewStores = counts .1;
+      fewActions = counts .2;
+      facts = few;
+      deadline = ltb-false 1440 (J .deadline) (t5 .0);
+      start = within-facts (J .facts) (J .start) few (or-left s g (t6 .0));
+      goal = within-facts (J .facts) (J .goal) few (or-right s g (t6 .0));
+      pools = available .0;
+      stores = available .1;
+      actions = passed-actions (J .facts) few (J .actions)
+          (λ rule. any-none (breaks rule (J .facts)) (J .actions) (kept rule));
+    }

@@ -1,0 +1,71 @@
+-- `decode` meets its contract: field by field.
+-- Assumes nothing.
+use Rattle.lists.proofs.Tabulate.{length-tabulate}
+use Rattle.jobfile.specs.File.{jobOf}
+use borrow.Author.Needs.{needs}
+use Rattle.reader.proofs.decode.decode.Statement.{statement}
+use Rattle.reader.proofs.decode.decode.Tie as tie
+
+action-size-requires : tie.Need-action-size-requires
+action-size-requires c κs = search needs
+
+div-t19 : tie.Need-div-t19
+div-t19 c = search needs
+
+amounts-requires : tie.Need-amounts-requires
+amounts-requires c κs = search needs
+
+amounts-requires-2 : tie.Need-amounts-requires-2
+amounts-requires-2 c κs = search needs
+
+actions-requires : tie.Need-actions-requires
+actions-requires c κs = search needs
+
+read-number-requires : tie.Need-read-number-requires
+read-number-requires c κs = search needs
+
+cast-t21 : tie.Need-cast-t21
+cast-t21 c = search needs
+
+read-number-requires-2 : tie.Need-read-number-requires-2
+read-number-requires-2 c κs = search needs
+
+cast-t23 : tie.Need-cast-t23
+cast-t23 c = search needs
+
+read-number-requires-3 : tie.Need-read-number-requires-3
+read-number-requires-3 c κs = search needs
+
+read-number-requires-4 : tie.Need-read-number-requires-4
+read-number-requires-4 c κs = search needs
+
+returns : tie.Need-returns
+unfolding jobOf
+returns c =
+    rw (
+      c .before .before .before .read-number .ensures .0,
+      c .before .before .read-number2 .ensures .0,
+      c .before .read-number3 .ensures .0,
+      c .read-number4 .ensures .0,
+      c .before .before .before .before .before .before .before .action-size .ensures,
+      c .before .before .before .before .before .before .amounts .ensures,
+      c .before .before .before .before .before .amounts2 .ensures,
+      c .before .before .before .before .actions .ensures)
+    (simp length-tabulate)
+
+pub decode-spec : {M : Type 1} → statement M
+decode-spec =
+    tie.close
+    (tie.spec
+    action-size-requires
+    div-t19
+    amounts-requires
+    amounts-requires-2
+    actions-requires
+    read-number-requires
+    cast-t21
+    read-number-requires-2
+    cast-t23
+    read-number-requires-3
+    read-number-requires-4
+    returns)

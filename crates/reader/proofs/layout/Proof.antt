@@ -1,0 +1,27 @@
+-- `layout` meets its contract.
+-- Assumes nothing.
+use mathlib.Core.Path.{_≡_, refl}
+use borrow.Author.Needs.{needs}
+use Rattle.reader.proofs.layout.Statement.{statement}
+use Rattle.reader.proofs.layout.Tie as tie
+
+short-requires : tie.Need-short-requires
+short-requires c κs = search needs
+
+short-requires-2 : tie.Need-short-requires-2
+short-requires-2 c κs = search needs
+
+short-requires-3 : tie.Need-short-requires-3
+short-requires-3 c κs = search needs
+
+short-requires-4 : tie.Need-short-requires-4
+short-requires-4 c κs = search needs
+
+returns : tie.Need-returns
+returns c =
+    (rw (c .before .before .before .short .ensures .0, c .before .before .short2 .ensures .0, c .before .short3 .ensures .0, c .short4 .ensures .0),
+     (c .before .before .before .short .ensures .1, c .before .before .short2 .ensures .1, c .before .short3 .ensures .1, c .short4 .ensures .1))
+
+pub layout-spec : {M : Type 1} → statement M
+layout-spec =
+    tie.close (tie.spec short-requires short-requires-2 short-requires-3 short-requires-4 returns)

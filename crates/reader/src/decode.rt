@@ -1,0 +1,92 @@
+// The four bodies of a file whose lengths are right, as a job. Nothing is tested here.
+ghost use mathlib.Core.Path.{_≡_};
+ghost use mathlib.Core.List.{map};
+ghost use Prim.Native.Nat.{_/_, _%_, _≤_};
+ghost use lib.ListN.{length};
+ghost use Rattle.lists.specs.Lists.{filled};
+ghost use Rattle.encoding.specs.Bytes.{fromBytes, split};
+ghost use Rattle.job.specs.Job.{unusedAction, actionValue, jobValue};
+ghost use Rattle.jobfile.specs.File.{actionSize, actionOf, jobOf};
+
+use encoding::read_number;
+use job::{Action, Counts, Job};
+use jobfile::Layout;
+
+// Amounts of 4 bytes each, at most four.
+fn amounts(bytes: &[u8]) -> [u32; Job::POOLS]
+    requires { ⌜ length (now bytes) ≤ 16 ⌝ }
+    ensures { λ r. ⌜ r ≡ filled 4 0 (split 4 fromBytes (now (bytes .entry))) ⌝ }
+{
+    let mut out = [0u32; Job::POOLS];
+    let mut i = 0;
+    while i < bytes.len() / Layout::AMOUNT {
+        out[i] = read_number(bytes, i * Layout::AMOUNT, Layout::AMOUNT) as u32;
+        i += 1;
+    }
+    out
+}
+
+// One action of a job with so many pools and stores.
+fn action(bytes: &[u8], pools: usize, stores: usize) -> Action
+    requires { ⌜ (pools ≤ 4) × (stores ≤ 4) × (length (now bytes) ≡ actionSize pools stores) ⌝ }
+    ensures { λ r. ⌜ r ≡ actionValue (actionOf pools stores (now (bytes .entry))) ⌝ }
+{
+    let uses = Layout::ACTION;
+    let middle = uses + Layout::AMOUNT * pools;
+    let held = amounts(&bytes[uses..middle]);
+    let taken = amounts(&bytes[middle..]);
+    Action {
+        duration: read_number(bytes, 0, 1) as u8,
+        needs: read_number(bytes, 1, 8),
+        adds: read_number(bytes, 9, 8),
+        deletes: read_number(bytes, 17, 8),
+        pools: held,
+        stores: taken,
+    }
+}
+
+// All actions of a job with so many pools and stores.
+fn actions(bytes: &[u8], pools: usize, stores: usize) -> [Action; Job::ACTIONS]
+    requires { ⌜ (pools ≤ 4) × (stores ≤ 4) × (length (now bytes) / actionSize pools stores ≤ 64) ⌝ }
+    ensures { λ r. ⌜ r ≡ filled 64 unusedAction (map actionValue (split (actionSize pools stores) (actionOf pools stores) (now (bytes .entry)))) ⌝ }
+{
+    let size = Layout::action_size(pools, stores);
+    let count = bytes.len() / size;
+    let unused = Action::unused();
+    let mut out = [unused; Job::ACTIONS];
+    let mut i = 0;
+    while i < count {
+        let at = i * size;
+        let next = at + size;
+        out[i] = action(&bytes[at..next], pools, stores);
+        i += 1;
+    }
+    out
+}
+
+// The job that the bodies say.
+pub fn decode(head: &[u8], pools: &[u8], stores: &[u8], actions_: &[u8]) -> Job
+    requires { ⌜ length (now head) ≡ 19 ⌝ }
+    requires { ⌜ (length (now pools) ≤ 16) × (length (now stores) ≤ 16) ⌝ }
+    requires { ⌜ length (now «actions_») / actionSize (length (now pools) / 4) (length (now stores) / 4) ≤ 64 ⌝ }
+    ensures { λ r. ⌜ r ≡ jobValue (jobOf (now (head .entry)) (now (pools .entry)) (now (stores .entry)) (now («actions_» .entry))) ⌝ }
+{
+    let counts = Counts {
+        pools: pools.len() / Layout::AMOUNT,
+        stores: stores.len() / Layout::AMOUNT,
+        actions: actions_.len() / Layout::action_size(pools.len() / Layout::AMOUNT, stores.len() / Layout::AMOUNT),
+    };
+    let pool_amounts = amounts(pools);
+    let store_amounts = amounts(stores);
+    let all = actions(actions_, counts.pools, counts.stores);
+    Job {
+        facts: read_number(head, 0, 1) as u8,
+        deadline: read_number(head, 1, 2) as u16,
+        start: read_number(head, 3, 8),
+        goal: read_number(head, 11, 8),
+        counts,
+        pools: pool_amounts,
+        stores: store_amounts,
+        actions: all,
+    }
+}

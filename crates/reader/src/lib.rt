@@ -1,0 +1,95 @@
+// The reader: any bytes in; the job in them, or the first refusal of 1 to 11, out. One pass over the bytes.
+pub mod decode; // the four bodies of a file to a job
+
+ghost use mathlib.Core.Path.{_≡_};
+ghost use Prim.Native.Nat.{_+_, _≤_, _<_};
+ghost use lib.ListN.{length};
+ghost use Rattle.encoding.specs.Bytes.{fromBytes, part};
+ghost use Rattle.job.specs.Job.{zeroValue};
+ghost use Rattle.jobfile.specs.File.{gapless, layoutIn, Small};
+ghost use Rattle.jobfile.specs.Answers.{readFile};
+
+use job::Job;
+use job::refusal::{Refusal, Verdict};
+use job::validate::validate;
+use jobfile::{Layout, Reading};
+
+// The number of 16 bits at a place of the contents.
+fn short(file: &[u8], at: usize) -> usize
+    requires { ⌜ at + 2 ≤ length (now file) ⌝ }
+    ensures { λ r. ⌜ (r ≡ fromBytes (part (now (file .entry)) at 2)) × (r < 65536) ⌝ }
+{
+    encoding::read_number(file, at, 2) as usize
+}
+
+// Whether the bodies stand in a row, from the contents to the end of the file.
+fn gapless(file: &[u8]) -> bool
+    requires { ⌜ 16 ≤ length (now file) ⌝ }
+    ensures { λ r. ⌜ r ≡ gapless (now (file .entry)) 16 0 4 ⌝ }
+{
+    let mut at = Layout::CONTENTS;
+    let mut k = 0;
+    while k < Layout::BODIES {
+        if short(file, Layout::ENTRY * k) != at {
+            return false;
+        }
+        at += short(file, Layout::ENTRY * k + 2);
+        k += 1;
+    }
+    at == file.len()
+}
+
+// The lengths of the bodies.
+fn layout(file: &[u8]) -> Layout
+    requires { ⌜ 16 ≤ length (now file) ⌝ }
+    ensures { λ r. ⌜ (r ≡ layoutIn (now (file .entry))) × Small r ⌝ }
+{
+    Layout {
+        head: short(file, 2),
+        pools: short(file, 6),
+        stores: short(file, 10),
+        actions: short(file, 14),
+    }
+}
+
+// The answer to a file that is refused.
+fn refused(why: Refusal) -> Reading
+    ensures { λ r. ⌜ r ≡ record { verdict = Verdict.Refused why; job = zeroValue } ⌝ }
+{
+    let none = Job::zero();
+    Reading {
+        verdict: Verdict::Refused(why),
+        job: none,
+    }
+}
+
+// The job in a file, or the first refusal of 1 to 11 with a job of zeros.
+pub fn read(file: &[u8]) -> Reading
+    ensures { λ r. ⌜ r ≡ readFile (now (file .entry)) ⌝ }
+{
+    let length = file.len();
+    if (length < Layout::CONTENTS) | (Layout::FILE < length) {
+        return refused(Refusal::FileSize);
+    }
+    if !gapless(file) {
+        return refused(Refusal::Offsets);
+    }
+    let layout = layout(file);
+    if layout.missized() {
+        return refused(Refusal::BodySizes);
+    }
+    let pools = Layout::CONTENTS + layout.head;
+    let stores = pools + layout.pools;
+    let actions = stores + layout.stores;
+    let job = decode::decode(
+        &file[Layout::CONTENTS..pools],
+        &file[pools..stores],
+        &file[stores..actions],
+        &file[actions..],
+    );
+    let verdict = validate(job);
+    if let Verdict::Refused(why) = verdict {
+        return refused(why);
+    }
+    Reading { verdict, job }
+}
