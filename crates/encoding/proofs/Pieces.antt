@@ -11,13 +11,19 @@ use Rattle.lists.specs.Lists.{tabulate, Each}
 use Rattle.lists.proofs.Tabulate.{tabulate-cons, tabulate-same}
 use Rattle.encoding.specs.Bytes.{part, split, joined}
 
--- piece i of size s lies within n
-pub piece-within : (n s i : ℕ) → i < n / s → i * s + s ≤ n
-piece-within n s i h =
-    let d = div-add-mod n s in
-    let c = mul-comm s (n / s) in
+-- piece i of n pieces of size s lies within them
+pub piece-below : (n s i : ℕ) → i < n → i * s + s ≤ n * s
+piece-below n s i h =
     let m = suc-mul i s in
-    let l : suc i * s ≤ n / s * s = mul-le-mul-right s h in
+    let l : suc i * s ≤ n * s = mul-le-mul-right s h in
+    omega arith
+
+-- and within m bytes that hold them
+pub piece-within : (m s i : ℕ) → i < m / s → i * s + s ≤ m
+piece-within m s i h =
+    let d = div-add-mod m s in
+    let c = mul-comm s (m / s) in
+    let l = piece-below (m / s) s i h in
     omega arith
 
 module _ {A : Type 0} where

@@ -1,11 +1,10 @@
 -- What a job that passes tests 3 to 11 is like.
 -- Assumes nothing.
 use Prim.Native.Nat.{ℕ, _^_, _≤_, _<_}
-use mathlib.Core.Path.{_≡_, refl}
+use mathlib.Core.Path.{_≡_}
 use mathlib.Core.Bool.{Bool, false, _||_}
 use mathlib.Core.List.{List, [], _∷_, _++_}
 use native.Mathlib.Omega.{arith}
-use lib.Dec.{eqb}
 use lib.ListN.{length}
 use borrow.Author.Tests.{ltb-false, eqb-false}
 use Rattle.lists.specs.Lists.{any, Each}
@@ -93,6 +92,17 @@ passed-actions facts l [] h = tt
 passed-actions facts l (a ∷ actions) h =
     (passed-action facts l a (λ rule. h rule .0), passed-actions facts l actions (λ rule. h rule .1))
 
+abbrev anyBreaks : Job → ActionRule → Bool
+anyBreaks J rule = any (breaks rule (J .facts)) (J .actions)
+
+-- one answer for each rule
+rules : (broken : ActionRule → Bool) → broken Duration ≡ false → broken Facts ≡ false → broken Effects ≡ false
+    → broken Uses ≡ false → (rule : ActionRule) → broken rule ≡ false
+rules broken d f e u Duration = d
+rules broken d f e u Facts = f
+rules broken d f e u Effects = e
+rules broken d f e u Uses = u
+
 pub passed : (J : Job) → first (jobRows J) ≡ Pass → Passed J
 unfolding jobRows actionRows
 passed J h =
@@ -110,8 +120,7 @@ passed J h =
     let s = foreign (J .facts) (J .start) in
     let g = foreign (J .facts) (J .goal) in
     let available = both-amounts (J .pools) (J .stores) (t7 .0) in
-    let kept : (rule : ActionRule) → any (breaks rule (J .facts)) (J .actions) ≡ false = λ rule.
-    elim rule [ Duration ↦ t8 .0 | Facts ↦ t9 .0 | Effects ↦ t10 .0 | Uses ↦ t11 .0 ] in
+    let kept = rules (anyBreaks J) (t8 .0) (t9 .0) (t10 .0) (t11 .0) in
     record {
       fewPools = counts .0;
       fewStores = counts .1;

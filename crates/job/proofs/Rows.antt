@@ -1,7 +1,7 @@
 -- The table of a job value, with its counts for the lengths of lists.
 -- Assumes nothing.
 use Prim.Native.Nat.{ℕ}
-use mathlib.Core.Path.{_≡_, refl}
+use mathlib.Core.Path.{_≡_, refl, ap, sym, _∙_}
 use mathlib.Core.Bool.{Bool, false, _||_}
 use mathlib.Core.List.{List, [], _∷_, _++_}
 use lib.ListN.{getD}
@@ -16,7 +16,9 @@ use Rattle.job.specs.declared.refusal.Refusal.the-variants.{BodySizes, F
 use Rattle.job.specs.declared.refusal.Refusal.the-variants.{Availability}
 use Rattle.job.specs.declared.Counts.{Counts}
 use Rattle.job.specs.Job.{jobIn, Fits}
-use Rattle.job.specs.Refusal.{Row, _when_}
+use Rattle.job.specs.declared.refusal.Verdict.the-variants.{Pass}
+use Rattle.job.specs.Refusal.{Row, _when_, first}
+use Rattle.job.proofs.Table.{first-pass}
 use Rattle.job.specs.Valid.{over, actionRows, jobRows}
 
 abbrev pub valueRows : held.Job → List Row
@@ -40,3 +42,6 @@ fits-of-counts n h =
       ltb-false 4 (n .stores) (or-right (over 4 (n .pools)) (over 4 (n .stores)) a),
       ltb-false 64 (n .actions) (or-right (over 4 (n .pools) || over 4 (n .stores)) (over 64 (n .actions)) h),
     )
+
+pub fits-of-pass : (j : held.Job) → first (jobRows (jobIn j)) ≡ Pass → Fits (j .counts)
+fits-of-pass j h = fits-of-counts (j .counts) (first-pass BodySizes _ _ (sym (ap first (rows-of-value j)) ∙ h) .0)

@@ -1,12 +1,11 @@
--- A job and its value: the value holds the job, and every value holds a job of one shape.
+-- A job and its value: the value holds the job, and in every value each action has a use of each pool and store.
 -- Assumes nothing.
 use Prim.Native.Nat.{ℕ}
 use mathlib.Core.Path.{_≡_, refl, ap, sym, _∙_}
 use mathlib.Core.List.{List, [], _∷_, map}
 use lib.ListN.{length, getD, length-map}
-use Rattle.lists.specs.Lists.{tabulate, firsts, filled, Each}
+use Rattle.lists.specs.Lists.{firsts, Each}
 use Rattle.lists.proofs.Tabulate.{length-tabulate, map-tabulate, firsts-filled, each-tabulate}
-use Rattle.job.specs.declared.Action as act
 use Rattle.job.specs.declared.Counts.{Counts}
 use Rattle.job.specs.declared.Job as held
 use Rattle.job.specs.Job.{Action, Job, beyond, actionIn, actionAt, jobIn, unusedAction, actionValue, jobValue}
@@ -34,14 +33,15 @@ actions-of-values : (n : Counts) (actions : List Action) → Each (Shaped (n .po
 actions-of-values n [] h = refl
 actions-of-values n (a ∷ actions) h = rw (action-of-value n a (h .0), actions-of-values n actions (h .1))
 
+actions-of-job-value : (J : Job) → Shape J → jobIn (jobValue J) .actions ≡ J .actions
+actions-of-job-value J h =
+    let n = jobValue J .counts in
+    let array = jobValue J .actions in
+    sym (map-tabulate (actionIn n) (length (J .actions)) (λ i. getD array i beyond))
+    ∙ ap (λ (k : ℕ). map (actionIn n) (firsts k beyond array)) (sym (length-map (J .actions) actionValue))
+    ∙ ap (map (actionIn n)) (firsts-filled 64 unusedAction beyond (map actionValue (J .actions)))
+    ∙ actions-of-values n (J .actions) h
+
 pub value-holds-job : (J : Job) → Shape J → jobIn (jobValue J) ≡ J
 value-holds-job J h =
-    let values = map actionValue (J .actions) in
-    let n = jobValue J .counts in
-    let actions : tabulate (length (J .actions)) (actionAt (jobValue J)) ≡ J .actions =
-    sym (map-tabulate (actionIn n) (length (J .actions)) (λ i. getD (filled 64 unusedAction values) i beyond))
-    ∙ ap (λ (k : ℕ). map (actionIn n) (firsts k beyond (filled 64 unusedAction values)))
-    (sym (length-map (J .actions) actionValue))
-    ∙ ap (map (actionIn n)) (firsts-filled 64 unusedAction beyond values)
-    ∙ actions-of-values n (J .actions) h in
-    rw (firsts-filled 4 0 0 (J .pools), firsts-filled 4 0 0 (J .stores), actions)
+    rw (firsts-filled 4 0 0 (J .pools), firsts-filled 4 0 0 (J .stores), actions-of-job-value J h)

@@ -7,9 +7,10 @@ ghost use Rattle.lists.specs.Lists.{filled};
 ghost use Rattle.encoding.specs.Bytes.{fromBytes, split};
 ghost use Rattle.job.specs.Job.{unusedAction, actionValue, jobValue};
 ghost use Rattle.jobfile.specs.File.{actionSize, actionOf, jobOf};
-
 use encoding::read_number;
-use job::{Action, Counts, Job};
+use job::Action;
+use job::Counts;
+use job::Job;
 use jobfile::Layout;
 
 // Amounts of 4 bytes each, at most four.
@@ -74,7 +75,8 @@ pub fn decode(head: &[u8], pools: &[u8], stores: &[u8], actions_: &[u8]) -> Job
     let counts = Counts {
         pools: pools.len() / Layout::AMOUNT,
         stores: stores.len() / Layout::AMOUNT,
-        actions: actions_.len() / Layout::action_size(pools.len() / Layout::AMOUNT, stores.len() / Layout::AMOUNT),
+        actions: actions_.len()
+            / Layout::action_size(pools.len() / Layout::AMOUNT, stores.len() / Layout::AMOUNT),
     };
     let pool_amounts = amounts(pools);
     let store_amounts = amounts(stores);

@@ -8,11 +8,12 @@ ghost use Rattle.encoding.specs.Bytes.{fromBytes, part};
 ghost use Rattle.job.specs.Job.{zeroValue};
 ghost use Rattle.jobfile.specs.File.{gapless, layoutIn, Small};
 ghost use Rattle.jobfile.specs.Answers.{readFile};
-
 use job::Job;
-use job::refusal::{Refusal, Verdict};
+use job::refusal::Refusal;
+use job::refusal::Verdict;
 use job::validate::validate;
-use jobfile::{Layout, Reading};
+use jobfile::Layout;
+use jobfile::Reading;
 
 // The number of 16 bits at a place of the contents.
 fn short(file: &[u8], at: usize) -> usize

@@ -51,12 +51,13 @@ loop-again : tie.Need-loop-again Inv-loop μ-loop
 loop-again c =
     let file = c .before .before .before .before .before .before .args .file .now in
     let l = c .before .before .before .before .loop in
-    let d : 4 - l .k - 1 ≡ 4 - (l .k + 1) = omega arith in
-    (omega arith,
-     omega arith,
-     l .inv .2
-     ∙ gapless-next file (l .at) (l .k) (4 - l .k) (omega arith) (sym (c .before .before .short .ensures .0) ∙ c .before .if1 .left)
-     ∙ rw (c .short2 .ensures .0, d))
+    let d : 4 - l .k - 1 ≡ 4 - (l .k + 1) = omega arith in (
+      omega arith,
+      omega arith,
+      l .inv .2
+          ∙ gapless-next file (l .at) (l .k) (4 - l .k) (omega arith) (sym (c .before .before .short .ensures .0) ∙ c .before .if1 .left)
+          ∙ rw (c .short2 .ensures .0, d),
+    )
 
 returns-2 : tie.Need-returns-2 Inv-loop μ-loop
 returns-2 c =

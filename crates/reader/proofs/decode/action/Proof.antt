@@ -68,7 +68,8 @@ returns c =
       c .before .before .before .before .before .before .amounts .ensures,
       c .before .before .before .before .amounts2 .ensures,
       p,
-      q)
+      q,
+    )
 
 pub action-spec : {M : Type 1} → statement M
 action-spec =

@@ -40,10 +40,11 @@ unused-requires c κs = search needs
 
 loop-holds : tie.Need-loop-holds Inv-loop μ-loop
 loop-holds c =
-    let a = c .before .before .before .args in
-    (omega arith,
-     rw (c .unused .ensures)
-     (sym (filled-none 64 unusedAction actionValue (piece (a .bytes .now) (a .pools) (a .stores)))))
+    let a = c .before .before .before .args in (
+      omega arith,
+      rw (c .unused .ensures)
+          (sym (filled-none 64 unusedAction actionValue (piece (a .bytes .now) (a .pools) (a .stores)))),
+    )
 
 mul-at : tie.Need-mul-at Inv-loop μ-loop
 mul-at c =
@@ -102,10 +103,11 @@ loop-again c =
     let d : (l .i * s + s) - l .i * s ≡ s = omega arith in
     let q = ap (λ (k : ℕ). length (a .bytes .now) / k) (c .before .before .before .before .before .action-size .ensures) in
     let h = c .before .before .before .before .before .before .before .pre .2 in
-    let t = c .before .before .loop-test .taken in
-    (omega arith,
-     rw (l .inv .1, c .action .ensures, d, c .before .before .before .before .before .action-size .ensures)
-     (filled-next 64 unusedAction actionValue (piece (a .bytes .now) (a .pools) (a .stores)) (l .i) (omega arith)))
+    let t = c .before .before .loop-test .taken in (
+      omega arith,
+      rw (l .inv .1, c .action .ensures, d, c .before .before .before .before .before .action-size .ensures)
+          (filled-next 64 unusedAction actionValue (piece (a .bytes .now) (a .pools) (a .stores)) (l .i) (omega arith)),
+    )
 
 returns : tie.Need-returns Inv-loop μ-loop
 returns c =

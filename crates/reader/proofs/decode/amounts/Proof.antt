@@ -45,10 +45,11 @@ loop-less c = omega arith
 loop-again : tie.Need-loop-again Inv-loop μ-loop
 loop-again c =
     let bytes = c .before .before .before .before .args .bytes .now in
-    let l = c .before .before .loop in
-    (omega arith,
-     rw (l .inv .1, c .read-number .ensures .0)
-     (filled-tabulate 4 0 (λ k. fromBytes (part bytes (k * 4) 4)) (l .i) (omega arith)))
+    let l = c .before .before .loop in (
+      omega arith,
+      rw (l .inv .1, c .read-number .ensures .0)
+          (filled-tabulate 4 0 (λ k. fromBytes (part bytes (k * 4) 4)) (l .i) (omega arith)),
+    )
 
 returns : tie.Need-returns Inv-loop μ-loop
 returns c =

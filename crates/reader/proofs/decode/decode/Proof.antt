@@ -50,7 +50,8 @@ returns c =
       c .before .before .before .before .before .before .before .action-size .ensures,
       c .before .before .before .before .before .before .amounts .ensures,
       c .before .before .before .before .before .amounts2 .ensures,
-      c .before .before .before .before .actions .ensures)
+      c .before .before .before .before .actions .ensures,
+    )
     (simp length-tabulate)
 
 pub decode-spec : {M : Type 1} → statement M

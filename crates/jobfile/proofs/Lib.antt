@@ -1,0 +1,10 @@
+pub mod Lengths
+pub mod Contents
+pub mod Writes
+pub mod DecodeLaws
+pub mod Laid
+pub mod ReadLaws
+pub mod ReadWrite
+pub mod BodiesRead
+pub mod WriteRead
+pub mod RoundTrips

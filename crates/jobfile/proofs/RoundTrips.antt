@@ -1,0 +1,95 @@
+-- The two round trips of the job file, over job values and the slices that the writer leaves.
+-- Assumes nothing.
+use Prim.Native.Nat.{ℕ, _+_, _≤_, _<_}
+use mathlib.Core.Path.{_≡_, refl, ap, sym, _∙_}
+use mathlib.Core.List.{List, []}
+use lib.ListN.{length, getD, take, drop}
+use lib.Seq.{take-at}
+use borrow.Author.Tests.{le-ltb}
+use Rattle.lists.proofs.Tabulate.{each-tabulate}
+use Rattle.encoding.specs.Bytes.{overwrite}
+use Rattle.encoding.proofs.Parts.{Bytes}
+use Rattle.job.specs.Job.{Job, beyond, actionAt, jobIn, jobValue}
+use Rattle.job.specs.Refusal.{first}
+use Rattle.job.specs.Valid.{jobRows}
+use Rattle.job.specs.declared.Job as held
+use Rattle.job.specs.declared.refusal.Refusal.the-variants.{FileSlice}
+use Rattle.job.specs.declared.refusal.Verdict.{Verdict}
+use Rattle.job.specs.declared.refusal.Verdict.the-variants.{Pass, Refused}
+use Rattle.job.proofs.Table.{first-next, first-append-pass, pass-of-append}
+use Rattle.job.proofs.Values.{job-in-shape}
+use Rattle.jobfile.specs.declared.Reading.{Reading}
+use Rattle.jobfile.specs.declared.Written.the-variants as written
+use Rattle.jobfile.specs.File.{fileOf, decoded}
+use Rattle.jobfile.specs.Answers.{readRows, readingOf, readFile, writeRows, writtenOf, writeFile, leftOf}
+use Rattle.jobfile.specs.Answers.{leftByWrite}
+use Rattle.jobfile.proofs.Laid.{value-holds-decoded}
+use Rattle.jobfile.proofs.ReadLaws.{passes-laid}
+use Rattle.jobfile.proofs.ReadWrite.{read-write}
+use Rattle.jobfile.proofs.WriteRead.{write-read}
+
+-- the durations within the counts are bytes
+abbrev pub ByteDurations : held.Job → Type 0
+ByteDurations j = (i : ℕ) → i < j .counts .actions → getD (j .actions) i beyond .duration < 256
+
+-- "A job written and read is the same job": its value, with zeros in the unused places.
+pub read-after-write : (j : held.Job) → ByteDurations j → first (jobRows (jobIn j)) ≡ Pass
+    → readFile (fileOf (jobIn j)) ≡ record { verdict = Pass; job = jobValue (jobIn j) }
+unfolding readFile
+read-after-write j d passes =
+    let file = fileOf (jobIn j) in
+    let r = write-read (jobIn j) (job-in-shape j) (each-tabulate _ (j .counts .actions) (actionAt j) d) passes in
+    ap (λ (v : Verdict). readingOf v (decoded file)) (r .0) ∙ ap (readingOf Pass) (r .1)
+
+-- "An accepted file read and written is the same file."
+pub write-after-read : (file : List ℕ) (j : held.Job) → Bytes file → readFile file ≡ record { verdict = Pass; job = j }
+    → (first (jobRows (jobIn j)) ≡ Pass) × (fileOf (jobIn j) ≡ file)
+unfolding readFile
+write-after-read file j b h =
+    let r = passed-reading (first (readRows file)) (decoded file) j h in
+    let same = value-holds-decoded file j (r .1) in (
+      ap (λ (J : Job). first (jobRows J)) same ∙ passes-laid file (r .0) .1,
+      ap fileOf same ∙ read-write file b (r .0),
+    )
+  where
+    passed-reading : (v : Verdict) (J : Job) (j : held.Job) → readingOf v J ≡ record { verdict = Pass; job = j }
+        → (v ≡ Pass) × (j ≡ jobValue J)
+    passed-reading Pass J j h = (refl, sym (ap (λ (r : Reading). r .job) h))
+    passed-reading (Refused why) J j h = let e = ap (λ (r : Reading). r .verdict) h in (e, cc)
+
+-- ── the same over the slices that the writer leaves ──
+
+-- a file's length as the answer: all tests passed, and the file stands in front
+written-file : (J : Job) (slice : List ℕ) (n : ℕ) → writeFile J slice ≡ written.Length n
+    → (first (jobRows J) ≡ Pass) × (take n (leftByWrite J slice) ≡ fileOf J)
+unfolding writeFile writeRows leftByWrite overwrite
+written-file J slice n h =
+    let w = passed-writing (first (writeRows J slice)) n h in (
+      pass-of-append (jobRows J) _ (w .0) .0,
+      ap (λ (v : Verdict). take n (leftOf v J slice)) (w .0)
+          ∙ take-at (fileOf J) (drop (0 + length (fileOf J)) slice) n (w .1),
+    )
+  where
+    passed-writing : (v : Verdict) (n : ℕ) → writtenOf v J ≡ written.Length n → (v ≡ Pass) × (length (fileOf J) ≡ n)
+    passed-writing Pass n h = (refl, cc)
+    passed-writing (Refused why) n h = (cc, cc)
+
+pub read-after-write-slice : (j : held.Job) (slice : List ℕ) (n : ℕ) → ByteDurations j
+    → writeFile (jobIn j) slice ≡ written.Length n
+    → readFile (take n (leftByWrite (jobIn j) slice)) ≡ record { verdict = Pass; job = jobValue (jobIn j) }
+read-after-write-slice j slice n d h =
+    let w = written-file (jobIn j) slice n h in
+    ap readFile (w .1) ∙ read-after-write j d (w .0)
+
+pub write-after-read-slice : (file : List ℕ) (j : held.Job) (slice : List ℕ) → Bytes file
+    → readFile file ≡ record { verdict = Pass; job = j } → length file ≤ length slice
+    → (writeFile (jobIn j) slice ≡ written.Length (length file))
+    × (take (length file) (leftByWrite (jobIn j) slice) ≡ file)
+unfolding writeFile writeRows first
+write-after-read-slice file j slice b h room =
+    let r = write-after-read file j b h in
+    let fits = le-ltb (length slice) (length (fileOf (jobIn j))) (rw (r .1) room) in
+    let passes = first-append-pass (jobRows (jobIn j)) _ (r .0) ∙ first-next FileSlice _ [] fits in
+    let length-again = ap (λ (bytes : List ℕ). written.Length (length bytes)) (r .1) in
+    let w = ap (λ (v : Verdict). writtenOf v (jobIn j)) passes ∙ length-again in
+    (w, written-file (jobIn j) slice (length file) w .1 ∙ r .1)

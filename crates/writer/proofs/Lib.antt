@@ -1,0 +1,2 @@
+mod ActionLaws
+mod AnswerLaws

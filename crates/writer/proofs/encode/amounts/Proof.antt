@@ -1,0 +1,90 @@
+-- `amounts` meets its contract: the first i are written.
+-- Assumes nothing.
+use Prim.Native.Nat.{ℕ, _+_, _-_, _*_, _≤_}
+use mathlib.Core.Path.{_≡_, refl}
+use lib.ListN.{length, getD}
+use Rattle.lists.specs.Lists.{firsts}
+use Rattle.encoding.specs.Bytes.{toBytes, overwrite}
+use Rattle.encoding.proofs.Numbers.{length-bytes}
+use Rattle.encoding.proofs.Overwrite.{pieces-none, pieces-more}
+use Rattle.jobfile.specs.File.{amountBytes}
+use native.Mathlib.Omega.{arith}
+use borrow.Author.Needs.{needs}
+use Rattle.writer.proofs.encode.amounts.Statement.{statement}
+use Rattle.writer.proofs.encode.amounts.Tie as tie
+
+abbrev Inv-loop : tie.InvT-loop
+Inv-loop out₀ at n xs i₀ out i =
+    (i ≤ n) × (out ≡ overwrite out₀ at (amountBytes (firsts i 0 xs))) × (length out ≡ length out₀)
+
+abbrev μ-loop : tie.MeasureT-loop
+μ-loop out₀ at n xs i₀ out i = n - i
+
+loop-holds : tie.Need-loop-holds Inv-loop μ-loop
+loop-holds c =
+    let f : ℕ → ℕ = λ k. getD (c .before .args .t3) k 0 in
+    (omega arith, pieces-none (toBytes 4) f 4 (λ k. length-bytes 4 (f k)) _ _, refl)
+
+mul-write-number : tie.Need-mul-write-number Inv-loop μ-loop
+mul-write-number c = omega arith
+
+add-write-number : tie.Need-add-write-number Inv-loop μ-loop
+add-write-number c = omega arith
+
+mul-wide32 : tie.Need-mul-wide32 Inv-loop μ-loop
+mul-wide32 c = omega arith
+
+array-read-wide32 : tie.Need-array-read-wide32 Inv-loop μ-loop
+array-read-wide32 c = omega arith
+
+wide32-requires : tie.Need-wide32-requires Inv-loop μ-loop
+wide32-requires c κs = search needs
+
+write-number-requires : tie.Need-write-number-requires Inv-loop μ-loop
+write-number-requires c κs = omega arith
+
+add-i : tie.Need-add-i Inv-loop μ-loop
+add-i c = omega arith
+
+loop-less : tie.Need-loop-less Inv-loop μ-loop
+loop-less c = omega arith
+
+loop-again : tie.Need-loop-again Inv-loop μ-loop
+loop-again c =
+    let l = c .before .before .before .before .before .before .loop in
+    let a = c .before .before .before .before .before .before .before .before .args in
+    let f : ℕ → ℕ = λ k. getD (a .t3) k 0 in
+    let k = c .before .before .write-number .kept .0 in (
+      omega arith,
+      rw (c .before .before .write-number .ensures, c .before .before .before .wide32 .ensures, l .inv .1)
+          (pieces-more (toBytes 4) f 4 (λ k. length-bytes 4 (f k)) (a .out .now) (a .at) (l .i) (a .at + 4 * l .i) (omega arith)
+          (omega arith)),
+      omega arith,
+    )
+
+same-length : tie.Need-same-length Inv-loop μ-loop
+same-length c = c .before .loop .inv .2
+
+returns : tie.Need-returns Inv-loop μ-loop
+returns c =
+    let e : c .before .loop .i ≡ c .before .before .before .args .n = omega arith in
+    rw e at (c .before .loop .inv .1)
+
+pub amounts-spec : {M : Type 1} → statement M
+amounts-spec =
+    tie.close
+    (tie.spec
+    Inv-loop
+    μ-loop
+    loop-holds
+    mul-write-number
+    add-write-number
+    mul-wide32
+    array-read-wide32
+    wide32-requires
+    write-number-requires
+    add-i
+    loop-less
+    loop-again
+    same-length
+    returns)

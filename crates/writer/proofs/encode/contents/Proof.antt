@@ -1,0 +1,94 @@
+-- `contents` meets its contract: the first k numbers are written.
+-- Assumes nothing.
+use Prim.Native.Nat.{ℕ, _+_, _-_, _*_, _≤_}
+use mathlib.Core.Path.{_≡_, refl}
+use lib.ListN.{length, getD}
+use Rattle.lists.specs.Lists.{tabulate, firsts}
+use Rattle.encoding.specs.Bytes.{toBytes, joined, overwrite}
+use Rattle.encoding.proofs.Numbers.{length-bytes}
+use Rattle.encoding.proofs.Overwrite.{pieces-none, pieces-more}
+use Rattle.writer.specs.Contents.{contentNumbers}
+use native.Mathlib.Omega.{arith}
+use Rattle.writer.proofs.encode.contents.Statement.{statement}
+use Rattle.writer.proofs.encode.contents.Tie as tie
+
+abbrev Inv-loop : tie.InvT-loop
+Inv-loop out₀ pools stores actions first second third numbers k₀ out k =
+    (k ≤ 8) × (out ≡ overwrite out₀ 0 (joined (toBytes 2) (firsts k 0 numbers))) × (length out ≡ length out₀)
+
+abbrev μ-loop : tie.MeasureT-loop
+μ-loop out₀ pools stores actions first second third numbers k₀ out k = 8 - k
+
+add-second : tie.Need-add-second Inv-loop μ-loop
+add-second c = omega arith
+
+add-third : tie.Need-add-third Inv-loop μ-loop
+add-third c = omega arith
+
+add-t10 : tie.Need-add-t10 Inv-loop μ-loop
+add-t10 c = omega arith
+
+loop-holds : tie.Need-loop-holds Inv-loop μ-loop
+loop-holds c =
+    let a = c .before .args in
+    let f : ℕ → ℕ = λ k. getD (contentNumbers (a .pools) (a .stores) (a .actions)) k 0 in
+    (omega arith, pieces-none (toBytes 2) f 2 (λ k. length-bytes 2 (f k)) (a .out .now) 0, refl)
+
+mul-write-number : tie.Need-mul-write-number Inv-loop μ-loop
+mul-write-number c = omega arith
+
+mul-write-number-2 : tie.Need-mul-write-number-2 Inv-loop μ-loop
+mul-write-number-2 c = omega arith
+
+array-read-write-number : tie.Need-array-read-write-number Inv-loop μ-loop
+array-read-write-number c = omega arith
+
+write-number-requires : tie.Need-write-number-requires Inv-loop μ-loop
+write-number-requires c κs = omega arith
+
+add-k : tie.Need-add-k Inv-loop μ-loop
+add-k c = omega arith
+
+loop-less : tie.Need-loop-less Inv-loop μ-loop
+loop-less c = omega arith
+
+loop-again : tie.Need-loop-again Inv-loop μ-loop
+loop-again c =
+    let l = c .before .before .before .before .before .loop in
+    let a = c .before .before .before .before .before .before .before .args in
+    let f : ℕ → ℕ = λ k. getD (contentNumbers (a .pools) (a .stores) (a .actions)) k 0 in
+    let k = c .before .before .write-number .kept .0 in (
+      omega arith,
+      rw (c .before .before .write-number .ensures, l .inv .1)
+          (pieces-more (toBytes 2) f 2 (λ k. length-bytes 2 (f k)) (a .out .now) 0 (l .k) (l .k * 2) (omega arith) (omega arith)),
+      omega arith,
+    )
+
+same-length : tie.Need-same-length Inv-loop μ-loop
+same-length c = c .before .loop .inv .2
+
+returns : tie.Need-returns Inv-loop μ-loop
+unfolding tabulate
+returns c =
+    let e : c .before .loop .k ≡ 8 = omega arith in
+    rw e at (c .before .loop .inv .1)
+
+pub contents-spec : {M : Type 1} → statement M
+contents-spec =
+    tie.close
+    (tie.spec
+    Inv-loop
+    μ-loop
+    add-second
+    add-third
+    add-t10
+    loop-holds
+    mul-write-number
+    mul-write-number-2
+    array-read-write-number
+    write-number-requires
+    add-k
+    loop-less
+    loop-again
+    same-length
+    returns)

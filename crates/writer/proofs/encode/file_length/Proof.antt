@@ -1,0 +1,53 @@
+-- `file_length` meets its contract.
+-- Assumes nothing.
+use Rattle.writer.proofs.ActionLaws.{few-action-bytes}
+use native.Mathlib.Omega.{arith}
+use borrow.Author.Needs.{needs}
+use Rattle.writer.proofs.encode.file_length.Statement.{statement}
+use Rattle.writer.proofs.encode.file_length.Tie as tie
+
+action-size-requires : tie.Need-action-size-requires
+action-size-requires c κs = search needs
+
+mul-amounts : tie.Need-mul-amounts
+mul-amounts c = search needs
+
+mul-amounts-2 : tie.Need-mul-amounts-2
+mul-amounts-2 c = search needs
+
+add-amounts : tie.Need-add-amounts
+add-amounts c = search needs
+
+add-result : tie.Need-add-result
+add-result c = search needs
+
+add-result-2 : tie.Need-add-result-2
+add-result-2 c = search needs
+
+mul-result : tie.Need-mul-result
+mul-result c =
+    let w = few-action-bytes (c .before .before .before .before .args .counts) (c .before .before .before .before .pre) in
+    rw (c .before .before .before .action-size .ensures) (omega arith)
+
+add-result-3 : tie.Need-add-result-3
+add-result-3 c =
+    let w = few-action-bytes (c .before .before .before .before .args .counts) (c .before .before .before .before .pre) in
+    let h = c .before .before .before .before .pre in
+    rw (c .before .before .before .action-size .ensures) (omega arith)
+
+returns : tie.Need-returns
+returns c = rw (c .before .before .before .action-size .ensures) (omega arith)
+
+pub file-length-spec : {M : Type 1} → statement M
+file-length-spec =
+    tie.close
+    (tie.spec
+    action-size-requires
+    mul-amounts
+    mul-amounts-2
+    add-amounts
+    add-result
+    add-result-2
+    mul-result
+    add-result-3
+    returns)

@@ -1,0 +1,143 @@
+// The parts of a file, each written at its place of a slice that is long enough.
+ghost use mathlib.Core.Path.{_≡_};
+ghost use Prim.Native.Nat.{_+_, _*_, _≤_};
+ghost use lib.ListN.{length};
+ghost use Rattle.lists.specs.Lists.{firsts};
+ghost use Rattle.encoding.specs.Bytes.{toBytes, joined, overwrite};
+ghost use Rattle.job.specs.Job.{actionIn, jobIn, Fits};
+ghost use Rattle.jobfile.specs.File.{headBytes, amountBytes, actionBytes, actionSize, fileOf};
+ghost use Rattle.writer.specs.Contents.{contentNumbers, fileLength};
+use encoding::write_number;
+use job::Action;
+use job::Counts;
+use job::Job;
+use jobfile::Layout;
+
+// A number of 8, 16 or 32 bits as one of 64.
+fn wide8(x: u8) -> u64
+    ensures { λ r. ⌜ r ≡ x ⌝ }
+{
+    x as u64
+}
+
+fn wide16(x: u16) -> u64
+    ensures { λ r. ⌜ r ≡ x ⌝ }
+{
+    x as u64
+}
+
+fn wide32(x: u32) -> u64
+    ensures { λ r. ⌜ r ≡ x ⌝ }
+{
+    x as u64
+}
+
+// The contents for bodies of 19, `pools`, `stores` and `actions` bytes.
+pub fn contents(out: &mut [u8], pools: usize, stores: usize, actions: usize)
+    requires { ⌜ (16 ≤ length (now out)) × (pools ≤ 16) × (stores ≤ 16) × (actions ≤ 4096) ⌝ }
+    ensures { λ r. ⌜ now (out .exit) ≡ overwrite (now (out .entry)) 0 (joined (toBytes 2) (contentNumbers pools stores actions)) ⌝ }
+{
+    let first = Layout::CONTENTS;
+    let second = first + Layout::HEAD;
+    let third = second + pools;
+    let numbers = [
+        first,
+        Layout::HEAD,
+        second,
+        pools,
+        third,
+        stores,
+        third + stores,
+        actions,
+    ];
+    let mut k = 0;
+    while k < 8 {
+        write_number(out, k * 2, 2, numbers[k] as u64);
+        k += 1;
+    }
+}
+
+// The head, behind the contents.
+pub fn head(out: &mut [u8], job: Job)
+    requires { ⌜ 35 ≤ length (now out) ⌝ }
+    ensures { λ r. ⌜ now (out .exit) ≡ overwrite (now (out .entry)) 16 (headBytes (jobIn job)) ⌝ }
+{
+    write_number(out, 16, 1, wide8(job.facts));
+    write_number(out, 17, 2, wide16(job.deadline));
+    write_number(out, 19, 8, job.start);
+    write_number(out, 27, 8, job.goal);
+}
+
+// The first n amounts, from place `at` on.
+pub fn amounts(out: &mut [u8], at: usize, xs: [u32; Job::POOLS], n: usize)
+    requires { ⌜ (n ≤ 4) × (at + 4 * n ≤ length (now out)) ⌝ }
+    ensures { λ r. ⌜ now (out .exit) ≡ overwrite (now (out .entry)) at (amountBytes (firsts n 0 xs)) ⌝ }
+{
+    let mut i = 0;
+    while i < n {
+        write_number(out, at + Layout::AMOUNT * i, Layout::AMOUNT, wide32(xs[i]));
+        i += 1;
+    }
+}
+
+// One action of a job with these counts, from place `at` on.
+fn action(out: &mut [u8], at: usize, counts: Counts, a: Action)
+    requires { ⌜ Fits counts × (at + actionSize (counts .pools) (counts .stores) ≤ length (now out)) ⌝ }
+    ensures { λ r. ⌜ now (out .exit) ≡ overwrite (now (out .entry)) at (actionBytes (actionIn counts a)) ⌝ }
+{
+    let held = a.pools;
+    let taken = a.stores;
+    let uses = at + Layout::ACTION;
+    let middle = uses + Layout::AMOUNT * counts.pools;
+    write_number(out, at, 1, wide8(a.duration));
+    write_number(out, at + 1, 8, a.needs);
+    write_number(out, at + 9, 8, a.adds);
+    write_number(out, at + 17, 8, a.deletes);
+    amounts(out, uses, held, counts.pools);
+    amounts(out, middle, taken, counts.stores);
+}
+
+// All actions of a job, of `size` bytes each, from place `at` on.
+pub fn actions(out: &mut [u8], at: usize, size: usize, job: Job)
+    requires { ⌜ Fits (job .counts) × (size ≡ actionSize (job .counts .pools) (job .counts .stores)) × (at + job .counts .actions * size ≤ length (now out)) ⌝ }
+    ensures { λ r. ⌜ now (out .exit) ≡ overwrite (now (out .entry)) at (joined actionBytes (jobIn job .actions)) ⌝ }
+{
+    let counts = job.counts;
+    let mut i = 0;
+    while i < counts.actions {
+        let a = job.actions[i];
+        action(out, at + i * size, counts, a);
+        i += 1;
+    }
+}
+
+// The length of the file of a job with these counts.
+pub fn file_length(counts: Counts) -> usize
+    requires { ⌜ Fits counts ⌝ }
+    ensures { λ r. ⌜ r ≡ fileLength counts ⌝ }
+{
+    let size = Layout::action_size(counts.pools, counts.stores);
+    let amounts = Layout::AMOUNT * counts.pools + Layout::AMOUNT * counts.stores;
+    Layout::CONTENTS + Layout::HEAD + amounts + counts.actions * size
+}
+
+// The whole file of a job, at the front of a slice that has room for it.
+pub fn file(out: &mut [u8], job: Job)
+    requires { ⌜ Fits (job .counts) × (fileLength (job .counts) ≤ length (now out)) ⌝ }
+    ensures { λ r. ⌜ now (out .exit) ≡ overwrite (now (out .entry)) 0 (fileOf (jobIn job)) ⌝ }
+{
+    let counts = job.counts;
+    let pools = job.pools;
+    let stores = job.stores;
+    let size = Layout::action_size(counts.pools, counts.stores);
+    let pool_bytes = Layout::AMOUNT * counts.pools;
+    let store_bytes = Layout::AMOUNT * counts.stores;
+    let pools_at = Layout::CONTENTS + Layout::HEAD;
+    let stores_at = pools_at + pool_bytes;
+    let actions_at = stores_at + store_bytes;
+    contents(out, pool_bytes, store_bytes, counts.actions * size);
+    head(out, job);
+    amounts(out, pools_at, pools, counts.pools);
+    amounts(out, stores_at, stores, counts.stores);
+    actions(out, actions_at, size, job);
+}
