@@ -1,15 +1,21 @@
--- The loop over the contents, one entry a turn.
+-- The loop over the contents, one entry a turn; and where the bodies are, once the contents are right.
 -- Assumes nothing.
-use Prim.Native.Nat.{ℕ, zero, suc, _+_, _-_, _<_}
-use mathlib.Core.Path.{_≡_, refl, sym, _∙_}
-use mathlib.Core.Bool.{false, _&&_}
+use Prim.Native.Nat.{ℕ, zero, suc, _+_, _-_, _≤_, _<_}
+use mathlib.Core.Path.{_≡_, refl, ap, sym, _∙_}
+use mathlib.Core.Bool.{true, false, _&&_}
 use mathlib.Core.List.{List}
 use native.Mathlib.Omega.{arith}
 use lib.Dec.{eqb}
 use lib.ListN.{length}
-use borrow.Author.Tests.{eq-eqb, ne-eqb}
-use Rattle.lists.proofs.Bools.{absurd}
-use Rattle.jobfile.specs.File.{offset, size, gapless}
+use borrow.Author.Tests.{eq-eqb, ne-eqb, ltb-false}
+use Rattle.lists.proofs.Bools.{absurd, or-left}
+use Rattle.jobfile.specs.declared.Layout.{Layout}
+use Rattle.jobfile.specs.File.{offset, size, layoutIn, gapless, missized}
+use Rattle.jobfile.proofs.Laid.{Laid, laid}
+use Rattle.jobfile.proofs.ReadLaws.{wrongSize}
+
+pub has-contents : (file : List ℕ) → wrongSize file ≡ false → 16 ≤ length file
+has-contents file h = ltb-false (length file) 16 (or-left _ _ h)
 
 module _ (file : List ℕ) (at k : ℕ) where
   pub gapless-broken : (n : ℕ) → 0 < n → (offset file k ≡ at → ⊥) → gapless file at k n ≡ false
@@ -29,3 +35,20 @@ module _ (file : List ℕ) (at k : ℕ) where
   pub gapless-end : gapless file at k 0 ≡ eqb at (length file)
   unfolding gapless
   gapless-end = refl
+
+-- the lengths of the bodies lie within the file
+pub record Placed (file : List ℕ) (l : Layout) : Type 0 where
+  pub right : Laid file
+  pub head : l .head ≡ size file 0
+  pub pools : l .pools ≡ size file 1
+  pub stores : l .stores ≡ size file 2
+  pub inside : 16 + l .head + l .pools + l .stores ≤ length file
+
+pub placed : (file : List ℕ) (l : Layout) → gapless file 16 0 4 ≡ true → l ≡ layoutIn file → missized l ≡ false
+    → Placed file l
+placed file l g e m =
+    let k = laid file g (rw e at m) in
+    let h = ap (λ (l : Layout). l .head) e in
+    let p = ap (λ (l : Layout). l .pools) e in
+    let s = ap (λ (l : Layout). l .stores) e in
+    record { right = k; head = h; pools = p; stores = s; inside = omega (arith, k .end) }

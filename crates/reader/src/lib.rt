@@ -2,11 +2,12 @@
 pub mod decode; // the four bodies of a file to a job
 
 ghost use mathlib.Core.Path.{_≡_};
+ghost use mathlib.Core.Bool.{true, false};
 ghost use Prim.Native.Nat.{_+_, _≤_, _<_};
 ghost use lib.ListN.{length};
 ghost use Rattle.encoding.specs.Bytes.{fromBytes, part};
-ghost use Rattle.job.specs.Job.{zeroValue};
-ghost use Rattle.jobfile.specs.File.{gapless, layoutIn, Small};
+ghost use Rattle.job.specs.Job.{jobValue, zeroValue};
+ghost use Rattle.jobfile.specs.File.{gapless, layoutIn, missized, Small, decoded};
 ghost use Rattle.jobfile.specs.Answers.{readFile};
 use job::Job;
 use job::refusal::Refusal;
@@ -53,6 +54,23 @@ fn layout(file: &[u8]) -> Layout
     }
 }
 
+// The job in a file whose contents are right.
+fn job_in(file: &[u8], layout: Layout) -> Job
+    requires { ⌜ (gapless (now file) 16 0 4 ≡ true) × (layout ≡ layoutIn (now file)) × (missized layout ≡ false) ⌝ }
+    ensures { λ r. ⌜ r ≡ jobValue (decoded (now (file .entry))) ⌝ }
+{
+    let head = Layout::CONTENTS;
+    let pools = head + layout.head;
+    let stores = pools + layout.pools;
+    let actions = stores + layout.stores;
+    decode::decode(
+        &file[head..pools],
+        &file[pools..stores],
+        &file[stores..actions],
+        &file[actions..],
+    )
+}
+
 // The answer to a file that is refused.
 fn refused(why: Refusal) -> Reading
     ensures { λ r. ⌜ r ≡ record { verdict = Verdict.Refused why; job = zeroValue } ⌝ }
@@ -79,15 +97,7 @@ pub fn read(file: &[u8]) -> Reading
     if layout.missized() {
         return refused(Refusal::BodySizes);
     }
-    let pools = Layout::CONTENTS + layout.head;
-    let stores = pools + layout.pools;
-    let actions = stores + layout.stores;
-    let job = decode::decode(
-        &file[Layout::CONTENTS..pools],
-        &file[pools..stores],
-        &file[stores..actions],
-        &file[actions..],
-    );
+    let job = job_in(file, layout);
     let verdict = validate(job);
     if let Verdict::Refused(why) = verdict {
         return refused(why);

@@ -1,137 +1,84 @@
+-- `read` meets its contract: a way out for each refusal of the file, one for those of the job, and the job.
+-- Assumes nothing.
+use mathlib.Core.Path.{_≡_, sym, ap, _∙_}
+use borrow.Author.Tests.{not-true, not-false}
+use Rattle.jobfile.proofs.ReadLaws.{read-wrong-size, read-offsets, read-body-sizes, read-refused, read-passed}
+use Rattle.reader.proofs.ContentsLaws.{has-contents}
 use borrow.Author.Needs.{needs}
 use Rattle.reader.proofs.read.Statement.{statement}
 use Rattle.reader.proofs.read.Tie as tie
-use Rattle.reader.proofs.read.Reads as reads
-use Rattle.reader.proofs.read.Lts as lts
-use Rattle.job.proofs.validate.validate.Reads as validate-reads
-use Rattle.jobfile.proofs.Layout.missized.Reads as missized-reads
-use Rattle.reader.proofs.decode.decode.Reads as decode-reads
-use Rattle.reader.proofs.gapless.Reads as gapless-reads
-use Rattle.reader.proofs.layout.Reads as layout-reads
-use Rattle.reader.proofs.refused.Reads as refused-reads
 
--- src/lib.rt:72:9
 refused-requires : tie.Need-refused-requires
 refused-requires c κs = search needs
 
--- src/lib.rt:72:9
 returns : tie.Need-returns
-returns c = ?
+returns c =
+    c .refused .ensures ∙ sym (read-wrong-size (c .before .before .before .args .file .now) (c .before .if1 .taken))
 
--- src/lib.rt:74:9
 gapless-requires : tie.Need-gapless-requires
-gapless-requires c κs = ?
+gapless-requires c κs = has-contents (c .before .before .args .file .now) (c .if1 .left)
 
--- src/lib.rt:75:9
 refused-requires-2 : tie.Need-refused-requires-2
 refused-requires-2 c κs = search needs
 
--- src/lib.rt:75:9
 returns-2 : tie.Need-returns-2
-returns-2 c = ?
+returns-2 c =
+    c .refused2 .ensures
+    ∙ sym (read-offsets (c .before .before .before .before .before .args .file .now) (c .before .before .before .if1 .left) (sym (c .before .before .gapless .ensures) ∙ not-true _ (c .before .if2 .taken)))
 
--- src/lib.rt:77:9
 layout-requires : tie.Need-layout-requires
-layout-requires c κs = ?
+layout-requires c κs =
+    has-contents (c .before .before .before .before .args .file .now) (c .before .before .if1 .left)
 
--- src/lib.rt:78:8
 missized-requires : tie.Need-missized-requires
 missized-requires c κs = search needs
 
--- src/lib.rt:79:9
 refused-requires-3 : tie.Need-refused-requires-3
 refused-requires-3 c κs = search needs
 
--- src/lib.rt:79:9
 returns-3 : tie.Need-returns-3
-returns-3 c = ?
+returns-3 c =
+    let t2 = sym (c .before .before .before .before .before .gapless .ensures) ∙ not-false _ (c .before .before .before .before .if2 .left) in
+    let t3 = rw (c .before .before .before .layout .ensures .0) at (sym (c .before .before .missized .ensures) ∙ c .before .if3 .taken) in
+    c .refused3 .ensures ∙ sym (read-body-sizes (c .before .before .before .before .before .before .before .before .args .file .now) (c .before .before .before .before .before .before .if1 .left) t2 t3)
 
--- src/lib.rt:81:17
-add-pools : tie.Need-add-pools
-add-pools c = search needs
+job-in-requires : tie.Need-job-in-requires
+job-in-requires c κs = (
+  sym (c .before .before .before .before .gapless .ensures) ∙ not-false _ (c .before .before .before .if2 .left),
+  c .before .before .layout .ensures .0,
+  sym (c .before .missized .ensures) ∙ c .if3 .left,
+)
 
--- src/lib.rt:82:18
-add-stores : tie.Need-add-stores
-add-stores c = search needs
-
--- src/lib.rt:83:19
-add-actions : tie.Need-add-actions
-add-actions c = search needs
-
--- src/lib.rt:85:9
-sub-decode : tie.Need-sub-decode
-sub-decode c = search needs
-
--- src/lib.rt:85:9
-part-decode-start : tie.Need-part-decode-start
-part-decode-start c = search needs
-
--- src/lib.rt:85:9
-part-decode-end : tie.Need-part-decode-end
-part-decode-end c = ?
-
--- src/lib.rt:86:9
-sub-decode-2 : tie.Need-sub-decode-2
-sub-decode-2 c = search needs
-
--- src/lib.rt:86:9
-part-decode-start-2 : tie.Need-part-decode-start-2
-part-decode-start-2 c = search needs
-
--- src/lib.rt:86:9
-part-decode-end-2 : tie.Need-part-decode-end-2
-part-decode-end-2 c = ?
-
--- src/lib.rt:87:9
-sub-decode-3 : tie.Need-sub-decode-3
-sub-decode-3 c = search needs
-
--- src/lib.rt:87:9
-part-decode-start-3 : tie.Need-part-decode-start-3
-part-decode-start-3 c = search needs
-
--- src/lib.rt:87:9
-part-decode-end-3 : tie.Need-part-decode-end-3
-part-decode-end-3 c = ?
-
--- src/lib.rt:88:9
-sub-decode-4 : tie.Need-sub-decode-4
-sub-decode-4 c = ?
-
--- src/lib.rt:88:9
-part-decode-start-4 : tie.Need-part-decode-start-4
-part-decode-start-4 c = ?
-
--- src/lib.rt:88:9
-part-decode-end-4 : tie.Need-part-decode-end-4
-part-decode-end-4 c = search needs
-
--- src/lib.rt:84:9
-decode-requires : tie.Need-decode-requires
-decode-requires c κs = ?
-
--- src/lib.rt:90:9
 validate-requires : tie.Need-validate-requires
 validate-requires c κs = search needs
 
--- src/lib.rt:91:29
 enum-known-verdict : tie.Need-enum-known-verdict
 enum-known-verdict c = search needs
 
--- src/lib.rt:92:9
 refused-requires-4 : tie.Need-refused-requires-4
 refused-requires-4 c κs = search needs
 
--- src/lib.rt:92:9
 returns-4 : tie.Need-returns-4
-returns-4 c = ?
+returns-4 c =
+    let b8 = c .before .before .before .before .before .before .before .before in
+    let t2 = sym (b8 .before .before .gapless .ensures) ∙ not-false _ (b8 .before .if2 .left) in
+    let t3 = rw (c .before .before .before .before .before .before .before .before .layout .ensures .0) at (sym (c .before .before .before .before .before .before .before .missized .ensures) ∙ c .before .before .before .before .before .before .if3 .left) in
+    let v = sym (c .before .before .before .before .validate .ensures) ∙ c .before .before .verdict .given .1 in
+    let j = c .before .before .before .before .before .job-in .result in
+    c .refused4 .ensures
+    ∙ sym (read-refused (b8 .before .before .before .before .before .args .file .now) (b8 .before .before .before .if1 .left) t2 t3 j (c .before .before .before .before .before .job-in .ensures) (c .before .before .verdict .given .0 .0) v)
 
 enum-told : tie.Need-enum-told
 enum-told c = search needs
 
--- src/lib.rt:67:1
 returns-5 : tie.Need-returns-5
-returns-5 c = ?
+returns-5 c =
+    let b8 = c .before .before .before .before .before .before .before .before in
+    let t2 = sym (c .before .before .before .before .before .before .before .before .gapless .ensures) ∙ not-false _ (c .before .before .before .before .before .before .before .if2 .left) in
+    let t3 = rw (c .before .before .before .before .before .before .layout .ensures .0) at (sym (c .before .before .before .before .before .missized .ensures) ∙ c .before .before .before .before .if3 .left) in
+    let v = sym (c .before .before .validate .ensures) ∙ c .enum-told .given .1 in
+    let j = c .before .before .before .job-in .result in
+    rw (c .enum-told .given .1) (sym (read-passed (b8 .before .before .before .args .file .now) (b8 .before .if1 .left) t2 t3 j (c .before .before .before .job-in .ensures) v))
 
 pub read-spec : {M : Type 1} → statement M
 read-spec =
@@ -146,22 +93,7 @@ read-spec =
     missized-requires
     refused-requires-3
     returns-3
-    add-pools
-    add-stores
-    add-actions
-    sub-decode
-    part-decode-start
-    part-decode-end
-    sub-decode-2
-    part-decode-start-2
-    part-decode-end-2
-    sub-decode-3
-    part-decode-start-3
-    part-decode-end-3
-    sub-decode-4
-    part-decode-start-4
-    part-decode-end-4
-    decode-requires
+    job-in-requires
     validate-requires
     enum-known-verdict
     refused-requires-4
