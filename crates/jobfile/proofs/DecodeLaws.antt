@@ -1,16 +1,14 @@
--- The job that four bodies say: its value, and its shape.
+-- The shape of the job that four bodies say.
 -- Assumes nothing.
 use Prim.Native.Nat.{ℕ, _+_, _*_, _/_}
 use mathlib.Core.Path.{_≡_}
-use mathlib.Core.List.{List, map}
+use mathlib.Core.List.{List}
 use native.Mathlib.Omega.{arith}
 use lib.ListN.{length}
-use Rattle.lists.specs.Lists.{filled}
 use Rattle.lists.proofs.Tabulate.{length-tabulate, each-tabulate}
-use Rattle.encoding.specs.Bytes.{fromBytes, part, split}
+use Rattle.encoding.specs.Bytes.{part}
 use Rattle.encoding.proofs.Parts.{length-part}
 use Rattle.encoding.proofs.Pieces.{piece-within}
-use Rattle.job.specs.Job.{unusedAction, actionValue, jobValue}
 use Rattle.job.proofs.Values.{Shaped, Shape}
 use Rattle.jobfile.specs.File.{actionSize, actionOf, jobOf}
 
@@ -33,19 +31,3 @@ module _ (head pools stores actions : List ℕ) where
       (λ i h.
       action-of-shape p s (part actions (i * n) n)
       (length-part actions (i * n) n (piece-within (length actions) n i h))))
-
-  pub value-of-bodies : jobValue (jobOf head pools stores actions)
-      ≡ (let p = length pools / 4 in
-      let s = length stores / 4 in
-      record {
-        facts = fromBytes (part head 0 1);
-        deadline = fromBytes (part head 1 2);
-        start = fromBytes (part head 3 8);
-        goal = fromBytes (part head 11 8);
-        counts = record { pools = p; stores = s; actions = length actions / actionSize p s };
-        pools = filled 4 0 (split 4 fromBytes pools);
-        stores = filled 4 0 (split 4 fromBytes stores);
-        actions = filled 64 unusedAction (map actionValue (split (actionSize p s) (actionOf p s) actions));
-      })
-  unfolding jobOf
-  value-of-bodies = simp length-tabulate

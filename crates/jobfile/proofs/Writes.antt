@@ -9,8 +9,7 @@ use Rattle.encoding.specs.Bytes.{toBytes, joined, overwrite}
 use Rattle.encoding.proofs.Numbers.{length-bytes}
 use Rattle.encoding.proofs.Overwrite.{overwrite-overwrite}
 use Rattle.job.specs.Job.{Action, Job}
-use Rattle.jobfile.specs.File.{headBytes, amountBytes, actionBytes, bodies, fileOf}
-use Rattle.jobfile.proofs.Contents.{contentsOf, contents-of}
+use Rattle.jobfile.specs.File.{headBytes, amountBytes, actionBytes, bodies, contents, fileOf}
 use Rattle.jobfile.proofs.Lengths.{length-numbers, length-amounts, length-head}
 
 -- each list of bytes in turn written over o at its place
@@ -72,40 +71,36 @@ write-head o J l =
       overwrite-overwrite o 16 b3 (toBytes 8 (J .goal)) 27 (omega arith) l,
     )
 
--- with x, y and z bytes of pools, stores and actions
-module _ (J : Job) (x y z : ℕ) (ex : length (J .pools) * 4 ≡ x) (ey : length (J .stores) * 4 ≡ y)
-    (ez : length (joined actionBytes (J .actions)) ≡ z) where
-  pub write-file : (o : List ℕ) → 35 + x + y ≤ length o
-      → writes o (
-      (0, joined (toBytes 2) (contentsOf x y z))
-      ∷ (16, headBytes J)
-      ∷ (35, amountBytes (J .pools))
-      ∷ (35 + x, amountBytes (J .stores))
-      ∷ (35 + x + y, joined actionBytes (J .actions))
-      ∷ [])
-      ≡ overwrite o 0 (fileOf J)
-  unfolding fileOf
-  write-file o l =
-      let C = joined (toBytes 2) (contentsOf x y z) in
-      let H = headBytes J in
-      let P = amountBytes (J .pools) in
-      let S = amountBytes (J .stores) in
-      let A = joined actionBytes (J .actions) in
-      let lC : length C ≡ 16 = length-numbers 2 (contentsOf x y z) in
-      let lH = length-head J in
-      let lP = length-amounts (J .pools) in
-      let lS = length-amounts (J .stores) in
-      let l2 = length-append C H in
-      let l3 = length-append (C ++ H) P in
-      let l4 = length-append (C ++ H ++ P) S in
-      let all = joined (λ b. b) (bodies J) in
-      let grouped : C ++ H ++ P ++ S ++ A ≡ C ++ all = simp (append-assoc, append-nil) in
-      rw (
-        overwrite-overwrite o 0 C H 16 (omega arith) (omega arith),
-        overwrite-overwrite o 0 (C ++ H) P 35 (omega arith) (omega arith),
-        overwrite-overwrite o 0 (C ++ H ++ P) S (35 + x) (omega arith) (omega arith),
-        overwrite-overwrite o 0 (C ++ H ++ P ++ S) A (35 + x + y) (omega arith) l,
-        grouped,
-      )
-      (ap (λ (numbers : List ℕ). overwrite o 0 (joined (toBytes 2) numbers ++ all))
-      (sym (contents-of J x y z ex ey ez)))
+-- with x and y bytes of pools and stores
+pub write-file : (J : Job) (x y : ℕ) → length (J .pools) * 4 ≡ x → length (J .stores) * 4 ≡ y
+    → (o : List ℕ) → 35 + x + y ≤ length o
+    → writes o (
+    (0, joined (toBytes 2) (contents 16 (bodies J)))
+    ∷ (16, headBytes J)
+    ∷ (35, amountBytes (J .pools))
+    ∷ (35 + x, amountBytes (J .stores))
+    ∷ (35 + x + y, joined actionBytes (J .actions))
+    ∷ [])
+    ≡ overwrite o 0 (fileOf J)
+unfolding fileOf
+write-file J x y ex ey o l =
+    let C = joined (toBytes 2) (contents 16 (bodies J)) in
+    let H = headBytes J in
+    let P = amountBytes (J .pools) in
+    let S = amountBytes (J .stores) in
+    let A = joined actionBytes (J .actions) in
+    let lC : length C ≡ 16 = length-numbers 2 (contents 16 (bodies J)) in
+    let lH = length-head J in
+    let lP = length-amounts (J .pools) in
+    let lS = length-amounts (J .stores) in
+    let l2 = length-append C H in
+    let l3 = length-append (C ++ H) P in
+    let l4 = length-append (C ++ H ++ P) S in
+    let grouped : C ++ H ++ P ++ S ++ A ≡ C ++ joined (λ b. b) (bodies J) = simp (append-assoc, append-nil) in
+    rw (
+      overwrite-overwrite o 0 C H 16 (omega arith) (omega arith),
+      overwrite-overwrite o 0 (C ++ H) P 35 (omega arith) (omega arith),
+      overwrite-overwrite o 0 (C ++ H ++ P) S (35 + x) (omega arith) (omega arith),
+      overwrite-overwrite o 0 (C ++ H ++ P ++ S) A (35 + x + y) (omega arith) l,
+      grouped,
+    )

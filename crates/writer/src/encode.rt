@@ -5,8 +5,7 @@ ghost use lib.ListN.{length};
 ghost use Rattle.lists.specs.Lists.{firsts};
 ghost use Rattle.encoding.specs.Bytes.{toBytes, joined, overwrite};
 ghost use Rattle.job.specs.Job.{actionIn, jobIn, Fits};
-ghost use Rattle.jobfile.specs.File.{headBytes, amountBytes, actionBytes, actionSize, fileOf};
-ghost use Rattle.writer.specs.Contents.{contentNumbers, fileLength};
+ghost use Rattle.jobfile.specs.File.{headBytes, amountBytes, actionBytes, actionSize, bodies, contents, fileOf};
 use encoding::write_number;
 use job::Action;
 use job::Counts;
@@ -32,11 +31,15 @@ fn wide32(x: u32) -> u64
     x as u64
 }
 
-// The contents for bodies of 19, `pools`, `stores` and `actions` bytes.
-pub fn contents(out: &mut [u8], pools: usize, stores: usize, actions: usize)
-    requires { ⌜ (16 ≤ length (now out)) × (pools ≤ 16) × (stores ≤ 16) × (actions ≤ 4096) ⌝ }
-    ensures { λ r. ⌜ now (out .exit) ≡ overwrite (now (out .entry)) 0 (joined (toBytes 2) (contentNumbers pools stores actions)) ⌝ }
+// The contents of the job's file, whose actions take `size` bytes each.
+pub fn contents(out: &mut [u8], job: Job, size: usize)
+    requires { ⌜ Fits (job .counts) × (size ≡ actionSize (job .counts .pools) (job .counts .stores)) × (16 ≤ length (now out)) ⌝ }
+    ensures { λ r. ⌜ now (out .exit) ≡ overwrite (now (out .entry)) 0 (joined (toBytes 2) (contents 16 (bodies (jobIn job)))) ⌝ }
 {
+    let counts = job.counts;
+    let pools = Layout::AMOUNT * counts.pools;
+    let stores = Layout::AMOUNT * counts.stores;
+    let actions = counts.actions * size;
     let first = Layout::CONTENTS;
     let second = first + Layout::HEAD;
     let third = second + pools;
@@ -111,31 +114,30 @@ pub fn actions(out: &mut [u8], at: usize, size: usize, job: Job)
     }
 }
 
-// The length of the file of a job with these counts.
-pub fn file_length(counts: Counts) -> usize
-    requires { ⌜ Fits counts ⌝ }
-    ensures { λ r. ⌜ r ≡ fileLength counts ⌝ }
+// The length of the job's file.
+pub fn file_length(job: Job) -> usize
+    requires { ⌜ Fits (job .counts) ⌝ }
+    ensures { λ r. ⌜ r ≡ length (fileOf (jobIn job)) ⌝ }
 {
+    let counts = job.counts;
     let size = Layout::action_size(counts.pools, counts.stores);
     let amounts = Layout::AMOUNT * counts.pools + Layout::AMOUNT * counts.stores;
     Layout::CONTENTS + Layout::HEAD + amounts + counts.actions * size
 }
 
-// The whole file of a job, at the front of a slice that has room for it.
+// The whole file, at the front of a slice that has room for it.
 pub fn file(out: &mut [u8], job: Job)
-    requires { ⌜ Fits (job .counts) × (fileLength (job .counts) ≤ length (now out)) ⌝ }
+    requires { ⌜ Fits (job .counts) × (length (fileOf (jobIn job)) ≤ length (now out)) ⌝ }
     ensures { λ r. ⌜ now (out .exit) ≡ overwrite (now (out .entry)) 0 (fileOf (jobIn job)) ⌝ }
 {
     let counts = job.counts;
     let pools = job.pools;
     let stores = job.stores;
     let size = Layout::action_size(counts.pools, counts.stores);
-    let pool_bytes = Layout::AMOUNT * counts.pools;
-    let store_bytes = Layout::AMOUNT * counts.stores;
     let pools_at = Layout::CONTENTS + Layout::HEAD;
-    let stores_at = pools_at + pool_bytes;
-    let actions_at = stores_at + store_bytes;
-    contents(out, pool_bytes, store_bytes, counts.actions * size);
+    let stores_at = pools_at + Layout::AMOUNT * counts.pools;
+    let actions_at = stores_at + Layout::AMOUNT * counts.stores;
+    contents(out, job, size);
     head(out, job);
     amounts(out, pools_at, pools, counts.pools);
     amounts(out, stores_at, stores, counts.stores);

@@ -17,8 +17,7 @@ pub fn write(job: Job, out: &mut [u8]) -> Written
     if let Verdict::Refused(why) = verdict {
         return Written::Refused(why);
     }
-    let counts = job.counts;
-    let length = encode::file_length(counts);
+    let length = encode::file_length(job);
     if out.len() < length {
         return Written::Refused(Refusal::FileSlice);
     }

@@ -1,9 +1,8 @@
 -- `write` meets its contract: three ways out.
 -- Assumes nothing.
-use mathlib.Core.Path.{_≡_, sym, ap, _∙_}
+use mathlib.Core.Path.{_≡_, sym, _∙_}
 use Rattle.job.specs.Job.{jobIn}
 use Rattle.job.proofs.Rows.{fits-of-pass}
-use Rattle.jobfile.proofs.Lengths.{length-file-in}
 use Rattle.writer.proofs.AnswerLaws.{wrote-refused, wrote-short, wrote-file}
 use native.Mathlib.Omega.{arith}
 use borrow.Author.Needs.{needs}
@@ -26,18 +25,18 @@ enum-told c = search needs
 
 file-length-requires : tie.Need-file-length-requires
 file-length-requires c κs =
-    fits-of-pass (c .before .before .before .before .before .args .job) (sym (c .before .before .before .validate .ensures) ∙ c .before .enum-told .given .1)
+    fits-of-pass (c .before .before .before .before .args .job) (sym (c .before .before .validate .ensures) ∙ c .enum-told .given .1)
 
 returns-2 : tie.Need-returns-2
 returns-2 c =
-    let l = length-file-in (c .before .before .before .before .before .before .before .args .job) in
     let e = c .before .file-length .ensures in
-    wrote-short (jobIn (c .before .before .before .before .before .before .before .args .job)) (c .before .before .before .before .before .before .before .args .out .now) (sym (c .before .before .before .before .before .validate .ensures) ∙ c .before .before .before .enum-told .given .1) (omega arith)
+    let p = sym (c .before .before .before .before .validate .ensures) ∙ c .before .before .enum-told .given .1 in
+    wrote-short (jobIn (c .before .before .before .before .before .before .args .job)) (c .before .before .before .before .before .before .args .out .now) p (omega arith)
 
 file-requires : tie.Need-file-requires
 file-requires c κs =
     let e = c .before .before .file-length .ensures in
-    (fits-of-pass (c .before .before .before .before .before .before .before .before .args .job) (sym (c .before .before .before .before .before .before .validate .ensures) ∙ c .before .before .before .before .enum-told .given .1), omega arith)
+    (fits-of-pass (c .before .before .before .before .before .before .before .args .job) (sym (c .before .before .before .before .before .validate .ensures) ∙ c .before .before .before .enum-told .given .1), omega arith)
 
 same-length : tie.Need-same-length
 same-length c = search needs
@@ -45,11 +44,10 @@ same-length c = search needs
 returns-3 : tie.Need-returns-3
 returns-3 c =
     let b8 = c .before .before .before .before .before .before .before .before in
-    let l = length-file-in (b8 .before .before .before .args .job) in
     let e = c .before .before .before .before .before .file-length .ensures in
     let h = c .before .before .before .before .if1 .left in
-    let p = sym (b8 .before .validate .ensures) ∙ c .before .before .before .before .before .before .before .enum-told .given .1 in
-    rw (c .before .before .file .ensures, e ∙ sym l) (wrote-file (jobIn (b8 .before .before .before .args .job)) (b8 .before .before .before .args .out .now) p (omega arith))
+    let p = sym (c .before .before .before .before .before .before .before .before .validate .ensures) ∙ c .before .before .before .before .before .before .enum-told .given .1 in
+    rw (c .before .before .file .ensures, e) (wrote-file (jobIn (b8 .before .before .args .job)) (b8 .before .before .args .out .now) p (omega arith))
 
 pub write-spec : {M : Type 1} → statement M
 write-spec =

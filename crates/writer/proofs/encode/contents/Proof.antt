@@ -1,23 +1,40 @@
 -- `contents` meets its contract: the first k numbers are written.
 -- Assumes nothing.
 use Prim.Native.Nat.{ℕ, _+_, _-_, _*_, _≤_}
-use mathlib.Core.Path.{_≡_, refl}
+use mathlib.Core.Path.{_≡_, refl, ap, sym, _∙_}
+use mathlib.Core.List.{List}
 use lib.ListN.{length, getD}
 use Rattle.lists.specs.Lists.{tabulate, firsts}
+use Rattle.lists.proofs.Tabulate.{length-tabulate}
 use Rattle.encoding.specs.Bytes.{toBytes, joined, overwrite}
 use Rattle.encoding.proofs.Numbers.{length-bytes}
-use Rattle.encoding.proofs.Overwrite.{pieces-none, pieces-more}
-use Rattle.writer.specs.Contents.{contentNumbers}
+use Rattle.encoding.proofs.Overwrite.{length-pieces, pieces-none, pieces-more}
+use Rattle.job.specs.Job.{jobIn, actionAt}
+use Rattle.jobfile.specs.File.{actionBytes}
+use Rattle.jobfile.proofs.Contents.{contentsOf, contents-of}
+use Rattle.writer.proofs.ActionLaws.{length-action-at, few-action-bytes}
 use native.Mathlib.Omega.{arith}
 use Rattle.writer.proofs.encode.contents.Statement.{statement}
 use Rattle.writer.proofs.encode.contents.Tie as tie
 
 abbrev Inv-loop : tie.InvT-loop
-Inv-loop out₀ pools stores actions first second third numbers k₀ out k =
+Inv-loop out₀ size pools stores actions first second third numbers k₀ out k =
     (k ≤ 8) × (out ≡ overwrite out₀ 0 (joined (toBytes 2) (firsts k 0 numbers))) × (length out ≡ length out₀)
 
 abbrev μ-loop : tie.MeasureT-loop
-μ-loop out₀ pools stores actions first second third numbers k₀ out k = 8 - k
+μ-loop out₀ size pools stores actions first second third numbers k₀ out k = 8 - k
+
+mul-pools : tie.Need-mul-pools Inv-loop μ-loop
+mul-pools c = omega arith
+
+mul-stores : tie.Need-mul-stores Inv-loop μ-loop
+mul-stores c = omega arith
+
+mul-actions : tie.Need-mul-actions Inv-loop μ-loop
+mul-actions c =
+    let h = c .before .before .before .before .before .pre in
+    let w = few-action-bytes (c .before .before .before .before .before .args .job .counts) (h .0) in
+    rw (h .1) (omega arith)
 
 add-second : tie.Need-add-second Inv-loop μ-loop
 add-second c = omega arith
@@ -25,14 +42,14 @@ add-second c = omega arith
 add-third : tie.Need-add-third Inv-loop μ-loop
 add-third c = omega arith
 
-add-t10 : tie.Need-add-t10 Inv-loop μ-loop
-add-t10 c = omega arith
+add-t13 : tie.Need-add-t13 Inv-loop μ-loop
+add-t13 c = omega arith
 
 loop-holds : tie.Need-loop-holds Inv-loop μ-loop
 loop-holds c =
-    let a = c .before .args in
-    let f : ℕ → ℕ = λ k. getD (contentNumbers (a .pools) (a .stores) (a .actions)) k 0 in
-    (omega arith, pieces-none (toBytes 2) f 2 (λ k. length-bytes 2 (f k)) (a .out .now) 0, refl)
+    let n = c .before .before .before .before .before .args .job .counts in
+    let f : ℕ → ℕ = λ k. getD (contentsOf (4 * n .pools) (4 * n .stores) (n .actions * c .before .before .before .before .before .args .size)) k 0 in
+    (omega arith, pieces-none (toBytes 2) f 2 (λ k. length-bytes 2 (f k)) (c .before .before .before .before .before .args .out .now) 0, refl)
 
 mul-write-number : tie.Need-mul-write-number Inv-loop μ-loop
 mul-write-number c = omega arith
@@ -54,13 +71,15 @@ loop-less c = omega arith
 
 loop-again : tie.Need-loop-again Inv-loop μ-loop
 loop-again c =
+    let b8 = c .before .before .before .before .before .before .before .before in
     let l = c .before .before .before .before .before .loop in
-    let a = c .before .before .before .before .before .before .before .args in
-    let f : ℕ → ℕ = λ k. getD (contentNumbers (a .pools) (a .stores) (a .actions)) k 0 in
+    let n = b8 .before .before .before .args .job .counts in
+    let f : ℕ → ℕ = λ k. getD (contentsOf (4 * n .pools) (4 * n .stores) (n .actions * b8 .before .before .before .args .size)) k 0 in
     let k = c .before .before .write-number .kept .0 in (
       omega arith,
       rw (c .before .before .write-number .ensures, l .inv .1)
-          (pieces-more (toBytes 2) f 2 (λ k. length-bytes 2 (f k)) (a .out .now) 0 (l .k) (l .k * 2) (omega arith) (omega arith)),
+          (pieces-more (toBytes 2) f 2 (λ k. length-bytes 2 (f k)) (b8 .before .before .before .args .out .now) 0 (l .k) (l .k * 2) (omega arith)
+          (omega arith)),
       omega arith,
     )
 
@@ -70,8 +89,16 @@ same-length c = c .before .loop .inv .2
 returns : tie.Need-returns Inv-loop μ-loop
 unfolding tabulate
 returns c =
+    let j = c .before .before .before .before .before .before .before .args .job in
+    let s = c .before .before .before .before .before .before .before .args .size in
     let e : c .before .loop .k ≡ 8 = omega arith in
-    rw e at (c .before .loop .inv .1)
+    let lp = length-tabulate (j .counts .pools) (λ k. getD (j .pools) k 0) in
+    let ls = length-tabulate (j .counts .stores) (λ k. getD (j .stores) k 0) in
+    let la = length-pieces actionBytes (actionAt j) s (rw (c .before .before .before .before .before .before .before .pre .1) (length-action-at j)) (j .counts .actions) in
+    let numbers =
+    contents-of (jobIn j) (4 * j .counts .pools) (4 * j .counts .stores) (j .counts .actions * s) (omega arith)
+    (omega arith) la in
+    (rw e at (c .before .loop .inv .1)) ∙ ap (λ (ns : List ℕ). overwrite (c .before .before .before .before .before .before .before .args .out .now) 0 (joined (toBytes 2) ns)) (sym numbers)
 
 pub contents-spec : {M : Type 1} → statement M
 contents-spec =
@@ -79,9 +106,12 @@ contents-spec =
     (tie.spec
     Inv-loop
     μ-loop
+    mul-pools
+    mul-stores
+    mul-actions
     add-second
     add-third
-    add-t10
+    add-t13
     loop-holds
     mul-write-number
     mul-write-number-2

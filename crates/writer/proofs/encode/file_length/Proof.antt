@@ -1,5 +1,6 @@
 -- `file_length` meets its contract.
 -- Assumes nothing.
+use Rattle.jobfile.proofs.Lengths.{length-file-in}
 use Rattle.writer.proofs.ActionLaws.{few-action-bytes}
 use native.Mathlib.Omega.{arith}
 use borrow.Author.Needs.{needs}
@@ -26,17 +27,17 @@ add-result-2 c = search needs
 
 mul-result : tie.Need-mul-result
 mul-result c =
-    let w = few-action-bytes (c .before .before .before .before .args .counts) (c .before .before .before .before .pre) in
+    let w = few-action-bytes (c .before .before .before .before .before .args .job .counts) (c .before .before .before .before .before .pre) in
     rw (c .before .before .before .action-size .ensures) (omega arith)
 
 add-result-3 : tie.Need-add-result-3
 add-result-3 c =
-    let w = few-action-bytes (c .before .before .before .before .args .counts) (c .before .before .before .before .pre) in
-    let h = c .before .before .before .before .pre in
+    let w = few-action-bytes (c .before .before .before .before .before .args .job .counts) (c .before .before .before .before .before .pre) in
+    let h = c .before .before .before .before .before .pre in
     rw (c .before .before .before .action-size .ensures) (omega arith)
 
 returns : tie.Need-returns
-returns c = rw (c .before .before .before .action-size .ensures) (omega arith)
+returns c = rw (c .before .before .before .action-size .ensures, length-file-in) (omega arith)
 
 pub file-length-spec : {M : Type 1} → statement M
 file-length-spec =
