@@ -1,0 +1,70 @@
+-- When a plan is accepted: tests 12 to 20, in the order of the table.
+-- Assumes nothing.
+use Prim.Native.Nat.{ℕ, zero, suc, _%_}
+use mathlib.Core.Path.{_≡_}
+use mathlib.Core.Bool.{Bool, false, not, _&&_, _||_}
+use mathlib.Core.List.{List, [], _∷_}
+use lib.Dec.{eqb, leb}
+use lib.ListN.{length, getD}
+use Rattle.lists.specs.Lists.{any}
+use Rattle.facts.specs.FactSet.{subset}
+use Rattle.job.specs.Job.{Job}
+use Rattle.job.specs.Refusal.{Row, _when_, first}
+use Rattle.job.specs.Valid.{over}
+use Rattle.job.specs.declared.refusal.Refusal.the-variants.{PlanSize, UnknownAction, StepOrder, AfterDeadline, Clash}
+use Rattle.job.specs.declared.refusal.Refusal.the-variants.{PoolExceeded, StoreExceeded, NeedMissing, GoalMissing}
+use Rattle.job.specs.declared.refusal.Verdict.the-variants.{Pass}
+use Rattle.timeline.specs.Step.{Step, stepsIn, strictlyRising, anyPair, largest}
+use Rattle.timeline.specs.Timeline.{end, clash, overlap, held, free, inUse, storeCap, usedUp}
+
+-- the test passes at some number below n
+abbrev pub anyBelow : ℕ → (ℕ → Bool) → Bool
+anyBelow zero test = false
+anyBelow (suc n) test = test n || anyBelow n test
+
+-- "action number not in the job"
+abbrev pub unknown : Job → Step → Bool
+unknown J x = leb (length (J .actions)) (x .number)
+
+-- "Steps that share a minute mustn't clash."
+abbrev pub clashing : Step → Step → Bool
+clashing x y = overlap x y && clash x y
+
+-- "In each minute the uses of the running steps add up to no more than each pool has."
+abbrev pub exceedsPool : Job → List Step → ℕ → Bool
+exceedsPool J P pool = anyBelow (largest (free J pool) P) (λ t. over (getD (J .pools) pool 0) (inUse J pool t P))
+
+-- "Over the plan the uses add up to no more than each store has."
+abbrev pub exceedsStore : Job → List Step → ℕ → Bool
+exceedsStore J P store = over (storeCap J store) (usedUp J store P)
+
+-- "A step's needed facts hold at its start."
+abbrev pub lacksNeed : Job → List Step → Step → Bool
+lacksNeed J P x = not (subset (x .action .needs) (held (J .start) P (x .start)))
+
+-- "the goal holds at the plan's end"
+abbrev pub lacksGoal : Job → ℕ → List Step → Bool
+lacksGoal J goal P = not (subset goal (held (J .start) P (end P)))
+
+-- tests 13 to 20 of the steps
+unfoldable pub stepRows : Job → ℕ → List Step → List Row
+stepRows J goal P =
+    UnknownAction when any (unknown J) P
+    ∷ StepOrder when not (strictlyRising P)
+    ∷ AfterDeadline when any (λ x. over (J .deadline) (x .stop)) P
+    ∷ Clash when anyPair clashing P
+    ∷ PoolExceeded when anyBelow (length (J .pools)) (exceedsPool J P)
+    ∷ StoreExceeded when anyBelow (length (J .stores)) (exceedsStore J P)
+    ∷ NeedMissing when any (lacksNeed J P) P
+    ∷ GoalMissing when lacksGoal J goal P
+    ∷ []
+
+-- "bytes not a multiple of 3 or over 96", then the steps
+unfoldable pub planRows : Job → ℕ → List ℕ → List Row
+planRows J goal bytes =
+    PlanSize when (not (eqb (length bytes % 3) 0) || over 96 (length bytes)) ∷ stepRows J goal (stepsIn J bytes)
+
+-- "A plan is accepted for a goal set exactly if, by these rules and with that set as the goal, none of 12 to 20 is
+-- true of it."
+abbrev pub Accepted : Job → ℕ → List ℕ → Type 0
+Accepted J goal bytes = first (planRows J goal bytes) ≡ Pass

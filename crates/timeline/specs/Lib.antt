@@ -1,0 +1,4 @@
+pub mod Step
+pub mod Timeline
+pub mod Accepted
+pub mod Value
