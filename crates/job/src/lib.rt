@@ -1,6 +1,7 @@
 // The job of a day by value: its actions, its resources and its sets of facts, with every limit once.
 pub mod refusal; // the table of refusals
 pub mod validate; // tests 3 to 11 of a job value
+pub mod same; // whether two values hold the same job
 
 ghost use mathlib.Core.Path.{_≡_};
 ghost use Rattle.job.specs.Job.{unusedAction, zeroValue};

@@ -22,6 +22,10 @@ abbrev pub anyBelow : ℕ → (ℕ → Bool) → Bool
 anyBelow zero test = false
 anyBelow (suc n) test = test n || anyBelow n test
 
+-- "bytes not a multiple of 3 or over 96"
+abbrev pub wrongSize : List ℕ → Bool
+wrongSize bytes = not (eqb (length bytes % 3) 0) || over 96 (length bytes)
+
 -- "action number not in the job"
 abbrev pub unknown : Job → Step → Bool
 unknown J x = leb (length (J .actions)) (x .number)
@@ -59,10 +63,9 @@ stepRows J goal P =
     ∷ GoalMissing when lacksGoal J goal P
     ∷ []
 
--- "bytes not a multiple of 3 or over 96", then the steps
+-- test 12 of the bytes, then those of the steps
 unfoldable pub planRows : Job → ℕ → List ℕ → List Row
-planRows J goal bytes =
-    PlanSize when (not (eqb (length bytes % 3) 0) || over 96 (length bytes)) ∷ stepRows J goal (stepsIn J bytes)
+planRows J goal bytes = PlanSize when wrongSize bytes ∷ stepRows J goal (stepsIn J bytes)
 
 -- "A plan is accepted for a goal set exactly if, by these rules and with that set as the goal, none of 12 to 20 is
 -- true of it."

@@ -1,4 +1,4 @@
--- The steps that a plan by value holds, for a job with these counts.
+-- The steps that a plan by value holds.
 -- Assumes nothing.
 use Prim.Native.Nat.{ℕ}
 use mathlib.Core.List.{List}
@@ -18,5 +18,8 @@ abbrev pub stepOfValue : Counts → value.Step → Step
 stepOfValue counts x =
     record { number = x .number; action = actionIn counts (x .action); start = x .start; stop = x .stop }
 
-abbrev pub stepsOf : Counts → Plan → List Step
-stepsOf counts plan = tabulate (plan .count) (λ i. stepOfValue counts (getD (plan .steps) i beyondStep))
+abbrev pub stepAt : Plan → ℕ → Step
+stepAt plan i = stepOfValue (plan .counts) (getD (plan .steps) i beyondStep)
+
+abbrev pub stepsOf : Plan → List Step
+stepsOf plan = tabulate (plan .length) (stepAt plan)

@@ -1,5 +1,6 @@
 // The timeline of a plan: definitions in specs/, their laws in proofs/, and a plan by value.
 use job::Action;
+use job::Counts;
 
 // A step of a plan, with its action: it runs from `start` up to, and without, `stop`.
 pub struct Step {
@@ -9,9 +10,10 @@ pub struct Step {
     pub stop: u32,
 }
 
-// A plan: its first `count` steps.
+// A plan of a job with these counts: its first `length` steps.
 pub struct Plan {
-    pub count: usize,
+    pub counts: Counts,
+    pub length: usize,
     pub steps: [Step; Plan::STEPS],
 }
 

@@ -1,0 +1,6 @@
+mod Loops
+mod PlanBytes
+mod ShareLaws
+mod WatchLaws
+mod ChainLaws
+mod StepLaws

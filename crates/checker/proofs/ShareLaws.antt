@@ -1,0 +1,26 @@
+-- A step's share of a pool before it starts, while it runs, and after it stops.
+-- Assumes nothing.
+use Prim.Native.Nat.{ℕ, _<_, _≤_}
+use mathlib.Core.Path.{_≡_, refl, ap, sym, _∙_}
+use mathlib.Core.Bool.{Bool, true, false, cond, _&&_}
+use lib.Dec.{leb, ltb}
+use borrow.Author.Tests.{le-leb, lt-leb, lt-ltb, le-ltb}
+use Rattle.job.specs.Job.{Job}
+use Rattle.timeline.specs.Step.{Step}
+use Rattle.timeline.specs.Timeline.{free, hasShare}
+
+module _ (J : Job) (pool t amount : ℕ) (x : Step) where
+  pub no-share-before : t < x .start → cond (hasShare J pool t x) amount 0 ≡ 0
+  no-share-before h = rw (lt-leb (x .start) t h)
+
+  pub no-share-after : x .stop ≤ t → cond (hasShare J pool t x) amount 0 ≡ 0
+  unfolding free
+  no-share-after h = rw (le-ltb t (x .stop) h) (nothing (leb (x .start) t))
+    where
+      nothing : (b : Bool) → cond (b && false) amount 0 ≡ 0
+      nothing true = refl
+      nothing false = refl
+
+  pub share-while-running : x .start ≤ t → t < x .stop → cond (hasShare J pool t x) amount 0 ≡ amount
+  unfolding free
+  share-while-running a b = rw (le-leb (x .start) t a, lt-ltb t (x .stop) b)

@@ -1,0 +1,93 @@
+-- `check_bytes` meets its contract: the size, the actions, then the steps.
+-- Assumes nothing.
+use mathlib.Core.Path.{_≡_, sym, ap, _∙_}
+use mathlib.Core.Bool.{false}
+use mathlib.Core.List.{List}
+use Rattle.lists.specs.Lists.{any, Each}
+use Rattle.job.specs.declared.refusal.Refusal.the-variants.{PlanSize, UnknownAction}
+use Rattle.job.specs.declared.refusal.Verdict.{Verdict}
+use Rattle.job.specs.Job.{jobIn}
+use Rattle.job.specs.Refusal.{first}
+use Rattle.job.proofs.Passed.{passed}
+use Rattle.job.proofs.Rows.{fits-of-pass}
+use Rattle.timeline.specs.Step.{Step, stepsIn}
+use Rattle.timeline.specs.Accepted.{unknown, stepRows, planRows}
+use Rattle.checker.specs.declared.Checked.{Checked}
+use Rattle.checker.specs.Check.{checkedOf}
+use Rattle.checker.proofs.ChainLaws.{check-passes, check-fails, passed-test}
+use Rattle.checker.proofs.StepLaws.{known-steps-last}
+use borrow.Author.Needs.{needs}
+use Rattle.checker.proofs.check_bytes.Statement.{statement}
+use Rattle.checker.proofs.check_bytes.Tie as tie
+
+size-requires : tie.Need-size-requires
+size-requires c κs = search needs
+
+enum-told : tie.Need-enum-told
+enum-told c = search needs
+
+enum-told-2 : tie.Need-enum-told-2
+enum-told-2 c = search needs
+
+returns : tie.Need-returns
+unfolding planRows
+returns c =
+    sym (ap (λ (v : Verdict). checkedOf v (stepsIn (jobIn (c .before .before .before .before .args .job)) (c .before .before .before .before .args .bytes .now)))
+    (check-fails PlanSize _ _ _ (sym (c .before .before .size .ensures) ∙ c .enum-told2 .given .1)))
+
+known-actions-requires : tie.Need-known-actions-requires
+known-actions-requires c κs = search needs
+
+enum-told-3 : tie.Need-enum-told-3
+enum-told-3 c = search needs
+
+enum-told-4 : tie.Need-enum-told-4
+enum-told-4 c = search needs
+
+returns-2 : tie.Need-returns-2
+unfolding planRows stepRows
+returns-2 c =
+    sym (ap (λ (v : Verdict). checkedOf v (stepsIn (jobIn (c .before .before .before .before .before .before .before .args .job)) (c .before .before .before .before .before .before .before .args .bytes .now)))
+    (check-passes PlanSize _ _ (sym (c .before .before .before .before .before .size .ensures) ∙ c .before .before .before .enum-told .given .1)
+    ∙ check-fails UnknownAction _ _ _ (sym (c .before .before .known-actions .ensures) ∙ c .enum-told4 .given .1)))
+
+plan-requires : tie.Need-plan-requires
+plan-requires c κs = (
+  (fits-of-pass (c .before .before .before .before .before .before .before .args .job) (c .before .before .before .before .before .before .before .pre), passed-test PlanSize _ (sym (c .before .before .before .before .before .size .ensures) ∙ c .before .before .before .enum-told .given .1)),
+  passed-test UnknownAction _ (sym (c .before .before .known-actions .ensures) ∙ c .enum-told3 .given .1),
+)
+
+check-steps-requires : tie.Need-check-steps-requires
+check-steps-requires c κs =
+    let j = c .before .before .before .before .before .before .before .before .args .job in
+    let e = c .plan .ensures in
+    let known = passed-test UnknownAction _ (sym (c .before .before .before .known-actions .ensures) ∙ c .before .enum-told3 .given .1) in
+    let lasting = known-steps-last (jobIn j) (c .before .before .before .before .before .before .before .before .args .bytes .now) (passed (jobIn j) (c .before .before .before .before .before .before .before .before .pre)) known in
+    ((e .0, e .1, fits-of-pass j (c .before .before .before .before .before .before .before .before .pre)), (rw (e .2) known, rw (e .2) lasting))
+
+returns-3 : tie.Need-returns-3
+unfolding planRows
+returns-3 c =
+    let b8 = c .before .before .before .before .before .before .before .before in
+    let j = b8 .before .args .job in
+    let same = c .before .plan .ensures .2 in
+    c .check-steps .ensures
+    ∙ ap (λ (P : List Step). checkedOf (first (stepRows (jobIn j) (b8 .before .args .goal) P)) P) same
+    ∙ sym (ap (λ (v : Verdict). checkedOf v (stepsIn (jobIn j) (b8 .before .args .bytes .now)))
+    (check-passes PlanSize _ _ (sym (c .before .before .before .before .before .before .before .size .ensures) ∙ c .before .before .before .before .before .enum-told .given .1)))
+
+pub check-bytes-spec : {M : Type 1} → statement M
+check-bytes-spec =
+    tie.close
+    (tie.spec
+    size-requires
+    enum-told
+    enum-told-2
+    returns
+    known-actions-requires
+    enum-told-3
+    enum-told-4
+    returns-2
+    plan-requires
+    check-steps-requires
+    returns-3)

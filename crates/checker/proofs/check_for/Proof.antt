@@ -1,0 +1,66 @@
+-- `check_for` meets its contract: the tests of the job, of the goal, then of the plan.
+-- Assumes nothing.
+use mathlib.Core.Path.{_≡_, sym, ap, _∙_}
+use Rattle.job.specs.declared.refusal.Refusal.the-variants.{ForeignAskedFact}
+use Rattle.job.specs.declared.refusal.Verdict.{Verdict}
+use Rattle.job.specs.Job.{jobIn}
+use Rattle.job.specs.Valid.{jobRows}
+use Rattle.job.proofs.Table.{first-here, first-next, first-append-pass, first-append-refused}
+use Rattle.timeline.specs.Step.{stepsIn}
+use Rattle.checker.specs.Check.{checkedOf, checkFor}
+use borrow.Author.Needs.{needs}
+use Rattle.checker.proofs.check_for.Statement.{statement}
+use Rattle.checker.proofs.check_for.Tie as tie
+
+validate-requires : tie.Need-validate-requires
+validate-requires c κs = search needs
+
+enum-known-verdict : tie.Need-enum-known-verdict
+enum-known-verdict c = search needs
+
+returns : tie.Need-returns
+unfolding checkFor
+returns c =
+    let J = jobIn (c .before .before .before .before .before .args .job) in
+    sym (ap (λ (v : Verdict). checkedOf v (stepsIn J (c .before .before .before .before .before .args .plan .now)))
+    (first-append-refused (jobRows J) _ _ (sym (c .before .before .before .validate .ensures) ∙ c .before .verdict .given .1)))
+
+enum-told : tie.Need-enum-told
+enum-told c = search needs
+
+foreign-requires : tie.Need-foreign-requires
+foreign-requires c κs = search needs
+
+returns-2 : tie.Need-returns-2
+unfolding checkFor
+returns-2 c =
+    let J = jobIn (c .before .before .before .before .before .before .args .job) in
+    sym (ap (λ (v : Verdict). checkedOf v (stepsIn J (c .before .before .before .before .before .before .args .plan .now)))
+    (first-append-pass (jobRows J) _ (sym (c .before .before .before .before .validate .ensures) ∙ c .before .before .enum-told .given .1)
+    ∙ first-here ForeignAskedFact _ _ (sym (c .before .foreign .ensures .0) ∙ c .if1 .taken)))
+
+check-bytes-requires : tie.Need-check-bytes-requires
+check-bytes-requires c κs =
+    sym (c .before .before .before .before .validate .ensures) ∙ c .before .before .enum-told .given .1
+
+returns-3 : tie.Need-returns-3
+unfolding checkFor
+returns-3 c =
+    let J = jobIn (c .before .before .before .before .before .before .before .args .job) in
+    c .check-bytes .ensures
+    ∙ sym (ap (λ (v : Verdict). checkedOf v (stepsIn J (c .before .before .before .before .before .before .before .args .plan .now)))
+    (first-append-pass (jobRows J) _ (sym (c .before .before .before .before .before .validate .ensures) ∙ c .before .before .before .enum-told .given .1)
+    ∙ first-next ForeignAskedFact _ _ (sym (c .before .before .foreign .ensures .0) ∙ c .before .if1 .left)))
+
+pub check-for-spec : {M : Type 1} → statement M
+check-for-spec =
+    tie.close
+    (tie.spec
+    validate-requires
+    enum-known-verdict
+    returns
+    enum-told
+    foreign-requires
+    returns-2
+    check-bytes-requires
+    returns-3)

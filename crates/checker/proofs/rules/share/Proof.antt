@@ -1,0 +1,51 @@
+-- `share` meets its contract: before the step starts, after it stops, and while it runs.
+-- Assumes nothing.
+use mathlib.Core.Path.{_≡_, sym, _∙_}
+use lib.ListN.{getD}
+use Rattle.lists.proofs.Tabulate.{getD-tabulate}
+use Rattle.timeline.specs.Value.{stepOfValue}
+use Rattle.checker.proofs.ShareLaws.{no-share-before, no-share-after, share-while-running}
+use native.Mathlib.Omega.{arith}
+use borrow.Author.Needs.{needs}
+use Rattle.checker.proofs.rules.share.Statement.{statement}
+use Rattle.checker.proofs.rules.share.Tie as tie
+
+returns : tie.Need-returns
+returns c =
+    let a = c .before .before .before .args in
+    record {
+      counts = λ J n h. sym (no-share-before J (a .pool) (a .minute) _ (stepOfValue n (a .step)) (c .if1 .taken));
+      small = omega arith;
+    }
+
+returns-2 : tie.Need-returns-2
+returns-2 c =
+    let a = c .before .before .before .before .before .args in
+    record {
+      counts = λ J n h. sym (no-share-after J (a .pool) (a .minute) _ (stepOfValue n (a .step)) (c .if2 .taken));
+      small = omega arith;
+    }
+
+mul-wide : tie.Need-mul-wide
+mul-wide c = search needs
+
+element-copy-out-wide : tie.Need-element-copy-out-wide
+element-copy-out-wide c = search needs
+
+wide-requires : tie.Need-wide-requires
+wide-requires c κs = search needs
+
+returns-3 : tie.Need-returns-3
+returns-3 c =
+    let a = c .before .before .before .before .before .before .before .args in
+    record {
+      counts = λ J n h.
+          c .wide .ensures .0
+          ∙ sym (share-while-running J (a .pool) (a .minute) _ (stepOfValue n (a .step)) (c .before .before .before .before .if1 .left) (c .before .before .if2 .left)
+          ∙ getD-tabulate (n .pools) (λ k. getD (a .step .action .pools) k 0) (a .pool) 0 h);
+      small = c .wide .ensures .1;
+    }
+
+pub share-spec : {M : Type 1} → statement M
+share-spec =
+    tie.close (tie.spec returns returns-2 mul-wide element-copy-out-wide wide-requires returns-3)

@@ -1,0 +1,101 @@
+-- `stores` meets its contract: none of the first k stores is exceeded.
+-- Assumes nothing.
+use Prim.Native.Nat.{ℕ, _+_, _-_, _≤_}
+use mathlib.Core.Path.{_≡_, refl, sym, ap, _∙_}
+use mathlib.Core.Bool.{Bool, true, false}
+use mathlib.Core.List.{[]}
+use lib.ListN.{length, getD}
+use borrow.Author.Tests.{lt-ltb, le-ltb}
+use Rattle.lists.proofs.Tabulate.{getD-tabulate, length-tabulate}
+use Rattle.job.specs.declared.Counts.{Counts}
+use Rattle.job.specs.declared.refusal.Refusal.the-variants.{StoreExceeded}
+use Rattle.job.specs.Job.{jobIn}
+use Rattle.job.specs.Refusal.{first}
+use Rattle.job.proofs.Table.{first-here, first-next}
+use Rattle.timeline.specs.Timeline.{storeCap}
+use Rattle.timeline.specs.Accepted.{anyBelow, exceedsStore}
+use Rattle.timeline.specs.Value.{stepsOf}
+use Rattle.timeline.proofs.Below.{below-more, below-found}
+use native.Mathlib.Omega.{arith}
+use borrow.Author.Needs.{needs}
+use Rattle.checker.proofs.rules.stores.Statement.{statement}
+use Rattle.checker.proofs.rules.stores.Tie as tie
+
+abbrev Inv-loop : tie.InvT-loop
+Inv-loop plan job counts k₀ k = (k ≤ counts .stores) × (anyBelow k (exceedsStore (jobIn job) (stepsOf plan)) ≡ false)
+
+abbrev μ-loop : tie.MeasureT-loop
+μ-loop plan job counts k₀ k = counts .stores - k
+
+loop-holds : tie.Need-loop-holds Inv-loop μ-loop
+loop-holds c = (omega arith, refl)
+
+mul-wide : tie.Need-mul-wide Inv-loop μ-loop
+mul-wide c = omega arith
+
+element-copy-out-wide : tie.Need-element-copy-out-wide Inv-loop μ-loop
+element-copy-out-wide c = omega arith
+
+wide-requires : tie.Need-wide-requires Inv-loop μ-loop
+wide-requires c κs = search needs
+
+used-up-requires : tie.Need-used-up-requires Inv-loop μ-loop
+used-up-requires c κs =
+    let h = c .before .before .before .before .before .before .pre in
+    let e = ap (λ (n : Counts). n .stores) (h .1) in
+    (h .0, omega arith, omega arith)
+
+returns : tie.Need-returns Inv-loop μ-loop
+unfolding storeCap
+returns c =
+    let j = c .before .before .before .before .before .before .before .before .args .t2 in
+    let test = exceedsStore (jobIn j) (stepsOf (c .before .before .before .before .before .before .before .before .args .plan)) in
+    let k = c .before .before .before .before .before .before .loop .k in
+    let cap = getD-tabulate (j .counts .stores) (λ i. getD (j .stores) i 0) k 0 (c .before .before .before .before .if1 .taken) in
+    let e : test k ≡ true =
+    lt-ltb _ _ (rw (c .before .used-up .ensures (jobIn j), c .before .before .wide .ensures .0 ∙ sym cap) at (c .if2 .taken)) in
+    sym (first-here StoreExceeded _ []
+    (rw length-tabulate (below-found (j .counts .stores) test k (c .before .before .before .before .if1 .taken) e)))
+
+add-k : tie.Need-add-k Inv-loop μ-loop
+add-k c = omega arith
+
+loop-less : tie.Need-loop-less Inv-loop μ-loop
+loop-less c = omega arith
+
+loop-again : tie.Need-loop-again Inv-loop μ-loop
+unfolding storeCap
+loop-again c =
+    let j = c .before .before .before .before .before .before .before .before .args .t2 in
+    let test = exceedsStore (jobIn j) (stepsOf (c .before .before .before .before .before .before .before .before .args .plan)) in
+    let k = c .before .before .before .before .before .before .loop .k in
+    let cap = getD-tabulate (j .counts .stores) (λ i. getD (j .stores) i 0) k 0 (c .before .before .before .before .if1 .taken) in
+    let e : test k ≡ false =
+    le-ltb _ _ (rw (c .before .used-up .ensures (jobIn j), c .before .before .wide .ensures .0 ∙ sym cap) at (c .if2 .left)) in
+    (omega arith, below-more k test ∙ rw (e, c .before .before .before .before .before .before .loop .inv .1))
+
+returns-2 : tie.Need-returns-2 Inv-loop μ-loop
+unfolding first
+returns-2 c =
+    let j = c .before .before .before .before .args .t2 in
+    let q : c .before .before .loop .k ≡ j .counts .stores = omega arith in
+    let none : anyBelow (length (jobIn j .stores)) (exceedsStore (jobIn j) (stepsOf (c .before .before .before .before .args .plan))) ≡ false =
+    rw length-tabulate (rw q at (c .before .before .loop .inv .1)) in
+    sym (first-next StoreExceeded _ [] none)
+
+pub stores-spec : {M : Type 1} → statement M
+stores-spec =
+    tie.close
+    (tie.spec
+    Inv-loop
+    μ-loop
+    loop-holds
+    mul-wide
+    element-copy-out-wide
+    wide-requires
+    used-up-requires
+    returns
+    add-k
+    loop-less
+    loop-again
+    returns-2)

@@ -1,0 +1,240 @@
+// One check for each rule of the timeline, over the steps of a plan.
+ghost use mathlib.Core.Path.{_≡_};
+ghost use mathlib.Core.Bool.{not};
+ghost use mathlib.Core.List.{[], _∷_};
+ghost use Prim.Native.Nat.{max, _≤_, _<_};
+ghost use lib.ListN.{length};
+ghost use Rattle.lists.specs.Lists.{any, tabulate};
+ghost use Rattle.job.specs.Job.{actionIn, jobIn, Fits};
+ghost use Rattle.job.specs.declared.Counts.{Counts};
+ghost use Rattle.job.specs.Refusal.{_when_, first};
+ghost use Rattle.job.specs.Valid.{over};
+ghost use Rattle.job.specs.declared.refusal.Refusal.the-variants.{StepOrder, AfterDeadline, Clash, PoolExceeded};
+ghost use Rattle.job.specs.declared.refusal.Refusal.the-variants.{StoreExceeded};
+ghost use Rattle.timeline.specs.Step.{before, strictlyRising, anyPair};
+ghost use Rattle.timeline.specs.Timeline.{end, hinders};
+ghost use Rattle.timeline.specs.Accepted.{anyBelow, clashing, exceedsPool, exceedsStore};
+ghost use Rattle.timeline.specs.Value.{stepOfValue, stepAt, stepsOf};
+ghost use Rattle.checker.specs.Leaf.{Share, InUse, ExceedsPool, UsedUp};
+use job::Action;
+use job::Counts;
+use job::Job;
+use job::refusal::Refusal;
+use job::refusal::Verdict;
+use timeline::Plan;
+use timeline::Step;
+
+// A number of 32 bits as one of 64.
+fn wide(x: u32) -> u64
+    ensures { λ r. ⌜ (r ≡ x) × (r < 4294967296) ⌝ }
+{
+    x as u64
+}
+
+// The later of two minutes.
+fn later(a: u32, b: u32) -> u32
+    ensures { λ r. ⌜ r ≡ max a b ⌝ }
+{
+    if a < b {
+        return b;
+    }
+    a
+}
+
+// Whether x stands before y: by start, then by action.
+fn precedes(x: Step, y: Step) -> bool
+    ensures { λ r. ⌜ ((n : Counts) → r ≡ before (stepOfValue n x) (stepOfValue n y)) ⌝ }
+{
+    (x.start < y.start) | ((x.start == y.start) & (x.number < y.number))
+}
+
+// Test 14: the steps stand in strictly rising order.
+pub fn order(plan: Plan) -> Verdict
+    requires { ⌜ plan .length ≤ 32 ⌝ }
+    ensures { λ r. ⌜ r ≡ first (StepOrder when not (strictlyRising (stepsOf plan)) ∷ []) ⌝ }
+{
+    let mut i = 1;
+    while i < plan.length {
+        let last = plan.steps[i - 1];
+        let step = plan.steps[i];
+        if !precedes(last, step) {
+            return Verdict::Refused(Refusal::StepOrder);
+        }
+        i += 1;
+    }
+    Verdict::Pass
+}
+
+// Test 15: every step stops by the deadline.
+pub fn deadline(plan: Plan, limit: u16) -> Verdict
+    requires { ⌜ plan .length ≤ 32 ⌝ }
+    ensures { λ r. ⌜ r ≡ first (AfterDeadline when any (λ x. over limit (x .stop)) (stepsOf plan) ∷ []) ⌝ }
+{
+    let mut i = 0;
+    while i < plan.length {
+        let step = plan.steps[i];
+        if (limit as u32) < step.stop {
+            return Verdict::Refused(Refusal::AfterDeadline);
+        }
+        i += 1;
+    }
+    Verdict::Pass
+}
+
+// Whether a deletes a fact that b needs or adds.
+fn hinders(a: Action, b: Action) -> bool
+    ensures { λ r. ⌜ ((n : Counts) → r ≡ hinders (actionIn n a) (actionIn n b)) ⌝ }
+{
+    facts::meets(a.deletes, facts::union(b.needs, b.adds))
+}
+
+// Whether two steps share a minute and clash.
+fn clashing(x: Step, y: Step) -> bool
+    ensures { λ r. ⌜ ((n : Counts) → r ≡ clashing (stepOfValue n x) (stepOfValue n y)) ⌝ }
+{
+    let a = x.action;
+    let b = y.action;
+    ((x.start < y.stop) & (y.start < x.stop))
+        & ((x.number == y.number) | (hinders(a, b) | hinders(b, a)))
+}
+
+// Whether a step before place i clashes with the step there.
+fn clashes_earlier(plan: Plan, i: usize) -> bool
+    requires { ⌜ (plan .length ≤ 32) × (i < plan .length) ⌝ }
+    ensures { λ r. ⌜ r ≡ any (λ x. clashing x (stepAt plan i)) (tabulate i (stepAt plan)) ⌝ }
+{
+    let step = plan.steps[i];
+    let mut j = 0;
+    while j < i {
+        let other = plan.steps[j];
+        if clashing(other, step) {
+            return true;
+        }
+        j += 1;
+    }
+    false
+}
+
+// Test 16: steps that share a minute don't clash.
+pub fn clashes(plan: Plan) -> Verdict
+    requires { ⌜ plan .length ≤ 32 ⌝ }
+    ensures { λ r. ⌜ r ≡ first (Clash when anyPair clashing (stepsOf plan) ∷ []) ⌝ }
+{
+    let mut i = 0;
+    while i < plan.length {
+        if clashes_earlier(plan, i) {
+            return Verdict::Refused(Refusal::Clash);
+        }
+        i += 1;
+    }
+    Verdict::Pass
+}
+
+// What the step has of the pool in the minute.
+fn share(step: Step, pool: usize, minute: u32) -> u64
+    requires { ⌜ pool < 4 ⌝ }
+    ensures { λ r. ⌜ Share step pool minute r ⌝ }
+{
+    let action = step.action;
+    if minute < step.start {
+        return 0;
+    }
+    if step.stop <= minute {
+        return 0;
+    }
+    wide(action.pools[pool])
+}
+
+// How much of the pool is in use in the minute.
+fn in_use(plan: Plan, pool: usize, minute: u32) -> u64
+    requires { ⌜ (plan .length ≤ 32) × (plan .counts .pools ≤ 4) × (pool < plan .counts .pools) ⌝ }
+    ensures { λ r. ⌜ InUse plan pool minute r ⌝ }
+{
+    let mut sum: u64 = 0;
+    let mut i = 0;
+    while i < plan.length {
+        let step = plan.steps[i];
+        sum += share(step, pool, minute);
+        i += 1;
+    }
+    sum
+}
+
+// Whether more of the pool than `available` is in use in some minute. The use is largest where a step starts.
+fn exceeds_pool(plan: Plan, pool: usize, available: u64) -> bool
+    requires { ⌜ (plan .length ≤ 32) × (plan .counts .pools ≤ 4) × (pool < plan .counts .pools) ⌝ }
+    ensures { λ r. ⌜ ExceedsPool plan pool available r ⌝ }
+{
+    let mut i = 0;
+    while i < plan.length {
+        let step = plan.steps[i];
+        if available < in_use(plan, pool, step.start) {
+            return true;
+        }
+        i += 1;
+    }
+    false
+}
+
+// Test 17: in each minute the running steps use no more of each pool than there is.
+pub fn pools(plan: Plan, job: Job) -> Verdict
+    requires { ⌜ (plan .length ≤ 32) × (plan .counts ≡ job .counts) × Fits (job .counts) ⌝ }
+    ensures { λ r. ⌜ r ≡ first (PoolExceeded when anyBelow (length (jobIn job .pools)) (exceedsPool (jobIn job) (stepsOf plan)) ∷ []) ⌝ }
+{
+    let counts = job.counts;
+    let mut k = 0;
+    while k < counts.pools {
+        if exceeds_pool(plan, k, wide(job.pools[k])) {
+            return Verdict::Refused(Refusal::PoolExceeded);
+        }
+        k += 1;
+    }
+    Verdict::Pass
+}
+
+// How much of the store all steps use up.
+fn used_up(plan: Plan, store: usize) -> u64
+    requires { ⌜ (plan .length ≤ 32) × (plan .counts .stores ≤ 4) × (store < plan .counts .stores) ⌝ }
+    ensures { λ r. ⌜ UsedUp plan store r ⌝ }
+{
+    let mut sum: u64 = 0;
+    let mut i = 0;
+    while i < plan.length {
+        let step = plan.steps[i];
+        let action = step.action;
+        sum += wide(action.stores[store]);
+        i += 1;
+    }
+    sum
+}
+
+// Test 18: over the plan the steps use up no more of each store than there is.
+pub fn stores(plan: Plan, job: Job) -> Verdict
+    requires { ⌜ (plan .length ≤ 32) × (plan .counts ≡ job .counts) × Fits (job .counts) ⌝ }
+    ensures { λ r. ⌜ r ≡ first (StoreExceeded when anyBelow (length (jobIn job .stores)) (exceedsStore (jobIn job) (stepsOf plan)) ∷ []) ⌝ }
+{
+    let counts = job.counts;
+    let mut k = 0;
+    while k < counts.stores {
+        if wide(job.stores[k]) < used_up(plan, k) {
+            return Verdict::Refused(Refusal::StoreExceeded);
+        }
+        k += 1;
+    }
+    Verdict::Pass
+}
+
+// The plan's end: the latest stop, 0 for no steps.
+pub fn end(plan: Plan) -> u32
+    requires { ⌜ plan .length ≤ 32 ⌝ }
+    ensures { λ r. ⌜ r ≡ end (stepsOf plan) ⌝ }
+{
+    let mut latest: u32 = 0;
+    let mut i = 0;
+    while i < plan.length {
+        let step = plan.steps[i];
+        latest = later(latest, step.stop);
+        i += 1;
+    }
+    latest
+}

@@ -1,0 +1,104 @@
+-- Two counts, two actions and two jobs are the same exactly if all their parts are.
+-- Assumes nothing.
+use Prim.Native.Nat.{ℕ}
+use mathlib.Core.Path.{_≡_, ap, sym, _∙_}
+use mathlib.Core.Bool.{Bool, _&&_}
+use mathlib.Core.List.{List}
+use lib.Dec.{eqb}
+use Rattle.lists.specs.Lists.{firsts}
+use Rattle.lists.specs.Answer.{Decides}
+use Rattle.job.specs.declared.Action as act
+use Rattle.job.specs.declared.Counts.{Counts}
+use Rattle.job.specs.declared.Job as held
+use Rattle.job.specs.Job.{Job, actionIn, jobIn}
+use Rattle.job.proofs.Answers.{equal, _and_, _also_, decides-iff}
+use Rattle.job.proofs.Agree.{same-count}
+
+pub same-counts : (n m : Counts)
+    → Decides (eqb (n .pools) (m .pools) && eqb (n .stores) (m .stores) && eqb (n .actions) (m .actions)) (n ≡ m)
+same-counts n m =
+    decides-iff
+    (equal (n .pools) (m .pools) and equal (n .stores) (m .stores) and equal (n .actions) (m .actions))
+    (λ h. λ i. record { pools = h .0 .0 i; stores = h .0 .1 i; actions = h .1 i })
+    (λ e. (λ i. e i .pools) also (λ i. e i .stores) also (λ i. e i .actions))
+
+-- n amounts of two arrays are the same
+abbrev SameAmounts : ℕ → List ℕ → List ℕ → Type 0
+SameAmounts n xs ys = firsts n 0 xs ≡ firsts n 0 ys
+
+module _ (n : Counts) (a b : act.Action) {p s : Bool} where
+  pub same-action : Decides p (SameAmounts (n .pools) (a .pools) (b .pools))
+      → Decides s (SameAmounts (n .stores) (a .stores) (b .stores))
+      → Decides
+      (eqb (a .duration) (b .duration) && eqb (a .needs) (b .needs) && eqb (a .adds) (b .adds)
+      && eqb (a .deletes) (b .deletes)
+      && p
+      && s)
+      (actionIn n a ≡ actionIn n b)
+  same-action pools stores =
+      decides-iff
+      (equal (a .duration) (b .duration) and equal (a .needs) (b .needs) and equal (a .adds) (b .adds)
+      and equal (a .deletes) (b .deletes)
+      and pools
+      and stores)
+      (λ h. cc)
+      (λ e.
+      (λ i. e i .duration) also (λ i. e i .needs) also (λ i. e i .adds) also (λ i. e i .deletes)
+      also (λ i. e i .pools)
+      also (λ i. e i .stores))
+
+-- the job in j if its counts were n
+abbrev counted : Counts → held.Job → Job
+counted n j =
+    jobIn
+    record {
+      facts = j .facts;
+      deadline = j .deadline;
+      start = j .start;
+      goal = j .goal;
+      counts = n;
+      pools = j .pools;
+      stores = j .stores;
+      actions = j .actions;
+    }
+
+-- each count is the length of a list
+counts-of-same : (a b : held.Job) → jobIn a ≡ jobIn b → a .counts ≡ b .counts
+counts-of-same a b e =
+    let p = same-count _ _ _ _ (λ i. e i .pools) in
+    let s = same-count _ _ _ _ (λ i. e i .stores) in
+    let x = same-count _ _ _ _ (λ i. e i .actions) in
+    λ i. record { pools = p i; stores = s i; actions = x i }
+
+module _ (a b : held.Job) {c p s x : Bool} where
+  pub same-job : Decides c (a .counts ≡ b .counts)
+      → Decides p (SameAmounts (a .counts .pools) (a .pools) (b .pools))
+      → Decides s (SameAmounts (a .counts .stores) (a .stores) (b .stores))
+      → Decides x (counted (a .counts) a .actions ≡ counted (a .counts) b .actions)
+      → Decides
+      (eqb (a .facts) (b .facts) && eqb (a .deadline) (b .deadline) && eqb (a .start) (b .start)
+      && eqb (a .goal) (b .goal)
+      && c
+      && p
+      && s
+      && x)
+      (jobIn a ≡ jobIn b)
+  same-job counts pools stores actions =
+      decides-iff
+      (equal (a .facts) (b .facts) and equal (a .deadline) (b .deadline) and equal (a .start) (b .start)
+      and equal (a .goal) (b .goal)
+      and counts
+      and pools
+      and stores
+      and actions)
+      (λ h.
+      let e : counted (a .counts) a ≡ counted (a .counts) b = cc in
+      e ∙ ap (λ n. counted n b) (h .0 .0 .0 .1))
+      (λ e.
+      let n = counts-of-same a b e in
+      let j : counted (a .counts) a ≡ counted (a .counts) b = e ∙ ap (λ m. counted m b) (sym n) in
+      (λ i. e i .facts) also (λ i. e i .deadline) also (λ i. e i .start) also (λ i. e i .goal)
+      also n
+      also (λ i. j i .pools)
+      also (λ i. j i .stores)
+      also (λ i. j i .actions))
