@@ -20,9 +20,11 @@ enum-known-verdict c = search needs
 returns : tie.Need-returns
 unfolding checkPlan
 returns c =
-    let J = jobIn (c .before .before .before .before .before .args .job) in
-    sym (ap (λ (v : Verdict). checkedOf v (stepsIn J (c .before .before .before .before .before .args .plan .now)))
-    (first-append-refused (jobRows J) _ _ (sym (c .before .before .before .validate .ensures) ∙ c .before .verdict .given .1)))
+    let c-args = c .before .before .before .before .before .args in
+    let c-validate = c .before .before .before .validate in
+    let J = jobIn (c-args .job) in
+    sym (ap (λ (v : Verdict). checkedOf v (stepsIn J (c-args .plan .now)))
+    (first-append-refused (jobRows J) _ _ (sym (c-validate .ensures) ∙ c .before .verdict .given .1)))
 
 enum-told : tie.Need-enum-told
 enum-told c = search needs
@@ -33,10 +35,12 @@ check-bytes-requires c κs = sym (c .before .before .validate .ensures) ∙ c .e
 returns-2 : tie.Need-returns-2
 unfolding checkPlan
 returns-2 c =
-    let J = jobIn (c .before .before .before .before .before .args .job) in
+    let c-args = c .before .before .before .before .before .args in
+    let c-validate = c .before .before .before .validate in
+    let J = jobIn (c-args .job) in
     c .check-bytes .ensures
-    ∙ sym (ap (λ (v : Verdict). checkedOf v (stepsIn J (c .before .before .before .before .before .args .plan .now)))
-    (first-append-pass (jobRows J) _ (sym (c .before .before .before .validate .ensures) ∙ c .before .enum-told .given .1)))
+    ∙ sym (ap (λ (v : Verdict). checkedOf v (stepsIn J (c-args .plan .now)))
+    (first-append-pass (jobRows J) _ (sym (c-validate .ensures) ∙ c .before .enum-told .given .1)))
 
 pub check-spec : {M : Type 1} → statement M
 check-spec =

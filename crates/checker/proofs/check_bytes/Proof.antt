@@ -32,7 +32,8 @@ enum-told-2 c = search needs
 returns : tie.Need-returns
 unfolding planRows
 returns c =
-    sym (ap (λ (v : Verdict). checkedOf v (stepsIn (jobIn (c .before .before .before .before .args .job)) (c .before .before .before .before .args .bytes .now)))
+    let c-args = c .before .before .before .before .args in
+    sym (ap (λ (v : Verdict). checkedOf v (stepsIn (jobIn (c-args .job)) (c-args .bytes .now)))
     (check-fails PlanSize _ _ _ (sym (c .before .before .size .ensures) ∙ c .enum-told2 .given .1)))
 
 known-actions-requires : tie.Need-known-actions-requires
@@ -47,34 +48,47 @@ enum-told-4 c = search needs
 returns-2 : tie.Need-returns-2
 unfolding planRows stepRows
 returns-2 c =
-    sym (ap (λ (v : Verdict). checkedOf v (stepsIn (jobIn (c .before .before .before .before .before .before .before .args .job)) (c .before .before .before .before .before .before .before .args .bytes .now)))
-    (check-passes PlanSize _ _ (sym (c .before .before .before .before .before .size .ensures) ∙ c .before .before .before .enum-told .given .1)
+    let c-args = c .before .before .before .before .before .before .before .args in
+    let c-size = c .before .before .before .before .before .size in
+    let c-enum-told = c .before .before .before .enum-told in
+    sym (ap (λ (v : Verdict). checkedOf v (stepsIn (jobIn (c-args .job)) (c-args .bytes .now)))
+    (check-passes PlanSize _ _ (sym (c-size .ensures) ∙ c-enum-told .given .1)
     ∙ check-fails UnknownAction _ _ _ (sym (c .before .before .known-actions .ensures) ∙ c .enum-told4 .given .1)))
 
 plan-requires : tie.Need-plan-requires
-plan-requires c κs = (
-  (fits-of-pass (c .before .before .before .before .before .before .before .args .job) (c .before .before .before .before .before .before .before .pre), passed-test PlanSize _ (sym (c .before .before .before .before .before .size .ensures) ∙ c .before .before .before .enum-told .given .1)),
-  passed-test UnknownAction _ (sym (c .before .before .known-actions .ensures) ∙ c .enum-told3 .given .1),
-)
+plan-requires c κs =
+    let c-args = c .before .before .before .before .before .before .before .args in
+    let c-pre = c .before .before .before .before .before .before .before .pre in
+    let c-size = c .before .before .before .before .before .size in
+    let c-enum-told = c .before .before .before .enum-told in (
+      (fits-of-pass (c-args .job) (c-pre), passed-test PlanSize _ (sym (c-size .ensures) ∙ c-enum-told .given .1)),
+      passed-test UnknownAction _ (sym (c .before .before .known-actions .ensures) ∙ c .enum-told3 .given .1),
+    )
 
 check-steps-requires : tie.Need-check-steps-requires
 check-steps-requires c κs =
-    let j = c .before .before .before .before .before .before .before .before .args .job in
+    let c-args = c .before .before .before .before .before .before .before .before .args in
+    let c-pre = c .before .before .before .before .before .before .before .before .pre in
+    let c-known-actions = c .before .before .before .known-actions in
+    let j = c-args .job in
     let e = c .plan .ensures in
-    let known = passed-test UnknownAction _ (sym (c .before .before .before .known-actions .ensures) ∙ c .before .enum-told3 .given .1) in
-    let lasting = known-steps-last (jobIn j) (c .before .before .before .before .before .before .before .before .args .bytes .now) (passed (jobIn j) (c .before .before .before .before .before .before .before .before .pre)) known in
-    ((e .0, e .1, fits-of-pass j (c .before .before .before .before .before .before .before .before .pre)), (rw (e .2) known, rw (e .2) lasting))
+    let known = passed-test UnknownAction _ (sym (c-known-actions .ensures) ∙ c .before .enum-told3 .given .1) in
+    let lasting = known-steps-last (jobIn j) (c-args .bytes .now) (passed (jobIn j) (c-pre)) known in
+    ((e .0, e .1, fits-of-pass j (c-pre)), (rw (e .2) known, rw (e .2) lasting))
 
 returns-3 : tie.Need-returns-3
 unfolding planRows
 returns-3 c =
-    let b8 = c .before .before .before .before .before .before .before .before in
-    let j = b8 .before .args .job in
+    let at8 = c .before .before .before .before .before .before .before .before in
+    let c-args = at8 .before .args in
+    let c-size = c .before .before .before .before .before .before .before .size in
+    let c-enum-told = c .before .before .before .before .before .enum-told in
+    let j = c-args .job in
     let same = c .before .plan .ensures .2 in
     c .check-steps .ensures
-    ∙ ap (λ (P : List Step). checkedOf (first (stepRows (jobIn j) (b8 .before .args .goal) P)) P) same
-    ∙ sym (ap (λ (v : Verdict). checkedOf v (stepsIn (jobIn j) (b8 .before .args .bytes .now)))
-    (check-passes PlanSize _ _ (sym (c .before .before .before .before .before .before .before .size .ensures) ∙ c .before .before .before .before .before .enum-told .given .1)))
+    ∙ ap (λ (P : List Step). checkedOf (first (stepRows (jobIn j) (c-args .goal) P)) P) same
+    ∙ sym (ap (λ (v : Verdict). checkedOf v (stepsIn (jobIn j) (c-args .bytes .now)))
+    (check-passes PlanSize _ _ (sym (c-size .ensures) ∙ c-enum-told .given .1)))
 
 pub check-bytes-spec : {M : Type 1} → statement M
 check-bytes-spec =

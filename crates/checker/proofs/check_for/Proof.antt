@@ -21,9 +21,11 @@ enum-known-verdict c = search needs
 returns : tie.Need-returns
 unfolding checkFor
 returns c =
-    let J = jobIn (c .before .before .before .before .before .args .job) in
-    sym (ap (λ (v : Verdict). checkedOf v (stepsIn J (c .before .before .before .before .before .args .plan .now)))
-    (first-append-refused (jobRows J) _ _ (sym (c .before .before .before .validate .ensures) ∙ c .before .verdict .given .1)))
+    let c-args = c .before .before .before .before .before .args in
+    let c-validate = c .before .before .before .validate in
+    let J = jobIn (c-args .job) in
+    sym (ap (λ (v : Verdict). checkedOf v (stepsIn J (c-args .plan .now)))
+    (first-append-refused (jobRows J) _ _ (sym (c-validate .ensures) ∙ c .before .verdict .given .1)))
 
 enum-told : tie.Need-enum-told
 enum-told c = search needs
@@ -34,22 +36,28 @@ foreign-requires c κs = search needs
 returns-2 : tie.Need-returns-2
 unfolding checkFor
 returns-2 c =
-    let J = jobIn (c .before .before .before .before .before .before .args .job) in
-    sym (ap (λ (v : Verdict). checkedOf v (stepsIn J (c .before .before .before .before .before .before .args .plan .now)))
-    (first-append-pass (jobRows J) _ (sym (c .before .before .before .before .validate .ensures) ∙ c .before .before .enum-told .given .1)
+    let c-args = c .before .before .before .before .before .before .args in
+    let c-validate = c .before .before .before .before .validate in
+    let J = jobIn (c-args .job) in
+    sym (ap (λ (v : Verdict). checkedOf v (stepsIn J (c-args .plan .now)))
+    (first-append-pass (jobRows J) _ (sym (c-validate .ensures) ∙ c .before .before .enum-told .given .1)
     ∙ first-here ForeignAskedFact _ _ (sym (c .before .foreign .ensures .0) ∙ c .if1 .taken)))
 
 check-bytes-requires : tie.Need-check-bytes-requires
 check-bytes-requires c κs =
-    sym (c .before .before .before .before .validate .ensures) ∙ c .before .before .enum-told .given .1
+    let c-validate = c .before .before .before .before .validate in
+    sym (c-validate .ensures) ∙ c .before .before .enum-told .given .1
 
 returns-3 : tie.Need-returns-3
 unfolding checkFor
 returns-3 c =
-    let J = jobIn (c .before .before .before .before .before .before .before .args .job) in
+    let c-args = c .before .before .before .before .before .before .before .args in
+    let c-validate = c .before .before .before .before .before .validate in
+    let c-enum-told = c .before .before .before .enum-told in
+    let J = jobIn (c-args .job) in
     c .check-bytes .ensures
-    ∙ sym (ap (λ (v : Verdict). checkedOf v (stepsIn J (c .before .before .before .before .before .before .before .args .plan .now)))
-    (first-append-pass (jobRows J) _ (sym (c .before .before .before .before .before .validate .ensures) ∙ c .before .before .before .enum-told .given .1)
+    ∙ sym (ap (λ (v : Verdict). checkedOf v (stepsIn J (c-args .plan .now)))
+    (first-append-pass (jobRows J) _ (sym (c-validate .ensures) ∙ c-enum-told .given .1)
     ∙ first-next ForeignAskedFact _ _ (sym (c .before .before .foreign .ensures .0) ∙ c .before .if1 .left)))
 
 pub check-for-spec : {M : Type 1} → statement M

@@ -33,8 +33,10 @@ enum-told-2 c = search needs
 returns : tie.Need-returns
 unfolding stepRows
 returns c =
-    sym (ap (λ (v : Verdict). checkedOf v (stepsOf (c .before .before .before .args .plan)))
-    (first-next UnknownAction _ _ (c .before .before .before .pre .1 .0)
+    let c-args = c .before .before .before .args in
+    let c-pre = c .before .before .before .pre in
+    sym (ap (λ (v : Verdict). checkedOf v (stepsOf (c-args .plan)))
+    (first-next UnknownAction _ _ (c-pre .1 .0)
     ∙ check-fails StepOrder _ _ _ (sym (c .before .before .order .ensures) ∙ c .enum-told2 .given .1)))
 
 deadline-requires : tie.Need-deadline-requires
@@ -49,9 +51,13 @@ enum-told-4 c = search needs
 returns-2 : tie.Need-returns-2
 unfolding stepRows
 returns-2 c =
-    sym (ap (λ (v : Verdict). checkedOf v (stepsOf (c .before .before .before .before .before .before .args .plan)))
-    (first-next UnknownAction _ _ (c .before .before .before .before .before .before .pre .1 .0)
-    ∙ check-passes StepOrder _ _ (sym (c .before .before .before .before .before .order .ensures) ∙ c .before .before .before .enum-told .given .1)
+    let c-args = c .before .before .before .before .before .before .args in
+    let c-pre = c .before .before .before .before .before .before .pre in
+    let c-order = c .before .before .before .before .before .order in
+    let c-enum-told = c .before .before .before .enum-told in
+    sym (ap (λ (v : Verdict). checkedOf v (stepsOf (c-args .plan)))
+    (first-next UnknownAction _ _ (c-pre .1 .0)
+    ∙ check-passes StepOrder _ _ (sym (c-order .ensures) ∙ c-enum-told .given .1)
     ∙ check-fails AfterDeadline _ _ _ (sym (c .before .before .deadline .ensures) ∙ c .enum-told4 .given .1)))
 
 clashes-requires : tie.Need-clashes-requires
@@ -66,11 +72,17 @@ enum-told-6 c = search needs
 returns-3 : tie.Need-returns-3
 unfolding stepRows
 returns-3 c =
-    let b8 = c .before .before .before .before .before .before .before .before in
-    sym (ap (λ (v : Verdict). checkedOf v (stepsOf (b8 .before .args .plan)))
-    (first-next UnknownAction _ _ (b8 .before .pre .1 .0)
-    ∙ check-passes StepOrder _ _ (sym (c .before .before .before .before .before .before .before .before .order .ensures) ∙ c .before .before .before .before .before .before .enum-told .given .1)
-    ∙ check-passes AfterDeadline _ _ (sym (c .before .before .before .before .before .deadline .ensures) ∙ c .before .before .before .enum-told3 .given .1)
+    let at8 = c .before .before .before .before .before .before .before .before in
+    let c-args = at8 .before .args in
+    let c-pre = at8 .before .pre in
+    let c-order = c .before .before .before .before .before .before .before .before .order in
+    let c-enum-told = c .before .before .before .before .before .before .enum-told in
+    let c-deadline = c .before .before .before .before .before .deadline in
+    let c-enum-told3 = c .before .before .before .enum-told3 in
+    sym (ap (λ (v : Verdict). checkedOf v (stepsOf (c-args .plan)))
+    (first-next UnknownAction _ _ (c-pre .1 .0)
+    ∙ check-passes StepOrder _ _ (sym (c-order .ensures) ∙ c-enum-told .given .1)
+    ∙ check-passes AfterDeadline _ _ (sym (c-deadline .ensures) ∙ c-enum-told3 .given .1)
     ∙ check-fails Clash _ _ _ (sym (c .before .before .clashes .ensures) ∙ c .enum-told6 .given .1)))
 
 pools-requires : tie.Need-pools-requires
@@ -85,12 +97,20 @@ enum-told-8 c = search needs
 returns-4 : tie.Need-returns-4
 unfolding stepRows
 returns-4 c =
-    let b8 = c .before .before .before .before .before .before .before .before in
-    sym (ap (λ (v : Verdict). checkedOf v (stepsOf (b8 .before .before .before .before .args .plan)))
-    (first-next UnknownAction _ _ (b8 .before .before .before .before .pre .1 .0)
-    ∙ check-passes StepOrder _ _ (sym (b8 .before .before .before .order .ensures) ∙ b8 .before .enum-told .given .1)
-    ∙ check-passes AfterDeadline _ _ (sym (c .before .before .before .before .before .before .before .before .deadline .ensures) ∙ c .before .before .before .before .before .before .enum-told3 .given .1)
-    ∙ check-passes Clash _ _ (sym (c .before .before .before .before .before .clashes .ensures) ∙ c .before .before .before .enum-told5 .given .1)
+    let at8 = c .before .before .before .before .before .before .before .before in
+    let c-args = at8 .before .before .before .before .args in
+    let c-pre = at8 .before .before .before .before .pre in
+    let c-order = at8 .before .before .before .order in
+    let c-enum-told = at8 .before .enum-told in
+    let c-deadline = c .before .before .before .before .before .before .before .before .deadline in
+    let c-enum-told3 = c .before .before .before .before .before .before .enum-told3 in
+    let c-clashes = c .before .before .before .before .before .clashes in
+    let c-enum-told5 = c .before .before .before .enum-told5 in
+    sym (ap (λ (v : Verdict). checkedOf v (stepsOf (c-args .plan)))
+    (first-next UnknownAction _ _ (c-pre .1 .0)
+    ∙ check-passes StepOrder _ _ (sym (c-order .ensures) ∙ c-enum-told .given .1)
+    ∙ check-passes AfterDeadline _ _ (sym (c-deadline .ensures) ∙ c-enum-told3 .given .1)
+    ∙ check-passes Clash _ _ (sym (c-clashes .ensures) ∙ c-enum-told5 .given .1)
     ∙ check-fails PoolExceeded _ _ _ (sym (c .before .before .pools .ensures) ∙ c .enum-told8 .given .1)))
 
 stores-requires : tie.Need-stores-requires
@@ -105,13 +125,23 @@ enum-told-10 c = search needs
 returns-5 : tie.Need-returns-5
 unfolding stepRows
 returns-5 c =
-    let b8 = c .before .before .before .before .before .before .before .before in
-    sym (ap (λ (v : Verdict). checkedOf v (stepsOf (b8 .before .before .before .before .before .before .before .args .plan)))
-    (first-next UnknownAction _ _ (b8 .before .before .before .before .before .before .before .pre .1 .0)
-    ∙ check-passes StepOrder _ _ (sym (b8 .before .before .before .before .before .before .order .ensures) ∙ b8 .before .before .before .before .enum-told .given .1)
-    ∙ check-passes AfterDeadline _ _ (sym (b8 .before .before .before .deadline .ensures) ∙ b8 .before .enum-told3 .given .1)
-    ∙ check-passes Clash _ _ (sym (c .before .before .before .before .before .before .before .before .clashes .ensures) ∙ c .before .before .before .before .before .before .enum-told5 .given .1)
-    ∙ check-passes PoolExceeded _ _ (sym (c .before .before .before .before .before .pools .ensures) ∙ c .before .before .before .enum-told7 .given .1)
+    let at8 = c .before .before .before .before .before .before .before .before in
+    let c-args = at8 .before .before .before .before .before .before .before .args in
+    let c-pre = at8 .before .before .before .before .before .before .before .pre in
+    let c-order = at8 .before .before .before .before .before .before .order in
+    let c-enum-told = at8 .before .before .before .before .enum-told in
+    let c-deadline = at8 .before .before .before .deadline in
+    let c-enum-told3 = at8 .before .enum-told3 in
+    let c-clashes = c .before .before .before .before .before .before .before .before .clashes in
+    let c-enum-told5 = c .before .before .before .before .before .before .enum-told5 in
+    let c-pools = c .before .before .before .before .before .pools in
+    let c-enum-told7 = c .before .before .before .enum-told7 in
+    sym (ap (λ (v : Verdict). checkedOf v (stepsOf (c-args .plan)))
+    (first-next UnknownAction _ _ (c-pre .1 .0)
+    ∙ check-passes StepOrder _ _ (sym (c-order .ensures) ∙ c-enum-told .given .1)
+    ∙ check-passes AfterDeadline _ _ (sym (c-deadline .ensures) ∙ c-enum-told3 .given .1)
+    ∙ check-passes Clash _ _ (sym (c-clashes .ensures) ∙ c-enum-told5 .given .1)
+    ∙ check-passes PoolExceeded _ _ (sym (c-pools .ensures) ∙ c-enum-told7 .given .1)
     ∙ check-fails StoreExceeded _ _ _ (sym (c .before .before .stores .ensures) ∙ c .enum-told10 .given .1)))
 
 end-requires : tie.Need-end-requires
@@ -129,17 +159,29 @@ enum-told-11 c = search needs
 returns-6 : tie.Need-returns-6
 unfolding stepRows
 returns-6 c =
-    let b8 = c .before .before .before .before .before .before .before .before in
-    let b16 = b8 .before .before .before .before .before .before .before .before in
-    sym (ap (λ (v : Verdict). checkedOf v (stepsOf (b16 .before .before .before .args .plan)))
-    (first-next UnknownAction _ _ (b16 .before .before .before .pre .1 .0)
-    ∙ check-passes StepOrder _ _ (sym (b16 .before .before .order .ensures) ∙ b16 .enum-told .given .1)
-    ∙ check-passes AfterDeadline _ _ (sym (b8 .before .before .before .before .before .before .before .deadline .ensures) ∙ b8 .before .before .before .before .before .enum-told3 .given .1)
-    ∙ check-passes Clash _ _ (sym (b8 .before .before .before .before .clashes .ensures) ∙ b8 .before .before .enum-told5 .given .1)
-    ∙ check-passes PoolExceeded _ _ (sym (b8 .before .pools .ensures) ∙ c .before .before .before .before .before .before .before .enum-told7 .given .1)
-    ∙ check-passes StoreExceeded _ _ (sym (c .before .before .before .before .before .before .stores .ensures) ∙ c .before .before .before .before .enum-told9 .given .1)
+    let at8 = c .before .before .before .before .before .before .before .before in
+    let at16 = at8 .before .before .before .before .before .before .before .before in
+    let c-args = at16 .before .before .before .args in
+    let c-pre = at16 .before .before .before .pre in
+    let c-order = at16 .before .before .order in
+    let c-enum-told = at16 .enum-told in
+    let c-deadline = at8 .before .before .before .before .before .before .before .deadline in
+    let c-enum-told3 = at8 .before .before .before .before .before .enum-told3 in
+    let c-clashes = at8 .before .before .before .before .clashes in
+    let c-enum-told5 = at8 .before .before .enum-told5 in
+    let c-pools = at8 .before .pools in
+    let c-enum-told7 = c .before .before .before .before .before .before .before .enum-told7 in
+    let c-stores = c .before .before .before .before .before .before .stores in
+    let c-enum-told9 = c .before .before .before .before .enum-told9 in
+    sym (ap (λ (v : Verdict). checkedOf v (stepsOf (c-args .plan)))
+    (first-next UnknownAction _ _ (c-pre .1 .0)
+    ∙ check-passes StepOrder _ _ (sym (c-order .ensures) ∙ c-enum-told .given .1)
+    ∙ check-passes AfterDeadline _ _ (sym (c-deadline .ensures) ∙ c-enum-told3 .given .1)
+    ∙ check-passes Clash _ _ (sym (c-clashes .ensures) ∙ c-enum-told5 .given .1)
+    ∙ check-passes PoolExceeded _ _ (sym (c-pools .ensures) ∙ c-enum-told7 .given .1)
+    ∙ check-passes StoreExceeded _ _ (sym (c-stores .ensures) ∙ c-enum-told9 .given .1)
     ∙ first-here NeedMissing _ _
-    (watched-missing _ _ (sym (c .before .before .watch .ensures (jobIn (b16 .before .before .before .args .job)) refl) ∙ c .enum-told11 .given .1))))
+    (watched-missing _ _ (sym (c .before .before .watch .ensures (jobIn (c-args .job)) refl) ∙ c .enum-told11 .given .1))))
 
 goal-requires : tie.Need-goal-requires
 goal-requires c κs = search needs
@@ -153,35 +195,64 @@ enum-told-13 c = search needs
 returns-7 : tie.Need-returns-7
 unfolding stepRows
 returns-7 c =
-    let b8 = c .before .before .before .before .before .before .before .before in
-    let b16 = b8 .before .before .before .before .before .before .before .before in
-    let w = watched-done _ _ _ (sym (c .before .before .before .before .before .before .watch .ensures (jobIn (b16 .before .before .before .before .before .before .before .args .job)) refl) ∙ c .before .before .before .before .clock .given .1) in
-    let g : Clock → Verdict = λ k. first (GoalMissing when not (subset (b16 .before .before .before .before .before .before .before .args .goal) (k .facts)) ∷ []) in
-    sym (ap (λ (v : Verdict). checkedOf v (stepsOf (b16 .before .before .before .before .before .before .before .args .plan)))
-    (first-next UnknownAction _ _ (b16 .before .before .before .before .before .before .before .pre .1 .0)
-    ∙ check-passes StepOrder _ _ (sym (b16 .before .before .before .before .before .before .order .ensures) ∙ b16 .before .before .before .before .enum-told .given .1)
-    ∙ check-passes AfterDeadline _ _ (sym (b16 .before .before .before .deadline .ensures) ∙ b16 .before .enum-told3 .given .1)
-    ∙ check-passes Clash _ _ (sym (b16 .clashes .ensures) ∙ b8 .before .before .before .before .before .before .enum-told5 .given .1)
-    ∙ check-passes PoolExceeded _ _ (sym (b8 .before .before .before .before .before .pools .ensures) ∙ b8 .before .before .before .enum-told7 .given .1)
-    ∙ check-passes StoreExceeded _ _ (sym (b8 .before .before .stores .ensures) ∙ c .before .before .before .before .before .before .before .before .enum-told9 .given .1)
+    let at8 = c .before .before .before .before .before .before .before .before in
+    let at16 = at8 .before .before .before .before .before .before .before .before in
+    let c-args = at16 .before .before .before .before .before .before .before .args in
+    let c-pre = at16 .before .before .before .before .before .before .before .pre in
+    let c-order = at16 .before .before .before .before .before .before .order in
+    let c-enum-told = at16 .before .before .before .before .enum-told in
+    let c-deadline = at16 .before .before .before .deadline in
+    let c-enum-told3 = at16 .before .enum-told3 in
+    let c-clashes = at16 .clashes in
+    let c-enum-told5 = at8 .before .before .before .before .before .before .enum-told5 in
+    let c-pools = at8 .before .before .before .before .before .pools in
+    let c-enum-told7 = at8 .before .before .before .enum-told7 in
+    let c-stores = at8 .before .before .stores in
+    let c-enum-told9 = c .before .before .before .before .before .before .before .before .enum-told9 in
+    let c-watch = c .before .before .before .before .before .before .watch in
+    let c-clock = c .before .before .before .before .clock in
+    let w = watched-done _ _ _ (sym (c-watch .ensures (jobIn (c-args .job)) refl) ∙ c-clock .given .1) in
+    let g : Clock → Verdict = λ k. first (GoalMissing when not (subset (c-args .goal) (k .facts)) ∷ []) in
+    sym (ap (λ (v : Verdict). checkedOf v (stepsOf (c-args .plan)))
+    (first-next UnknownAction _ _ (c-pre .1 .0)
+    ∙ check-passes StepOrder _ _ (sym (c-order .ensures) ∙ c-enum-told .given .1)
+    ∙ check-passes AfterDeadline _ _ (sym (c-deadline .ensures) ∙ c-enum-told3 .given .1)
+    ∙ check-passes Clash _ _ (sym (c-clashes .ensures) ∙ c-enum-told5 .given .1)
+    ∙ check-passes PoolExceeded _ _ (sym (c-pools .ensures) ∙ c-enum-told7 .given .1)
+    ∙ check-passes StoreExceeded _ _ (sym (c-stores .ensures) ∙ c-enum-told9 .given .1)
     ∙ first-next NeedMissing _ _ (w .0)
     ∙ check-fails GoalMissing _ _ _ (ap g (w .1) ∙ sym (c .before .before .goal .ensures) ∙ c .enum-told13 .given .1)))
 
 returns-8 : tie.Need-returns-8
 unfolding stepRows
 returns-8 c =
-    let b8 = c .before .before .before .before .before .before .before .before in
-    let b16 = b8 .before .before .before .before .before .before .before .before in
-    let w = watched-done _ _ _ (sym (c .before .before .before .before .before .before .watch .ensures (jobIn (b16 .before .before .before .before .before .before .before .args .job)) refl) ∙ c .before .before .before .before .clock .given .1) in
-    let g : Clock → Verdict = λ k. first (GoalMissing when not (subset (b16 .before .before .before .before .before .before .before .args .goal) (k .facts)) ∷ []) in
-    ap Ends (c .before .before .before .before .before .before .before .end .ensures)
-    ∙ sym (ap (λ (v : Verdict). checkedOf v (stepsOf (b16 .before .before .before .before .before .before .before .args .plan)))
-    (first-next UnknownAction _ _ (b16 .before .before .before .before .before .before .before .pre .1 .0)
-    ∙ check-passes StepOrder _ _ (sym (b16 .before .before .before .before .before .before .order .ensures) ∙ b16 .before .before .before .before .enum-told .given .1)
-    ∙ check-passes AfterDeadline _ _ (sym (b16 .before .before .before .deadline .ensures) ∙ b16 .before .enum-told3 .given .1)
-    ∙ check-passes Clash _ _ (sym (b16 .clashes .ensures) ∙ b8 .before .before .before .before .before .before .enum-told5 .given .1)
-    ∙ check-passes PoolExceeded _ _ (sym (b8 .before .before .before .before .before .pools .ensures) ∙ b8 .before .before .before .enum-told7 .given .1)
-    ∙ check-passes StoreExceeded _ _ (sym (b8 .before .before .stores .ensures) ∙ c .before .before .before .before .before .before .before .before .enum-told9 .given .1)
+    let at8 = c .before .before .before .before .before .before .before .before in
+    let at16 = at8 .before .before .before .before .before .before .before .before in
+    let c-args = at16 .before .before .before .before .before .before .before .args in
+    let c-pre = at16 .before .before .before .before .before .before .before .pre in
+    let c-order = at16 .before .before .before .before .before .before .order in
+    let c-enum-told = at16 .before .before .before .before .enum-told in
+    let c-deadline = at16 .before .before .before .deadline in
+    let c-enum-told3 = at16 .before .enum-told3 in
+    let c-clashes = at16 .clashes in
+    let c-enum-told5 = at8 .before .before .before .before .before .before .enum-told5 in
+    let c-pools = at8 .before .before .before .before .before .pools in
+    let c-enum-told7 = at8 .before .before .before .enum-told7 in
+    let c-stores = at8 .before .before .stores in
+    let c-enum-told9 = c .before .before .before .before .before .before .before .before .enum-told9 in
+    let c-end = c .before .before .before .before .before .before .before .end in
+    let c-watch = c .before .before .before .before .before .before .watch in
+    let c-clock = c .before .before .before .before .clock in
+    let w = watched-done _ _ _ (sym (c-watch .ensures (jobIn (c-args .job)) refl) ∙ c-clock .given .1) in
+    let g : Clock → Verdict = λ k. first (GoalMissing when not (subset (c-args .goal) (k .facts)) ∷ []) in
+    ap Ends (c-end .ensures)
+    ∙ sym (ap (λ (v : Verdict). checkedOf v (stepsOf (c-args .plan)))
+    (first-next UnknownAction _ _ (c-pre .1 .0)
+    ∙ check-passes StepOrder _ _ (sym (c-order .ensures) ∙ c-enum-told .given .1)
+    ∙ check-passes AfterDeadline _ _ (sym (c-deadline .ensures) ∙ c-enum-told3 .given .1)
+    ∙ check-passes Clash _ _ (sym (c-clashes .ensures) ∙ c-enum-told5 .given .1)
+    ∙ check-passes PoolExceeded _ _ (sym (c-pools .ensures) ∙ c-enum-told7 .given .1)
+    ∙ check-passes StoreExceeded _ _ (sym (c-stores .ensures) ∙ c-enum-told9 .given .1)
     ∙ first-next NeedMissing _ _ (w .0)
     ∙ check-passes GoalMissing _ [] (ap g (w .1) ∙ sym (c .before .before .goal .ensures) ∙ c .enum-told12 .given .1)
     ∙ first-none))

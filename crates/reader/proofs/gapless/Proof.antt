@@ -25,8 +25,10 @@ short-requires c κs = omega arith
 
 returns : tie.Need-returns Inv-loop μ-loop
 returns c =
-    let file = c .before .before .before .before .before .args .file .now in
-    let l = c .before .before .before .loop in
+    let c-args = c .before .before .before .before .before .args in
+    let c-loop = c .before .before .before .loop in
+    let file = c-args .file .now in
+    let l = c-loop in
     sym (l .inv .2 ∙ gapless-broken file (l .at) (l .k) (4 - l .k) (omega arith) (λ e. c .if1 .taken (c .before .short .ensures .0 ∙ e)))
 
 mul-short-2 : tie.Need-mul-short-2 Inv-loop μ-loop
@@ -49,8 +51,10 @@ loop-less c = omega arith
 
 loop-again : tie.Need-loop-again Inv-loop μ-loop
 loop-again c =
-    let file = c .before .before .before .before .before .before .args .file .now in
-    let l = c .before .before .before .before .loop in
+    let c-args = c .before .before .before .before .before .before .args in
+    let c-loop = c .before .before .before .before .loop in
+    let file = c-args .file .now in
+    let l = c-loop in
     let d : 4 - l .k - 1 ≡ 4 - (l .k + 1) = omega arith in (
       omega arith,
       omega arith,
@@ -61,7 +65,8 @@ loop-again c =
 
 returns-2 : tie.Need-returns-2 Inv-loop μ-loop
 returns-2 c =
-    let file = c .before .before .before .args .file .now in
+    let c-args = c .before .before .before .args in
+    let file = c-args .file .now in
     let l = c .before .loop in
     let d : 4 - l .k ≡ 0 = omega arith in
     sym (l .inv .2 ∙ ap (gapless file (l .at) (l .k)) d ∙ gapless-end file (l .at) (l .k))

@@ -20,7 +20,8 @@ add-stores c =
 
 add-actions : tie.Need-add-actions
 add-actions c =
-    let q = placed _ _ (c .before .before .before .before .pre .0) (c .before .before .before .before .pre .1) (c .before .before .before .before .pre .2) in omega arith
+    let c-pre = c .before .before .before .before .pre in
+    let q = placed _ _ (c-pre .0) (c-pre .1) (c-pre .2) in omega arith
 
 sub-decode : tie.Need-sub-decode
 sub-decode c = search needs
@@ -30,7 +31,8 @@ part-decode-start c = search needs
 
 part-decode-end : tie.Need-part-decode-end
 part-decode-end c =
-    let q = placed _ _ (c .before .before .before .before .pre .0) (c .before .before .before .before .pre .1) (c .before .before .before .before .pre .2) in omega arith
+    let c-pre = c .before .before .before .before .pre in
+    let q = placed _ _ (c-pre .0) (c-pre .1) (c-pre .2) in omega arith
 
 sub-decode-2 : tie.Need-sub-decode-2
 sub-decode-2 c = search needs
@@ -40,7 +42,8 @@ part-decode-start-2 c = search needs
 
 part-decode-end-2 : tie.Need-part-decode-end-2
 part-decode-end-2 c =
-    let q = placed _ _ (c .before .before .before .before .before .pre .0) (c .before .before .before .before .before .pre .1) (c .before .before .before .before .before .pre .2) in omega arith
+    let c-pre = c .before .before .before .before .before .pre in
+    let q = placed _ _ (c-pre .0) (c-pre .1) (c-pre .2) in omega arith
 
 sub-decode-3 : tie.Need-sub-decode-3
 sub-decode-3 c = search needs
@@ -50,24 +53,29 @@ part-decode-start-3 c = search needs
 
 part-decode-end-3 : tie.Need-part-decode-end-3
 part-decode-end-3 c =
-    let q = placed _ _ (c .before .before .before .before .before .before .pre .0) (c .before .before .before .before .before .before .pre .1) (c .before .before .before .before .before .before .pre .2) in omega arith
+    let c-pre = c .before .before .before .before .before .before .pre in
+    let q = placed _ _ (c-pre .0) (c-pre .1) (c-pre .2) in omega arith
 
 sub-decode-4 : tie.Need-sub-decode-4
 sub-decode-4 c =
-    let q = placed _ _ (c .before .before .before .before .before .before .before .pre .0) (c .before .before .before .before .before .before .before .pre .1) (c .before .before .before .before .before .before .before .pre .2) in omega arith
+    let c-pre = c .before .before .before .before .before .before .before .pre in
+    let q = placed _ _ (c-pre .0) (c-pre .1) (c-pre .2) in omega arith
 
 part-decode-start-4 : tie.Need-part-decode-start-4
 part-decode-start-4 c =
-    let q = placed _ _ (c .before .before .before .before .before .before .before .pre .0) (c .before .before .before .before .before .before .before .pre .1) (c .before .before .before .before .before .before .before .pre .2) in omega arith
+    let c-pre = c .before .before .before .before .before .before .before .pre in
+    let q = placed _ _ (c-pre .0) (c-pre .1) (c-pre .2) in omega arith
 
 part-decode-end-4 : tie.Need-part-decode-end-4
 part-decode-end-4 c = search needs
 
 decode-requires : tie.Need-decode-requires
 decode-requires c κs =
-    let l = c .before .before .before .before .before .before .before .before .args .layout in
-    let file = c .before .before .before .before .before .before .before .before .args .file .now in
-    let q = placed file l (c .before .before .before .before .before .before .before .before .pre .0) (c .before .before .before .before .before .before .before .before .pre .1) (c .before .before .before .before .before .before .before .before .pre .2) in
+    let c-args = c .before .before .before .before .before .before .before .before .args in
+    let c-pre = c .before .before .before .before .before .before .before .before .pre in
+    let l = c-args .layout in
+    let file = c-args .file .now in
+    let q = placed file l (c-pre .0) (c-pre .1) (c-pre .2) in
     let a = 16 + l .head in
     let b = a + l .pools in
     let f = slices-fit file (q .right) a b (b + l .stores) (ap (λ (n : ℕ). 16 + n) (q .head)) (omega arith) (omega arith) in
@@ -75,10 +83,12 @@ decode-requires c κs =
 
 returns : tie.Need-returns
 returns c =
-    let b8 = c .before .before .before .before .before .before .before .before in
-    let l = b8 .before .args .layout in
-    let file = b8 .before .args .file .now in
-    let q = placed file l (b8 .before .pre .0) (b8 .before .pre .1) (b8 .before .pre .2) in
+    let at8 = c .before .before .before .before .before .before .before .before in
+    let c-args = at8 .before .args in
+    let c-pre = at8 .before .pre in
+    let l = c-args .layout in
+    let file = c-args .file .now in
+    let q = placed file l (c-pre .0) (c-pre .1) (c-pre .2) in
     let a = 16 + l .head in
     let b = a + l .pools in
     c .decode .ensures

@@ -18,10 +18,13 @@ short-requires-4 : tie.Need-short-requires-4
 short-requires-4 c κs = search needs
 
 returns : tie.Need-returns
-returns c = (
-  rw (c .before .before .before .short .ensures .0, c .before .before .short2 .ensures .0, c .before .short3 .ensures .0, c .short4 .ensures .0),
-  (c .before .before .before .short .ensures .1, c .before .before .short2 .ensures .1, c .before .short3 .ensures .1, c .short4 .ensures .1),
-)
+returns c =
+    let c-short = c .before .before .before .short in
+    let c-short2 = c .before .before .short2 in
+    let c-short3 = c .before .short3 in (
+      rw (c-short .ensures .0, c-short2 .ensures .0, c-short3 .ensures .0, c .short4 .ensures .0),
+      (c-short .ensures .1, c-short2 .ensures .1, c-short3 .ensures .1, c .short4 .ensures .1),
+    )
 
 pub layout-spec : {M : Type 1} → statement M
 layout-spec =

@@ -23,12 +23,15 @@ refused-requires-2 c κs = search needs
 
 returns-2 : tie.Need-returns-2
 returns-2 c =
+    let c-args = c .before .before .before .before .before .args in
+    let c-if1 = c .before .before .before .if1 in
     c .refused2 .ensures
-    ∙ sym (read-offsets (c .before .before .before .before .before .args .file .now) (c .before .before .before .if1 .left) (sym (c .before .before .gapless .ensures) ∙ not-true _ (c .before .if2 .taken)))
+    ∙ sym (read-offsets (c-args .file .now) (c-if1 .left) (sym (c .before .before .gapless .ensures) ∙ not-true _ (c .before .if2 .taken)))
 
 layout-requires : tie.Need-layout-requires
 layout-requires c κs =
-    has-contents (c .before .before .before .before .args .file .now) (c .before .before .if1 .left)
+    let c-args = c .before .before .before .before .args in
+    has-contents (c-args .file .now) (c .before .before .if1 .left)
 
 missized-requires : tie.Need-missized-requires
 missized-requires c κs = search needs
@@ -38,16 +41,23 @@ refused-requires-3 c κs = search needs
 
 returns-3 : tie.Need-returns-3
 returns-3 c =
-    let t2 = sym (c .before .before .before .before .before .gapless .ensures) ∙ not-false _ (c .before .before .before .before .if2 .left) in
-    let t3 = rw (c .before .before .before .layout .ensures .0) at (sym (c .before .before .missized .ensures) ∙ c .before .if3 .taken) in
-    c .refused3 .ensures ∙ sym (read-body-sizes (c .before .before .before .before .before .before .before .before .args .file .now) (c .before .before .before .before .before .before .if1 .left) t2 t3)
+    let c-args = c .before .before .before .before .before .before .before .before .args in
+    let c-if1 = c .before .before .before .before .before .before .if1 in
+    let c-gapless = c .before .before .before .before .before .gapless in
+    let c-if2 = c .before .before .before .before .if2 in
+    let c-layout = c .before .before .before .layout in
+    let t2 = sym (c-gapless .ensures) ∙ not-false _ (c-if2 .left) in
+    let t3 = rw (c-layout .ensures .0) at (sym (c .before .before .missized .ensures) ∙ c .before .if3 .taken) in
+    c .refused3 .ensures ∙ sym (read-body-sizes (c-args .file .now) (c-if1 .left) t2 t3)
 
 job-in-requires : tie.Need-job-in-requires
-job-in-requires c κs = (
-  sym (c .before .before .before .before .gapless .ensures) ∙ not-false _ (c .before .before .before .if2 .left),
-  c .before .before .layout .ensures .0,
-  sym (c .before .missized .ensures) ∙ c .if3 .left,
-)
+job-in-requires c κs =
+    let c-gapless = c .before .before .before .before .gapless in
+    let c-if2 = c .before .before .before .if2 in (
+      sym (c-gapless .ensures) ∙ not-false _ (c-if2 .left),
+      c .before .before .layout .ensures .0,
+      sym (c .before .missized .ensures) ∙ c .if3 .left,
+    )
 
 validate-requires : tie.Need-validate-requires
 validate-requires c κs = search needs
@@ -60,25 +70,43 @@ refused-requires-4 c κs = search needs
 
 returns-4 : tie.Need-returns-4
 returns-4 c =
-    let b8 = c .before .before .before .before .before .before .before .before in
-    let t2 = sym (b8 .before .before .gapless .ensures) ∙ not-false _ (b8 .before .if2 .left) in
-    let t3 = rw (c .before .before .before .before .before .before .before .before .layout .ensures .0) at (sym (c .before .before .before .before .before .before .before .missized .ensures) ∙ c .before .before .before .before .before .before .if3 .left) in
-    let v = sym (c .before .before .before .before .validate .ensures) ∙ c .before .before .verdict .given .1 in
-    let j = c .before .before .before .before .before .job-in .result in
+    let at8 = c .before .before .before .before .before .before .before .before in
+    let c-args = at8 .before .before .before .before .before .args in
+    let c-if1 = at8 .before .before .before .if1 in
+    let c-gapless = at8 .before .before .gapless in
+    let c-if2 = at8 .before .if2 in
+    let c-layout = c .before .before .before .before .before .before .before .before .layout in
+    let c-missized = c .before .before .before .before .before .before .before .missized in
+    let c-if3 = c .before .before .before .before .before .before .if3 in
+    let c-job-in = c .before .before .before .before .before .job-in in
+    let c-validate = c .before .before .before .before .validate in
+    let c-verdict = c .before .before .verdict in
+    let t2 = sym (c-gapless .ensures) ∙ not-false _ (c-if2 .left) in
+    let t3 = rw (c-layout .ensures .0) at (sym (c-missized .ensures) ∙ c-if3 .left) in
+    let v = sym (c-validate .ensures) ∙ c-verdict .given .1 in
+    let j = c-job-in .result in
     c .refused4 .ensures
-    ∙ sym (read-refused (b8 .before .before .before .before .before .args .file .now) (b8 .before .before .before .if1 .left) t2 t3 j (c .before .before .before .before .before .job-in .ensures) (c .before .before .verdict .given .0 .0) v)
+    ∙ sym (read-refused (c-args .file .now) (c-if1 .left) t2 t3 j (c-job-in .ensures) (c-verdict .given .0 .0) v)
 
 enum-told : tie.Need-enum-told
 enum-told c = search needs
 
 returns-5 : tie.Need-returns-5
 returns-5 c =
-    let b8 = c .before .before .before .before .before .before .before .before in
-    let t2 = sym (c .before .before .before .before .before .before .before .before .gapless .ensures) ∙ not-false _ (c .before .before .before .before .before .before .before .if2 .left) in
-    let t3 = rw (c .before .before .before .before .before .before .layout .ensures .0) at (sym (c .before .before .before .before .before .missized .ensures) ∙ c .before .before .before .before .if3 .left) in
+    let at8 = c .before .before .before .before .before .before .before .before in
+    let c-args = at8 .before .before .before .args in
+    let c-if1 = at8 .before .if1 in
+    let c-gapless = c .before .before .before .before .before .before .before .before .gapless in
+    let c-if2 = c .before .before .before .before .before .before .before .if2 in
+    let c-layout = c .before .before .before .before .before .before .layout in
+    let c-missized = c .before .before .before .before .before .missized in
+    let c-if3 = c .before .before .before .before .if3 in
+    let c-job-in = c .before .before .before .job-in in
+    let t2 = sym (c-gapless .ensures) ∙ not-false _ (c-if2 .left) in
+    let t3 = rw (c-layout .ensures .0) at (sym (c-missized .ensures) ∙ c-if3 .left) in
     let v = sym (c .before .before .validate .ensures) ∙ c .enum-told .given .1 in
-    let j = c .before .before .before .job-in .result in
-    rw (c .enum-told .given .1) (sym (read-passed (b8 .before .before .before .args .file .now) (b8 .before .if1 .left) t2 t3 j (c .before .before .before .job-in .ensures) v))
+    let j = c-job-in .result in
+    rw (c .enum-told .given .1) (sym (read-passed (c-args .file .now) (c-if1 .left) t2 t3 j (c-job-in .ensures) v))
 
 pub read-spec : {M : Type 1} → statement M
 read-spec =

@@ -50,12 +50,15 @@ loop-less c = omega arith
 
 loop-again : tie.Need-loop-again Inv-loop μ-loop
 loop-again c =
-    let p = c .before .before .before .before .before .before .before .before .args .t1 in
-    let t = c .before .before .before .before .before .before .before .before .args .minute in
-    let l = c .before .before .before .before .before .before .before .loop in (
+    let c-args = c .before .before .before .before .before .before .before .before .args in
+    let c-loop = c .before .before .before .before .before .before .before .loop in
+    let c-if-stops = c .before .before .before .if-stops in
+    let p = c-args .t1 in
+    let t = c-args .minute in
+    let l = c-loop in (
       omega arith,
       c .before .before .union .ensures .0
-          ∙ rw (l .inv .1, c .before .before .before .if-stops .ensures (p .counts))
+          ∙ rw (l .inv .1, c-if-stops .ensures (p .counts))
           (sym (union-more (stepAt p) (λ x. ifStops t (x .action .deletes) x) (l .i))),
       c .union2 .ensures .0
           ∙ rw (l .inv .2, c .before .if-stops2 .ensures (p .counts))
@@ -64,8 +67,9 @@ loop-again c =
 
 returns : tie.Need-returns Inv-loop μ-loop
 returns c =
-    let e : c .before .loop .i ≡ c .before .before .args .t1 .length = omega arith in
-    rw (c .before .loop .inv .1, c .before .loop .inv .2, e)
+    let c-loop = c .before .loop in
+    let e : c-loop .i ≡ c .before .before .args .t1 .length = omega arith in
+    rw (c-loop .inv .1, c-loop .inv .2, e)
 
 pub effects-at-spec : {M : Type 1} → statement M
 effects-at-spec =

@@ -44,9 +44,11 @@ cast-if1 c = omega (arith, c .shared-slice-known .given (c .before .before .loop
 returns : tie.Need-returns Inv-loop μ-loop
 unfolding stepsIn
 returns c =
-    let j = c .before .before .before .before .before .before .args .job in
-    let bytes = c .before .before .before .before .before .before .args .bytes .now in
-    let i = c .before .before .before .before .loop .i in
+    let c-args = c .before .before .before .before .before .before .args in
+    let c-loop = c .before .before .before .before .loop in
+    let j = c-args .job in
+    let bytes = c-args .bytes .now in
+    let i = c-loop .i in
     sym (first-here UnknownAction _ []
     (any-found (unknown (jobIn j)) (stepInAt (jobIn j) bytes) i (length bytes / 3) (omega arith)
     (unknown-by-byte j bytes i (omega arith) ∙ le-leb _ _ (c .if1 .taken))))
@@ -59,15 +61,17 @@ loop-less c = omega arith
 
 loop-again : tie.Need-loop-again Inv-loop μ-loop
 loop-again c =
-    let l = c .before .before .before .before .loop in
+    let c-loop = c .before .before .before .before .loop in
+    let l = c-loop in
     let known = c .if1 .left in
     (omega arith, λ k h. ⊎-elim (λ e. let q : k ≡ l .i = omega arith in rw q known) (λ b. l .inv .1 k (omega arith)) (eq-or-lt-of-le h))
 
 returns-2 : tie.Need-returns-2 Inv-loop μ-loop
 unfolding first stepsIn
 returns-2 c =
-    let j = c .before .before .before .args .job in
-    let bytes = c .before .before .before .args .bytes .now in
+    let c-args = c .before .before .before .args in
+    let j = c-args .job in
+    let bytes = c-args .bytes .now in
     let l = c .before .loop in
     sym (first-next UnknownAction _ []
     (none-any (unknown (jobIn j)) (tabulate (length bytes / 3) (stepInAt (jobIn j) bytes))

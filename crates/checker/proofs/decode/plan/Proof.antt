@@ -34,22 +34,26 @@ loop-holds c = (omega arith, refl, λ k h. absurd (omega arith))
 
 mul-at : tie.Need-mul-at Inv-loop μ-loop
 mul-at c =
-    let w = piece-within (length (c .before .before .before .before .args .bytes .now)) 3 (c .before .loop .i) (c .loop-test .taken) in
+    let c-args = c .before .before .before .before .args in
+    let w = piece-within (length (c-args .bytes .now)) 3 (c .before .loop .i) (c .loop-test .taken) in
     omega arith
 
 shared-slice-read-step : tie.Need-shared-slice-read-step Inv-loop μ-loop
 shared-slice-read-step c =
-    let w = piece-within (length (c .before .before .before .before .before .args .bytes .now)) 3 (c .before .before .loop .i) (c .before .loop-test .taken) in
+    let c-args = c .before .before .before .before .before .args in
+    let w = piece-within (length (c-args .bytes .now)) 3 (c .before .before .loop .i) (c .before .loop-test .taken) in
     omega arith
 
 add-read-number : tie.Need-add-read-number Inv-loop μ-loop
 add-read-number c =
-    let w = piece-within (length (c .before .before .before .before .before .args .bytes .now)) 3 (c .before .before .loop .i) (c .before .loop-test .taken) in
+    let c-args = c .before .before .before .before .before .args in
+    let w = piece-within (length (c-args .bytes .now)) 3 (c .before .before .loop .i) (c .before .loop-test .taken) in
     omega arith
 
 read-number-requires : tie.Need-read-number-requires Inv-loop μ-loop
 read-number-requires c κs =
-    let w = piece-within (length (c .before .before .before .before .before .args .bytes .now)) 3 (c .before .before .loop .i) (c .before .loop-test .taken) in
+    let c-args = c .before .before .before .before .before .args in
+    let w = piece-within (length (c-args .bytes .now)) 3 (c .before .before .loop .i) (c .before .loop-test .taken) in
     omega arith
 
 cast-step : tie.Need-cast-step Inv-loop μ-loop
@@ -57,19 +61,28 @@ cast-step c = omega arith
 
 step-requires : tie.Need-step-requires Inv-loop μ-loop
 step-requires c κs =
+    let c-pre = c .before .before .before .before .before .before .pre in
+    let c-args = c .before .before .before .before .before .before .args in
+    let c-loop = c .before .before .before .loop in
     let b = c .read-number .ensures .1 in
-    (c .before .before .before .before .before .before .pre .0 .0, known-byte (c .before .before .before .before .before .before .args .job) (c .before .before .before .before .before .before .args .bytes .now) (c .before .before .before .loop .i) (c .before .before .loop-test .taken) (c .before .before .before .before .before .before .pre .1), omega arith)
+    (c-pre .0 .0, known-byte (c-args .job) (c-args .bytes .now) (c-loop .i) (c .before .before .loop-test .taken) (c-pre .1), omega arith)
 
 mul-steps : tie.Need-mul-steps Inv-loop μ-loop
 mul-steps c =
-    let f = few-steps (c .before .before .before .before .before .before .before .args .bytes .now) (c .before .before .before .before .before .before .before .pre .0 .1) in
-    let t = c .before .before .before .loop-test .taken in
+    let c-args = c .before .before .before .before .before .before .before .args in
+    let c-pre = c .before .before .before .before .before .before .before .pre in
+    let c-loop-test = c .before .before .before .loop-test in
+    let f = few-steps (c-args .bytes .now) (c-pre .0 .1) in
+    let t = c-loop-test .taken in
     omega arith
 
 array-set-from-steps : tie.Need-array-set-from-steps Inv-loop μ-loop
 array-set-from-steps c =
-    let f = few-steps (c .before .before .before .before .before .before .before .args .bytes .now) (c .before .before .before .before .before .before .before .pre .0 .1) in
-    let t = c .before .before .before .loop-test .taken in
+    let c-args = c .before .before .before .before .before .before .before .args in
+    let c-pre = c .before .before .before .before .before .before .before .pre in
+    let c-loop-test = c .before .before .before .loop-test in
+    let f = few-steps (c-args .bytes .now) (c-pre .0 .1) in
+    let t = c-loop-test .taken in
     omega arith
 
 add-i : tie.Need-add-i Inv-loop μ-loop
@@ -80,12 +93,17 @@ loop-less c = omega arith
 
 loop-again : tie.Need-loop-again Inv-loop μ-loop
 loop-again c =
-    let j = c .before .before .before .before .before .before .before .args .job in
-    let bytes = c .before .before .before .before .before .before .before .args .bytes .now in
-    let l = c .before .before .before .before .loop in
-    let f = few-steps bytes (c .before .before .before .before .before .before .before .pre .0 .1) in
-    let t = c .before .before .before .loop-test .taken in
-    let start : c .before .read-number .result ≡ fromBytes (part bytes (l .i * 3 + 1) 2) = c .before .read-number .ensures .0 in
+    let c-args = c .before .before .before .before .before .before .before .args in
+    let c-pre = c .before .before .before .before .before .before .before .pre in
+    let c-loop = c .before .before .before .before .loop in
+    let c-loop-test = c .before .before .before .loop-test in
+    let c-read-number = c .before .read-number in
+    let j = c-args .job in
+    let bytes = c-args .bytes .now in
+    let l = c-loop in
+    let f = few-steps bytes (c-pre .0 .1) in
+    let t = c-loop-test .taken in
+    let start : c-read-number .result ≡ fromBytes (part bytes (l .i * 3 + 1) 2) = c-read-number .ensures .0 in
     let e : stepOfValue (j .counts) (c .step .result) ≡ stepInAt (jobIn j) bytes (l .i) =
     c .step .ensures ∙ ap (stepOf (jobIn j) (getD bytes (l .i * 3) 0)) start
     ∙ sym (step-by-bytes (jobIn j) bytes (l .i) t) in (
@@ -98,9 +116,11 @@ loop-again c =
 returns : tie.Need-returns Inv-loop μ-loop
 unfolding stepsIn
 returns c =
+    let c-args = c .before .before .before .before .before .args in
+    let c-pre = c .before .before .before .before .before .pre in
     let l = c .before .before .loop in
     let t = c .before .loop-test .left in
-    (few-steps (c .before .before .before .before .before .args .bytes .now) (c .before .before .before .before .before .pre .0 .1), refl, tabulate-same _ _ _ (λ k h. l .inv .2 k (omega arith)))
+    (few-steps (c-args .bytes .now) (c-pre .0 .1), refl, tabulate-same _ _ _ (λ k h. l .inv .2 k (omega arith)))
 
 pub plan-spec : {M : Type 1} → statement M
 plan-spec =

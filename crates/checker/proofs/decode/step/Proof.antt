@@ -21,8 +21,9 @@ add-t12 c = search needs
 
 returns : tie.Need-returns
 returns c =
-    let j = c .before .before .args .t1 in
-    rw (getD-tabulate (j .counts .actions) (actionAt j) (c .before .before .args .number) noAction (c .before .before .pre .1))
+    let c-args = c .before .before .args in
+    let j = c-args .t1 in
+    rw (getD-tabulate (j .counts .actions) (actionAt j) (c-args .number) noAction (c .before .before .pre .1))
 
 pub step-spec : {M : Type 1} → statement M
 step-spec = tie.close (tie.spec mul-action element-copy-out-action cast-t11 add-t12 returns)

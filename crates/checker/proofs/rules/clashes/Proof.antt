@@ -32,8 +32,10 @@ clashes-earlier-requires c κs = omega arith
 
 returns : tie.Need-returns Inv-loop μ-loop
 returns c =
-    let p = c .before .before .before .before .before .args .plan in
-    let i = c .before .before .before .before .loop .i in
+    let c-args = c .before .before .before .before .before .args in
+    let c-loop = c .before .before .before .before .loop in
+    let p = c-args .plan in
+    let i = c-loop .i in
     let found = sym (c .before .clashes-earlier .ensures) ∙ c .if2 .taken in
     sym (first-here Clash _ []
     (pair-found (stepAt p) clashing (i + 1) (p .length) (omega arith) (pair-more (stepAt p) clashing i ∙ rw (found, or-true))))
@@ -46,16 +48,20 @@ loop-less c = omega arith
 
 loop-again : tie.Need-loop-again Inv-loop μ-loop
 loop-again c =
-    let p = c .before .before .before .before .before .args .plan in (
+    let c-args = c .before .before .before .before .before .args in
+    let c-loop = c .before .before .before .before .loop in
+    let p = c-args .plan in (
       omega arith,
-      pair-more (stepAt p) clashing (c .before .before .before .before .loop .i) ∙ rw (c .before .before .before .before .loop .inv .1, sym (c .before .clashes-earlier .ensures) ∙ c .if2 .left),
+      pair-more (stepAt p) clashing (c-loop .i) ∙ rw (c-loop .inv .1, sym (c .before .clashes-earlier .ensures) ∙ c .if2 .left),
     )
 
 returns-2 : tie.Need-returns-2 Inv-loop μ-loop
 unfolding first
 returns-2 c =
-    let e : c .before .before .loop .i ≡ c .before .before .before .args .plan .length = omega arith in
-    sym (first-next Clash _ [] (rw e at (c .before .before .loop .inv .1)))
+    let c-args = c .before .before .before .args in
+    let c-loop = c .before .before .loop in
+    let e : c-loop .i ≡ c-args .plan .length = omega arith in
+    sym (first-next Clash _ [] (rw e at (c-loop .inv .1)))
 
 pub clashes-spec : {M : Type 1} → statement M
 clashes-spec =

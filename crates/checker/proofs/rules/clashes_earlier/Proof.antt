@@ -25,8 +25,9 @@ element-copy-out-step c = omega arith
 
 loop-holds : tie.Need-loop-holds Inv-loop μ-loop
 loop-holds c =
-    let p = c .before .args .t1 in
-    (omega arith, any-start (λ x. clashing x (stepAt p (c .before .args .i))) (stepAt p))
+    let c-args = c .before .args in
+    let p = c-args .t1 in
+    (omega arith, any-start (λ x. clashing x (stepAt p (c-args .i))) (stepAt p))
 
 mul-other : tie.Need-mul-other Inv-loop μ-loop
 mul-other c = omega arith
@@ -39,9 +40,11 @@ clashing-requires c κs = omega arith
 
 returns : tie.Need-returns Inv-loop μ-loop
 returns c =
-    let p = c .before .before .before .before .before .before .args .t1 in
-    let i = c .before .before .before .before .before .before .args .i in
-    sym (any-found (λ x. clashing x (stepAt p i)) (stepAt p) (c .before .before .before .before .loop .j) i (omega arith)
+    let c-args = c .before .before .before .before .before .before .args in
+    let c-loop = c .before .before .before .before .loop in
+    let p = c-args .t1 in
+    let i = c-args .i in
+    sym (any-found (λ x. clashing x (stepAt p i)) (stepAt p) (c-loop .j) i (omega arith)
     (sym (c .before .clashing .ensures (p .counts)) ∙ c .if1 .taken))
 
 add-j : tie.Need-add-j Inv-loop μ-loop
@@ -52,17 +55,21 @@ loop-less c = omega arith
 
 loop-again : tie.Need-loop-again Inv-loop μ-loop
 loop-again c =
-    let p = c .before .before .before .before .before .before .args .t1 in
-    let i = c .before .before .before .before .before .before .args .i in (
+    let c-args = c .before .before .before .before .before .before .args in
+    let c-loop = c .before .before .before .before .loop in
+    let p = c-args .t1 in
+    let i = c-args .i in (
       omega arith,
-      any-more (λ x. clashing x (stepAt p i)) (stepAt p) (c .before .before .before .before .loop .j) (c .before .before .before .before .loop .inv .1)
+      any-more (λ x. clashing x (stepAt p i)) (stepAt p) (c-loop .j) (c-loop .inv .1)
           (sym (c .before .clashing .ensures (p .counts)) ∙ c .if1 .left),
     )
 
 returns-2 : tie.Need-returns-2 Inv-loop μ-loop
 returns-2 c =
-    let e : c .before .loop .j ≡ c .before .before .before .args .i = omega arith in
-    sym (rw e at (c .before .loop .inv .1))
+    let c-args = c .before .before .before .args in
+    let c-loop = c .before .loop in
+    let e : c-loop .j ≡ c-args .i = omega arith in
+    sym (rw e at (c-loop .inv .1))
 
 pub clashes-earlier-spec : {M : Type 1} → statement M
 clashes-earlier-spec =

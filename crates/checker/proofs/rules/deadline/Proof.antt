@@ -33,9 +33,11 @@ element-copy-out-step c = omega arith
 
 returns : tie.Need-returns Inv-loop μ-loop
 returns c =
-    let p = c .before .before .before .before .before .args .t1 in
+    let c-args = c .before .before .before .before .before .args in
+    let c-loop = c .before .before .before .before .loop in
+    let p = c-args .t1 in
     sym (first-here AfterDeadline _ []
-    (any-found (λ x. over (c .before .before .before .before .before .args .limit) (x .stop)) (stepAt p) (c .before .before .before .before .loop .i) (p .length) (omega arith)
+    (any-found (λ x. over (c-args .limit) (x .stop)) (stepAt p) (c-loop .i) (p .length) (omega arith)
     (lt-ltb _ _ (c .if1 .taken))))
 
 add-i : tie.Need-add-i Inv-loop μ-loop
@@ -45,17 +47,20 @@ loop-less : tie.Need-loop-less Inv-loop μ-loop
 loop-less c = omega arith
 
 loop-again : tie.Need-loop-again Inv-loop μ-loop
-loop-again c = (
-  omega arith,
-  any-more (λ x. over (c .before .before .before .before .before .args .limit) (x .stop)) (stepAt (c .before .before .before .before .before .args .t1)) (c .before .before .before .before .loop .i) (c .before .before .before .before .loop .inv .1)
-      (le-ltb _ _ (c .if1 .left)),
-)
+loop-again c =
+    let c-args = c .before .before .before .before .before .args in
+    let c-loop = c .before .before .before .before .loop in (
+      omega arith,
+      any-more (λ x. over (c-args .limit) (x .stop)) (stepAt (c-args .t1)) (c-loop .i) (c-loop .inv .1)
+          (le-ltb _ _ (c .if1 .left)),
+    )
 
 returns-2 : tie.Need-returns-2 Inv-loop μ-loop
 unfolding first
 returns-2 c =
-    let e : c .before .loop .i ≡ c .before .before .args .t1 .length = omega arith in
-    sym (first-next AfterDeadline _ [] (rw e at (c .before .loop .inv .1)))
+    let c-loop = c .before .loop in
+    let e : c-loop .i ≡ c .before .before .args .t1 .length = omega arith in
+    sym (first-next AfterDeadline _ [] (rw e at (c-loop .inv .1)))
 
 pub deadline-spec : {M : Type 1} → statement M
 deadline-spec =

@@ -38,15 +38,18 @@ loop-less c = omega arith
 
 loop-again : tie.Need-loop-again Inv-loop μ-loop
 loop-again c =
-    let l = c .before .before .before .loop in (
+    let c-args = c .before .before .before .before .args in
+    let c-loop = c .before .before .before .loop in
+    let l = c-loop in (
       omega arith,
-      c .later .ensures ∙ rw (l .inv .1) (sym (largest-more (stepAt (c .before .before .before .before .args .t1)) (λ x. x .stop) (l .i))),
+      c .later .ensures ∙ rw (l .inv .1) (sym (largest-more (stepAt (c-args .t1)) (λ x. x .stop) (l .i))),
     )
 
 returns : tie.Need-returns Inv-loop μ-loop
 returns c =
-    let e : c .before .loop .i ≡ c .before .before .args .t1 .length = omega arith in
-    rw e at (c .before .loop .inv .1)
+    let c-loop = c .before .loop in
+    let e : c-loop .i ≡ c .before .before .args .t1 .length = omega arith in
+    rw e at (c-loop .inv .1)
 
 pub end-spec : {M : Type 1} → statement M
 end-spec =

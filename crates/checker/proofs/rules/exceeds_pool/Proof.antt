@@ -45,12 +45,14 @@ in-use-requires c κs = omega arith
 
 returns : tie.Need-returns Inv-loop μ-loop
 returns c =
-    let a = c .before .before .before .before .before .args in
+    let c-args = c .before .before .before .before .before .args in
+    let c-loop = c .before .before .before .before .loop in
+    let a = c-args in
     let P = stepsOf (a .t1) in
     λ J e.
     rw e
     (sym (exceeds-at-start J (a .pool) (a .available) P
-    ∙ any-found (exceedsAt J (a .pool) (a .available) P) (stepAt (a .t1)) (c .before .before .before .before .loop .i) (a .t1 .length) (omega arith)
+    ∙ any-found (exceedsAt J (a .pool) (a .available) P) (stepAt (a .t1)) (c-loop .i) (a .t1 .length) (omega arith)
     (lt-ltb _ _ (rw (c .before .in-use .ensures J) at (c .if1 .taken)))))
 
 add-i : tie.Need-add-i Inv-loop μ-loop
@@ -61,8 +63,10 @@ loop-less c = omega arith
 
 loop-again : tie.Need-loop-again Inv-loop μ-loop
 loop-again c =
-    let a = c .before .before .before .before .before .args in
-    let l = c .before .before .before .before .loop in (
+    let c-args = c .before .before .before .before .before .args in
+    let c-loop = c .before .before .before .before .loop in
+    let a = c-args in
+    let l = c-loop in (
       omega arith,
       λ J.
           any-more (exceedsAt J (a .pool) (a .available) (stepsOf (a .t1))) (stepAt (a .t1)) (l .i) (l .inv .1 J)

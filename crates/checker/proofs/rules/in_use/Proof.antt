@@ -46,22 +46,26 @@ loop-less c = omega arith
 
 loop-again : tie.Need-loop-again Inv-loop μ-loop
 loop-again c =
-    let a = c .before .before .before .before .args in
+    let c-args = c .before .before .before .before .args in
+    let c-pre = c .before .before .before .before .pre in
+    let c-loop = c .before .before .before .loop in
+    let a = c-args in
     let p = a .t1 in
-    let l = c .before .before .before .loop in
+    let l = c-loop in
     let s = c .share .ensures .small in (
       omega arith,
       omega arith,
       λ J.
-          rw (l .inv .2 J, c .share .ensures .counts J (p .counts) (c .before .before .before .before .pre .2))
+          rw (l .inv .2 J, c .share .ensures .counts J (p .counts) (c-pre .2))
           (sym (total-more (stepAt p) (λ x. cond (hasShare J (a .pool) (a .minute) x) (getD (x .action .pools) (a .pool) 0) 0)
           (l .i))),
     )
 
 returns : tie.Need-returns Inv-loop μ-loop
 returns c =
-    let e : c .before .loop .i ≡ c .before .before .args .t1 .length = omega arith in
-    λ J. rw e at (c .before .loop .inv .2 J)
+    let c-loop = c .before .loop in
+    let e : c-loop .i ≡ c .before .before .args .t1 .length = omega arith in
+    λ J. rw e at (c-loop .inv .2 J)
 
 pub in-use-spec : {M : Type 1} → statement M
 in-use-spec =

@@ -47,11 +47,13 @@ precedes-requires c κs = search needs
 
 returns : tie.Need-returns Inv-loop μ-loop
 returns c =
-    let p = c .before .before .before .before .before .before .args .t1 in
-    let i = c .before .before .before .before .before .loop .i in
+    let c-args = c .before .before .before .before .before .before .args in
+    let c-loop = c .before .before .before .before .before .loop in
+    let p = c-args .t1 in
+    let i = c-loop .i in
     let broken = sym (c .before .precedes .ensures (p .counts)) ∙ not-true _ (c .if1 .taken) in
     let e : strictlyRising (tabulate (i + 1) (stepAt p)) ≡ false
-    = rising-step (stepAt p) i (omega arith) ∙ rw (c .before .before .before .before .before .loop .inv .2, broken) in
+    = rising-step (stepAt p) i (omega arith) ∙ rw (c-loop .inv .2, broken) in
     sym (first-here StepOrder _ [] (ap not (rising-broken (stepAt p) (i + 1) (p .length) (omega arith) e)))
 
 add-i : tie.Need-add-i Inv-loop μ-loop
@@ -62,16 +64,19 @@ loop-less c = omega arith
 
 loop-again : tie.Need-loop-again Inv-loop μ-loop
 loop-again c =
-    let p = c .before .before .before .before .before .before .args .t1 in
-    let i = c .before .before .before .before .before .loop .i in
+    let c-args = c .before .before .before .before .before .before .args in
+    let c-loop = c .before .before .before .before .before .loop in
+    let p = c-args .t1 in
+    let i = c-loop .i in
     let rises = sym (c .before .precedes .ensures (p .counts)) ∙ not-false _ (c .if1 .left) in
-    (omega arith, omega arith, rising-step (stepAt p) i (omega arith) ∙ rw (c .before .before .before .before .before .loop .inv .2, rises))
+    (omega arith, omega arith, rising-step (stepAt p) i (omega arith) ∙ rw (c-loop .inv .2, rises))
 
 returns-2 : tie.Need-returns-2 Inv-loop μ-loop
 unfolding first
 returns-2 c =
+    let c-loop = c .before .loop in
     let p = c .before .before .args .t1 in
-    let e = rising-end (stepAt p) (c .before .loop .i) (p .length) (omega arith) (omega arith) (c .before .loop .inv .2) in
+    let e = rising-end (stepAt p) (c-loop .i) (p .length) (omega arith) (omega arith) (c-loop .inv .2) in
     sym (first-next StepOrder _ [] (ap not e))
 
 pub order-spec : {M : Type 1} → statement M

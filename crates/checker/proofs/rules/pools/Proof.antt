@@ -39,19 +39,23 @@ wide-requires c κs = search needs
 
 exceeds-pool-requires : tie.Need-exceeds-pool-requires Inv-loop μ-loop
 exceeds-pool-requires c κs =
-    let h = c .before .before .before .before .before .before .pre in
+    let c-pre = c .before .before .before .before .before .before .pre in
+    let h = c-pre in
     let e = ap (λ (n : Counts). n .pools) (h .1) in
     (h .0, omega arith, omega arith)
 
 returns : tie.Need-returns Inv-loop μ-loop
 returns c =
-    let j = c .before .before .before .before .before .before .before .before .args .t2 in
-    let test = exceedsPool (jobIn j) (stepsOf (c .before .before .before .before .before .before .before .before .args .plan)) in
-    let k = c .before .before .before .before .before .before .loop .k in
-    let available = getD-tabulate (j .counts .pools) (λ i. getD (j .pools) i 0) k 0 (c .before .before .before .before .if1 .taken) in
+    let c-args = c .before .before .before .before .before .before .before .before .args in
+    let c-loop = c .before .before .before .before .before .before .loop in
+    let c-if1 = c .before .before .before .before .if1 in
+    let j = c-args .t2 in
+    let test = exceedsPool (jobIn j) (stepsOf (c-args .plan)) in
+    let k = c-loop .k in
+    let available = getD-tabulate (j .counts .pools) (λ i. getD (j .pools) i 0) k 0 (c-if1 .taken) in
     let e = sym (c .before .exceeds-pool .ensures (jobIn j) (available ∙ sym (c .before .before .wide .ensures .0))) ∙ c .if2 .taken in
     sym (first-here PoolExceeded _ []
-    (rw length-tabulate (below-found (j .counts .pools) test k (c .before .before .before .before .if1 .taken) e)))
+    (rw length-tabulate (below-found (j .counts .pools) test k (c-if1 .taken) e)))
 
 add-k : tie.Need-add-k Inv-loop μ-loop
 add-k c = omega arith
@@ -61,20 +65,25 @@ loop-less c = omega arith
 
 loop-again : tie.Need-loop-again Inv-loop μ-loop
 loop-again c =
-    let j = c .before .before .before .before .before .before .before .before .args .t2 in
-    let test = exceedsPool (jobIn j) (stepsOf (c .before .before .before .before .before .before .before .before .args .plan)) in
-    let k = c .before .before .before .before .before .before .loop .k in
-    let available = getD-tabulate (j .counts .pools) (λ i. getD (j .pools) i 0) k 0 (c .before .before .before .before .if1 .taken) in
+    let c-args = c .before .before .before .before .before .before .before .before .args in
+    let c-loop = c .before .before .before .before .before .before .loop in
+    let c-if1 = c .before .before .before .before .if1 in
+    let j = c-args .t2 in
+    let test = exceedsPool (jobIn j) (stepsOf (c-args .plan)) in
+    let k = c-loop .k in
+    let available = getD-tabulate (j .counts .pools) (λ i. getD (j .pools) i 0) k 0 (c-if1 .taken) in
     let e = sym (c .before .exceeds-pool .ensures (jobIn j) (available ∙ sym (c .before .before .wide .ensures .0))) ∙ c .if2 .left in
-    (omega arith, below-more k test ∙ rw (e, c .before .before .before .before .before .before .loop .inv .1))
+    (omega arith, below-more k test ∙ rw (e, c-loop .inv .1))
 
 returns-2 : tie.Need-returns-2 Inv-loop μ-loop
 unfolding first
 returns-2 c =
-    let j = c .before .before .before .before .args .t2 in
-    let q : c .before .before .loop .k ≡ j .counts .pools = omega arith in
-    let none : anyBelow (length (jobIn j .pools)) (exceedsPool (jobIn j) (stepsOf (c .before .before .before .before .args .plan))) ≡ false =
-    rw length-tabulate (rw q at (c .before .before .loop .inv .1)) in
+    let c-args = c .before .before .before .before .args in
+    let c-loop = c .before .before .loop in
+    let j = c-args .t2 in
+    let q : c-loop .k ≡ j .counts .pools = omega arith in
+    let none : anyBelow (length (jobIn j .pools)) (exceedsPool (jobIn j) (stepsOf (c-args .plan))) ≡ false =
+    rw length-tabulate (rw q at (c-loop .inv .1)) in
     sym (first-next PoolExceeded _ [] none)
 
 pub pools-spec : {M : Type 1} → statement M

@@ -12,7 +12,8 @@ use Rattle.checker.proofs.rules.share.Tie as tie
 
 returns : tie.Need-returns
 returns c =
-    let a = c .before .before .before .args in
+    let c-args = c .before .before .before .args in
+    let a = c-args in
     record {
       counts = λ J n h. sym (no-share-before J (a .pool) (a .minute) _ (stepOfValue n (a .step)) (c .if1 .taken));
       small = omega arith;
@@ -20,7 +21,8 @@ returns c =
 
 returns-2 : tie.Need-returns-2
 returns-2 c =
-    let a = c .before .before .before .before .before .args in
+    let c-args = c .before .before .before .before .before .args in
+    let a = c-args in
     record {
       counts = λ J n h. sym (no-share-after J (a .pool) (a .minute) _ (stepOfValue n (a .step)) (c .if2 .taken));
       small = omega arith;
@@ -37,11 +39,13 @@ wide-requires c κs = search needs
 
 returns-3 : tie.Need-returns-3
 returns-3 c =
-    let a = c .before .before .before .before .before .before .before .args in
+    let c-args = c .before .before .before .before .before .before .before .args in
+    let c-if1 = c .before .before .before .before .if1 in
+    let a = c-args in
     record {
       counts = λ J n h.
           c .wide .ensures .0
-          ∙ sym (share-while-running J (a .pool) (a .minute) _ (stepOfValue n (a .step)) (c .before .before .before .before .if1 .left) (c .before .before .if2 .left)
+          ∙ sym (share-while-running J (a .pool) (a .minute) _ (stepOfValue n (a .step)) (c-if1 .left) (c .before .before .if2 .left)
           ∙ getD-tabulate (n .pools) (λ k. getD (a .step .action .pools) k 0) (a .pool) 0 h);
       small = c .wide .ensures .1;
     }

@@ -41,21 +41,25 @@ wide-requires c κs = search needs
 
 used-up-requires : tie.Need-used-up-requires Inv-loop μ-loop
 used-up-requires c κs =
-    let h = c .before .before .before .before .before .before .pre in
+    let c-pre = c .before .before .before .before .before .before .pre in
+    let h = c-pre in
     let e = ap (λ (n : Counts). n .stores) (h .1) in
     (h .0, omega arith, omega arith)
 
 returns : tie.Need-returns Inv-loop μ-loop
 unfolding storeCap
 returns c =
-    let j = c .before .before .before .before .before .before .before .before .args .t2 in
-    let test = exceedsStore (jobIn j) (stepsOf (c .before .before .before .before .before .before .before .before .args .plan)) in
-    let k = c .before .before .before .before .before .before .loop .k in
-    let cap = getD-tabulate (j .counts .stores) (λ i. getD (j .stores) i 0) k 0 (c .before .before .before .before .if1 .taken) in
+    let c-args = c .before .before .before .before .before .before .before .before .args in
+    let c-loop = c .before .before .before .before .before .before .loop in
+    let c-if1 = c .before .before .before .before .if1 in
+    let j = c-args .t2 in
+    let test = exceedsStore (jobIn j) (stepsOf (c-args .plan)) in
+    let k = c-loop .k in
+    let cap = getD-tabulate (j .counts .stores) (λ i. getD (j .stores) i 0) k 0 (c-if1 .taken) in
     let e : test k ≡ true =
     lt-ltb _ _ (rw (c .before .used-up .ensures (jobIn j), c .before .before .wide .ensures .0 ∙ sym cap) at (c .if2 .taken)) in
     sym (first-here StoreExceeded _ []
-    (rw length-tabulate (below-found (j .counts .stores) test k (c .before .before .before .before .if1 .taken) e)))
+    (rw length-tabulate (below-found (j .counts .stores) test k (c-if1 .taken) e)))
 
 add-k : tie.Need-add-k Inv-loop μ-loop
 add-k c = omega arith
@@ -66,21 +70,26 @@ loop-less c = omega arith
 loop-again : tie.Need-loop-again Inv-loop μ-loop
 unfolding storeCap
 loop-again c =
-    let j = c .before .before .before .before .before .before .before .before .args .t2 in
-    let test = exceedsStore (jobIn j) (stepsOf (c .before .before .before .before .before .before .before .before .args .plan)) in
-    let k = c .before .before .before .before .before .before .loop .k in
-    let cap = getD-tabulate (j .counts .stores) (λ i. getD (j .stores) i 0) k 0 (c .before .before .before .before .if1 .taken) in
+    let c-args = c .before .before .before .before .before .before .before .before .args in
+    let c-loop = c .before .before .before .before .before .before .loop in
+    let c-if1 = c .before .before .before .before .if1 in
+    let j = c-args .t2 in
+    let test = exceedsStore (jobIn j) (stepsOf (c-args .plan)) in
+    let k = c-loop .k in
+    let cap = getD-tabulate (j .counts .stores) (λ i. getD (j .stores) i 0) k 0 (c-if1 .taken) in
     let e : test k ≡ false =
     le-ltb _ _ (rw (c .before .used-up .ensures (jobIn j), c .before .before .wide .ensures .0 ∙ sym cap) at (c .if2 .left)) in
-    (omega arith, below-more k test ∙ rw (e, c .before .before .before .before .before .before .loop .inv .1))
+    (omega arith, below-more k test ∙ rw (e, c-loop .inv .1))
 
 returns-2 : tie.Need-returns-2 Inv-loop μ-loop
 unfolding first
 returns-2 c =
-    let j = c .before .before .before .before .args .t2 in
-    let q : c .before .before .loop .k ≡ j .counts .stores = omega arith in
-    let none : anyBelow (length (jobIn j .stores)) (exceedsStore (jobIn j) (stepsOf (c .before .before .before .before .args .plan))) ≡ false =
-    rw length-tabulate (rw q at (c .before .before .loop .inv .1)) in
+    let c-args = c .before .before .before .before .args in
+    let c-loop = c .before .before .loop in
+    let j = c-args .t2 in
+    let q : c-loop .k ≡ j .counts .stores = omega arith in
+    let none : anyBelow (length (jobIn j .stores)) (exceedsStore (jobIn j) (stepsOf (c-args .plan))) ≡ false =
+    rw length-tabulate (rw q at (c-loop .inv .1)) in
     sym (first-next StoreExceeded _ [] none)
 
 pub stores-spec : {M : Type 1} → statement M

@@ -54,12 +54,15 @@ loop-less c = omega arith
 loop-again : tie.Need-loop-again Inv-loop μ-loop
 unfolding storeUse
 loop-again c =
-    let a = c .before .before .before .before .before .before .args in
+    let c-args = c .before .before .before .before .before .before .args in
+    let c-pre = c .before .before .before .before .before .before .pre in
+    let c-loop = c .before .before .before .before .before .loop in
+    let a = c-args in
     let p = a .t1 in
-    let l = c .before .before .before .before .before .loop in
+    let l = c-loop in
     let s = c .wide .ensures .1 in
     let x = getD (p .steps) (l .i) beyondStep in
-    let u = getD-tabulate (p .counts .stores) (λ k. getD (x .action .stores) k 0) (a .store) 0 (c .before .before .before .before .before .before .pre .2) in (
+    let u = getD-tabulate (p .counts .stores) (λ k. getD (x .action .stores) k 0) (a .store) 0 (c-pre .2) in (
       omega arith,
       omega arith,
       λ J. rw (l .inv .2 J, c .wide .ensures .0 ∙ sym u) (sym (total-more (stepAt p) (storeUse J (a .store)) (l .i))),
@@ -67,8 +70,9 @@ loop-again c =
 
 returns : tie.Need-returns Inv-loop μ-loop
 returns c =
-    let e : c .before .loop .i ≡ c .before .before .args .t1 .length = omega arith in
-    λ J. rw e at (c .before .loop .inv .2 J)
+    let c-loop = c .before .loop in
+    let e : c-loop .i ≡ c .before .before .args .t1 .length = omega arith in
+    λ J. rw e at (c-loop .inv .2 J)
 
 pub used-up-spec : {M : Type 1} → statement M
 used-up-spec =

@@ -32,8 +32,10 @@ subset-requires c κs = search needs
 
 returns : tie.Need-returns Inv-loop μ-loop
 returns c =
-    let p = c .before .before .before .before .before .before .before .before .args .t1 in
-    sym (any-found (lacksAt (c .before .before .before .before .before .before .before .before .args .clock)) (stepAt p) (c .before .before .before .before .before .before .before .loop .i) (p .length) (omega arith)
+    let c-args = c .before .before .before .before .before .before .before .before .args in
+    let c-loop = c .before .before .before .before .before .before .before .loop in
+    let p = c-args .t1 in
+    sym (any-found (lacksAt (c-args .clock)) (stepAt p) (c-loop .i) (p .length) (omega arith)
     (rw (c .before .subset .ensures .0) at (c .if1 .taken)))
 
 add-i : tie.Need-add-i Inv-loop μ-loop
@@ -43,16 +45,19 @@ loop-less : tie.Need-loop-less Inv-loop μ-loop
 loop-less c = omega arith
 
 loop-again : tie.Need-loop-again Inv-loop μ-loop
-loop-again c = (
-  omega arith,
-  any-more (lacksAt (c .before .before .before .before .before .before .before .before .args .clock)) (stepAt (c .before .before .before .before .before .before .before .before .args .t1)) (c .before .before .before .before .before .before .before .loop .i) (c .before .before .before .before .before .before .before .loop .inv .1)
-      (rw (c .before .subset .ensures .0) at (c .if1 .left)),
-)
+loop-again c =
+    let c-args = c .before .before .before .before .before .before .before .before .args in
+    let c-loop = c .before .before .before .before .before .before .before .loop in (
+      omega arith,
+      any-more (lacksAt (c-args .clock)) (stepAt (c-args .t1)) (c-loop .i) (c-loop .inv .1)
+          (rw (c .before .subset .ensures .0) at (c .if1 .left)),
+    )
 
 returns-2 : tie.Need-returns-2 Inv-loop μ-loop
 returns-2 c =
-    let e : c .before .loop .i ≡ c .before .before .args .t1 .length = omega arith in
-    sym (rw e at (c .before .loop .inv .1))
+    let c-loop = c .before .loop in
+    let e : c-loop .i ≡ c .before .before .args .t1 .length = omega arith in
+    sym (rw e at (c-loop .inv .1))
 
 pub lacks-need-spec : {M : Type 1} → statement M
 lacks-need-spec =

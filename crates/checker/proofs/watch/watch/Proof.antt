@@ -40,45 +40,58 @@ loop-holds c =
     rw (c .new .ensures) (omega arith, watching-none (c .before .args .start) (c .before .args .plan))
 
 lacks-need-requires : tie.Need-lacks-need-requires Inv-loop μ-loop
-lacks-need-requires c κs = c .before .before .before .before .pre .0
+lacks-need-requires c κs =
+    let c-pre = c .before .before .before .before .pre in
+    c-pre .0
 
 returns : tie.Need-returns Inv-loop μ-loop
 returns c =
-    let P = c .before .before .before .before .before .before .args .plan in
+    let c-args = c .before .before .before .before .before .before .args in
+    let c-loop = c .before .before .before .before .loop in
+    let P = c-args .plan in
     let found = sym (c .before .lacks-need .ensures) ∙ c .if2 .taken in
-    λ J e. rw (missing (c .before .before .before .before .before .before .args .start) P J e ∙ watching-missing (c .before .before .before .before .before .before .args .start) P (c .before .before .before .before .loop .clock) (c .before .before .before .before .loop .inv .1) found)
+    λ J e. rw (missing (c-args .start) P J e ∙ watching-missing (c-args .start) P (c-loop .clock) (c-loop .inv .1) found)
 
 tick-requires : tie.Need-tick-requires Inv-loop μ-loop
-tick-requires c κs = (c .before .before .before .before .before .before .pre .0, omega arith)
+tick-requires c κs =
+    let c-pre = c .before .before .before .before .before .before .pre in
+    (c-pre .0, omega arith)
 
 loop-less : tie.Need-loop-less Inv-loop μ-loop
 loop-less c =
+    let c-if1 = c .before .before .before .if1 in
     let m = ap (λ (k : Clock). k .minute) (c .tick .ensures) in
-    let t = c .before .before .before .if1 .taken in
+    let t = c-if1 .taken in
     omega arith
 
 loop-again : tie.Need-loop-again Inv-loop μ-loop
 loop-again c =
-    let P = c .before .before .before .before .before .before .before .args .plan in
-    let k = c .before .before .before .before .before .loop .clock in
-    let w = c .before .before .before .before .before .loop .inv .1 in
+    let c-args = c .before .before .before .before .before .before .before .args in
+    let c-loop = c .before .before .before .before .before .loop in
+    let c-if1 = c .before .before .before .if1 in
+    let P = c-args .plan in
+    let k = c-loop .clock in
+    let w = c-loop .inv .1 in
     let m = ap (λ (k : Clock). k .minute) (c .tick .ensures) in
     let f = ap (λ (k : Clock). k .facts) (c .tick .ensures) in
     let none = sym (c .before .before .lacks-need .ensures) ∙ c .before .if2 .left in
-    let t = c .before .before .before .if1 .taken in
-    let now = f ∙ ap (next (stepsOf P) (k .minute + 1)) (w .facts) ∙ held-tick (c .before .before .before .before .before .before .before .args .start) P (k .minute) in
-    (omega arith, watching-next (c .before .before .before .before .before .before .before .args .start) P k w none (c .tick .result) m now)
+    let t = c-if1 .taken in
+    let now = f ∙ ap (next (stepsOf P) (k .minute + 1)) (w .facts) ∙ held-tick (c-args .start) P (k .minute) in
+    (omega arith, watching-next (c-args .start) P k w none (c .tick .result) m now)
 
 returns-2 : tie.Need-returns-2 Inv-loop μ-loop
 returns-2 c =
-    let P = c .before .before .before .before .args .plan in
-    let k = c .before .before .loop .clock in
-    let w = c .before .before .loop .inv .1 in
-    let last = c .before .before .before .before .pre .1 in
+    let c-args = c .before .before .before .before .args in
+    let c-pre = c .before .before .before .before .pre in
+    let c-loop = c .before .before .loop in
+    let P = c-args .plan in
+    let k = c-loop .clock in
+    let w = c-loop .inv .1 in
+    let last = c-pre .1 in
     let t = c .if1 .left in
-    let none = watching-end (c .before .before .before .before .args .start) P k w (omega arith) (c .before .before .before .before .pre .2) in
-    let clock = watching-clock (c .before .before .before .before .args .start) P k w (omega arith) in
-    λ J e. rw (missing (c .before .before .before .before .args .start) P J e ∙ none) (ap Done clock)
+    let none = watching-end (c-args .start) P k w (omega arith) (c-pre .2) in
+    let clock = watching-clock (c-args .start) P k w (omega arith) in
+    λ J e. rw (missing (c-args .start) P J e ∙ none) (ap Done clock)
 
 pub watch-spec : {M : Type 1} → statement M
 watch-spec =

@@ -22,7 +22,9 @@ div-result c = search needs
 
 returns : tie.Need-returns
 unfolding missized
-returns c = rw (c .before .before .before .before .before .before .before .action-size .ensures)
+returns c =
+    let c-action-size = c .before .before .before .before .before .before .before .action-size in
+    rw (c-action-size .ensures)
 
 pub missized-spec : {M : Type 1} → statement M
 missized-spec =

@@ -57,16 +57,22 @@ read-number-requires-4 c κs = search needs
 returns : tie.Need-returns
 unfolding actionOf
 returns c =
-    let a = c .before .before .before .before .before .before .before .before .before .args in
+    let at8 = c .before .before .before .before .before .before .before .before in
+    let c-args = at8 .before .args in
+    let c-pre = at8 .before .pre in
+    let c-amounts = c .before .before .before .before .before .before .amounts in
+    let c-amounts2 = c .before .before .before .before .amounts2 in
+    let c-read-number = c .before .before .before .read-number in
+    let a = c-args in
     let p : (25 + 4 * a .pools) - 25 ≡ 4 * a .pools = omega arith in
-    let q : length (a .bytes .now) - (25 + 4 * a .pools) ≡ 4 * a .stores = omega (arith, c .before .before .before .before .before .before .before .before .before .pre) in
+    let q : length (a .bytes .now) - (25 + 4 * a .pools) ≡ 4 * a .stores = omega (arith, c-pre) in
     rw (
-      c .before .before .before .read-number .ensures .0,
+      c-read-number .ensures .0,
       c .before .before .read-number2 .ensures .0,
       c .before .read-number3 .ensures .0,
       c .read-number4 .ensures .0,
-      c .before .before .before .before .before .before .amounts .ensures,
-      c .before .before .before .before .amounts2 .ensures,
+      c-amounts .ensures,
+      c-amounts2 .ensures,
       p,
       q,
     )

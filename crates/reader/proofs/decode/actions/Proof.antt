@@ -40,7 +40,8 @@ unused-requires c κs = search needs
 
 loop-holds : tie.Need-loop-holds Inv-loop μ-loop
 loop-holds c =
-    let a = c .before .before .before .args in (
+    let c-args = c .before .before .before .args in
+    let a = c-args in (
       omega arith,
       rw (c .unused .ensures)
           (sym (filled-none 64 unusedAction actionValue (piece (a .bytes .now) (a .pools) (a .stores)))),
@@ -48,12 +49,16 @@ loop-holds c =
 
 mul-at : tie.Need-mul-at Inv-loop μ-loop
 mul-at c =
-    let w = piece-within (length (c .before .before .before .before .before .args .bytes .now)) (c .before .before .before .action-size .result) (c .before .loop .i) (c .loop-test .taken) in
+    let c-args = c .before .before .before .before .before .args in
+    let c-action-size = c .before .before .before .action-size in
+    let w = piece-within (length (c-args .bytes .now)) (c-action-size .result) (c .before .loop .i) (c .loop-test .taken) in
     omega arith
 
 add-next : tie.Need-add-next Inv-loop μ-loop
 add-next c =
-    let w = piece-within (length (c .before .before .before .before .before .args .bytes .now)) (c .before .before .before .action-size .result) (c .before .loop .i) (c .loop-test .taken) in
+    let c-args = c .before .before .before .before .before .args in
+    let c-action-size = c .before .before .before .action-size in
+    let w = piece-within (length (c-args .bytes .now)) (c-action-size .result) (c .before .loop .i) (c .loop-test .taken) in
     omega arith
 
 sub-action : tie.Need-sub-action Inv-loop μ-loop
@@ -64,25 +69,33 @@ part-action-start c = search needs
 
 part-action-end : tie.Need-part-action-end Inv-loop μ-loop
 part-action-end c =
-    let w = piece-within (length (c .before .before .before .before .before .args .bytes .now)) (c .before .before .before .action-size .result) (c .before .loop .i) (c .loop-test .taken) in
+    let c-args = c .before .before .before .before .before .args in
+    let c-action-size = c .before .before .before .action-size in
+    let w = piece-within (length (c-args .bytes .now)) (c-action-size .result) (c .before .loop .i) (c .loop-test .taken) in
     omega arith
 
 action-requires : tie.Need-action-requires Inv-loop μ-loop
 action-requires c κs =
-    let a = c .before .before .before .before .before .before .args in
-    let s = c .before .before .before .before .action-size .result in
+    let c-args = c .before .before .before .before .before .before .args in
+    let c-pre = c .before .before .before .before .before .before .pre in
+    let c-action-size = c .before .before .before .before .action-size in
+    let a = c-args in
+    let s = c-action-size .result in
     let i = c .before .before .loop .i in
     let d : (i * s + s) - i * s ≡ s = omega arith in
     let w = piece-within (length (a .bytes .now)) s i (c .before .loop-test .taken) in
-    (c .before .before .before .before .before .before .pre .0, c .before .before .before .before .before .before .pre .1, rw d (length-part (a .bytes .now) (i * s) s w ∙ c .before .before .before .before .action-size .ensures))
+    (c-pre .0, c-pre .1, rw d (length-part (a .bytes .now) (i * s) s w ∙ c-action-size .ensures))
 
 mul-out : tie.Need-mul-out Inv-loop μ-loop
 mul-out c = search needs
 
 array-set-from-out : tie.Need-array-set-from-out Inv-loop μ-loop
 array-set-from-out c =
-    let q = ap (λ (k : ℕ). length (c .before .before .before .before .before .before .before .args .bytes .now) / k) (c .before .before .before .before .before .action-size .ensures) in
-    let h = c .before .before .before .before .before .before .before .pre .2 in
+    let c-args = c .before .before .before .before .before .before .before .args in
+    let c-pre = c .before .before .before .before .before .before .before .pre in
+    let c-action-size = c .before .before .before .before .before .action-size in
+    let q = ap (λ (k : ℕ). length (c-args .bytes .now) / k) (c-action-size .ensures) in
+    let h = c-pre .2 in
     let t = c .before .before .loop-test .taken in
     omega arith
 
@@ -91,29 +104,37 @@ add-i c = let t = c .before .before .loop-test .taken in omega arith
 
 loop-less : tie.Need-loop-less Inv-loop μ-loop
 loop-less c =
-    let q = ap (λ (k : ℕ). length (c .before .before .before .before .before .before .before .args .bytes .now) / k) (c .before .before .before .before .before .action-size .ensures) in
+    let c-args = c .before .before .before .before .before .before .before .args in
+    let c-action-size = c .before .before .before .before .before .action-size in
+    let q = ap (λ (k : ℕ). length (c-args .bytes .now) / k) (c-action-size .ensures) in
     let t = c .before .before .loop-test .taken in
     omega arith
 
 loop-again : tie.Need-loop-again Inv-loop μ-loop
 loop-again c =
-    let a = c .before .before .before .before .before .before .before .args in
-    let s = c .before .before .before .before .before .action-size .result in
-    let l = c .before .before .before .loop in
+    let c-args = c .before .before .before .before .before .before .before .args in
+    let c-pre = c .before .before .before .before .before .before .before .pre in
+    let c-action-size = c .before .before .before .before .before .action-size in
+    let c-loop = c .before .before .before .loop in
+    let a = c-args in
+    let s = c-action-size .result in
+    let l = c-loop in
     let d : (l .i * s + s) - l .i * s ≡ s = omega arith in
-    let q = ap (λ (k : ℕ). length (a .bytes .now) / k) (c .before .before .before .before .before .action-size .ensures) in
-    let h = c .before .before .before .before .before .before .before .pre .2 in
+    let q = ap (λ (k : ℕ). length (a .bytes .now) / k) (c-action-size .ensures) in
+    let h = c-pre .2 in
     let t = c .before .before .loop-test .taken in (
       omega arith,
-      rw (l .inv .1, c .action .ensures, d, c .before .before .before .before .before .action-size .ensures)
+      rw (l .inv .1, c .action .ensures, d, c-action-size .ensures)
           (filled-next 64 unusedAction actionValue (piece (a .bytes .now) (a .pools) (a .stores)) (l .i) (omega arith)),
     )
 
 returns : tie.Need-returns Inv-loop μ-loop
 returns c =
-    let a = c .before .before .before .before .before .args in
+    let c-args = c .before .before .before .before .before .args in
+    let c-action-size = c .before .before .before .action-size in
+    let a = c-args in
     let l = c .before .loop in
-    let q = ap (λ (k : ℕ). length (a .bytes .now) / k) (c .before .before .before .action-size .ensures) in
+    let q = ap (λ (k : ℕ). length (a .bytes .now) / k) (c-action-size .ensures) in
     let t = c .loop-test .left in
     let e : l .i ≡ length (a .bytes .now) / actionSize (a .pools) (a .stores) = omega arith in
     rw e at (l .inv .1)

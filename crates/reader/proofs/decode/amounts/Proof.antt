@@ -44,7 +44,8 @@ loop-less c = omega arith
 
 loop-again : tie.Need-loop-again Inv-loop μ-loop
 loop-again c =
-    let bytes = c .before .before .before .before .args .bytes .now in
+    let c-args = c .before .before .before .before .args in
+    let bytes = c-args .bytes .now in
     let l = c .before .before .loop in (
       omega arith,
       rw (l .inv .1, c .read-number .ensures .0)
@@ -53,8 +54,9 @@ loop-again c =
 
 returns : tie.Need-returns Inv-loop μ-loop
 returns c =
+    let c-args = c .before .before .before .args in
     let l = c .before .loop in
-    let e : l .i ≡ length (c .before .before .before .args .bytes .now) / 4 = omega arith in
+    let e : l .i ≡ length (c-args .bytes .now) / 4 = omega arith in
     rw e at (l .inv .1)
 
 pub amounts-spec : {M : Type 1} → statement M

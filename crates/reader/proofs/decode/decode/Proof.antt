@@ -42,15 +42,20 @@ read-number-requires-4 c κs = search needs
 returns : tie.Need-returns
 unfolding jobOf
 returns c =
+    let c-action-size = c .before .before .before .before .before .before .before .action-size in
+    let c-amounts = c .before .before .before .before .before .before .amounts in
+    let c-amounts2 = c .before .before .before .before .before .amounts2 in
+    let c-actions = c .before .before .before .before .actions in
+    let c-read-number = c .before .before .before .read-number in
     rw (
-      c .before .before .before .read-number .ensures .0,
+      c-read-number .ensures .0,
       c .before .before .read-number2 .ensures .0,
       c .before .read-number3 .ensures .0,
       c .read-number4 .ensures .0,
-      c .before .before .before .before .before .before .before .action-size .ensures,
-      c .before .before .before .before .before .before .amounts .ensures,
-      c .before .before .before .before .before .amounts2 .ensures,
-      c .before .before .before .before .actions .ensures,
+      c-action-size .ensures,
+      c-amounts .ensures,
+      c-amounts2 .ensures,
+      c-actions .ensures,
     )
     (simp length-tabulate)
 

@@ -55,20 +55,28 @@ same-length c = search needs
 
 returns : tie.Need-returns
 returns c =
-    let b8 = c .before .before .before .before .before .before .before .before in
-    let b16 = b8 .before .before .before .before .before .before .before .before in
-    let b24 = b16 .before .before .before .before .before .before .before .before in
-    let a = b24 .before .before .before .before .before .args in
-    let h = b24 .before .before .before .before .before .pre in
+    let at8 = c .before .before .before .before .before .before .before .before in
+    let at16 = at8 .before .before .before .before .before .before .before .before in
+    let at24 = at16 .before .before .before .before .before .before .before .before in
+    let c-args = at24 .before .before .before .before .before .args in
+    let c-pre = at24 .before .before .before .before .before .pre in
+    let c-wide8 = at16 .before .before .before .before .before .before .before .wide8 in
+    let c-write-number = at16 .before .before .before .before .before .before .write-number in
+    let c-write-number2 = at16 .before .before .write-number2 in
+    let c-write-number3 = at8 .before .before .before .before .before .before .write-number3 in
+    let c-write-number4 = at8 .before .before .write-number4 in
+    let c-amounts = c .before .before .before .before .before .before .amounts in
+    let a = c-args in
+    let h = c-pre in
     let n = length-tabulate (a .counts .pools) (λ k. getD (a .a .pools) k 0) in
     rw (
       c .before .before .amounts2 .ensures,
-      c .before .before .before .before .before .before .amounts .ensures,
-      b8 .before .before .write-number4 .ensures,
-      b8 .before .before .before .before .before .before .write-number3 .ensures,
-      b16 .before .before .write-number2 .ensures,
-      b16 .before .before .before .before .before .before .write-number .ensures,
-      b16 .before .before .before .before .before .before .before .wide8 .ensures,
+      c-amounts .ensures,
+      c-write-number4 .ensures,
+      c-write-number3 .ensures,
+      c-write-number2 .ensures,
+      c-write-number .ensures,
+      c-wide8 .ensures,
     )
     (write-action (a .out .now) (a .at) (actionIn (a .counts) (a .a)) (a .at + 25 + 4 * a .counts .pools) (omega arith)
     (omega arith))

@@ -39,23 +39,32 @@ element-copy-out-a c = omega arith
 
 mul-action : tie.Need-mul-action Inv-loop μ-loop
 mul-action c =
-    let a = c .before .before .before .before .before .before .before .args in
-    let h = c .before .before .before .before .before .before .before .pre .2 in
-    let w = piece-below (a .t4 .counts .actions) (a .size) (c .before .before .before .before .loop .i) (c .before .before .if1 .taken) in
+    let c-args = c .before .before .before .before .before .before .before .args in
+    let c-pre = c .before .before .before .before .before .before .before .pre in
+    let c-loop = c .before .before .before .before .loop in
+    let a = c-args in
+    let h = c-pre .2 in
+    let w = piece-below (a .t4 .counts .actions) (a .size) (c-loop .i) (c .before .before .if1 .taken) in
     omega arith
 
 add-action : tie.Need-add-action Inv-loop μ-loop
 add-action c =
-    let a = c .before .before .before .before .before .before .before .args in
-    let h = c .before .before .before .before .before .before .before .pre .2 in
-    let w = piece-below (a .t4 .counts .actions) (a .size) (c .before .before .before .before .loop .i) (c .before .before .if1 .taken) in
+    let c-args = c .before .before .before .before .before .before .before .args in
+    let c-pre = c .before .before .before .before .before .before .before .pre in
+    let c-loop = c .before .before .before .before .loop in
+    let a = c-args in
+    let h = c-pre .2 in
+    let w = piece-below (a .t4 .counts .actions) (a .size) (c-loop .i) (c .before .before .if1 .taken) in
     omega arith
 
 action-requires : tie.Need-action-requires Inv-loop μ-loop
 action-requires c κs =
-    let a = c .before .before .before .before .before .before .before .args in
-    let h = c .before .before .before .before .before .before .before .pre in
-    let w = piece-below (a .t4 .counts .actions) (a .size) (c .before .before .before .before .loop .i) (c .before .before .if1 .taken) in
+    let c-args = c .before .before .before .before .before .before .before .args in
+    let c-pre = c .before .before .before .before .before .before .before .pre in
+    let c-loop = c .before .before .before .before .loop in
+    let a = c-args in
+    let h = c-pre in
+    let w = piece-below (a .t4 .counts .actions) (a .size) (c-loop .i) (c .before .before .if1 .taken) in
     (h .0, omega arith)
 
 add-i : tie.Need-add-i Inv-loop μ-loop
@@ -66,15 +75,20 @@ loop-less c = omega arith
 
 loop-again : tie.Need-loop-again Inv-loop μ-loop
 loop-again c =
-    let b8 = c .before .before .before .before .before .before .before .before in
-    let a = b8 .before .before .args in
-    let l = c .before .before .before .before .before .before .before .loop in
-    let h = b8 .before .before .pre in
-    let w = piece-below (a .t4 .counts .actions) (a .size) (l .i) (c .before .before .before .before .before .if1 .taken) in
-    let k = c .before .before .action .kept .0 in
+    let at8 = c .before .before .before .before .before .before .before .before in
+    let c-args = at8 .before .before .args in
+    let c-pre = at8 .before .before .pre in
+    let c-loop = c .before .before .before .before .before .before .before .loop in
+    let c-if1 = c .before .before .before .before .before .if1 in
+    let c-action = c .before .before .action in
+    let a = c-args in
+    let l = c-loop in
+    let h = c-pre in
+    let w = piece-below (a .t4 .counts .actions) (a .size) (l .i) (c-if1 .taken) in
+    let k = c-action .kept .0 in
     let z = actionSize (a .t4 .counts .pools) (a .t4 .counts .stores) in (
       omega arith,
-      rw (c .before .before .action .ensures, l .inv .1)
+      rw (c-action .ensures, l .inv .1)
           (pieces-more actionBytes (actionAt (a .t4)) z (length-action-at (a .t4)) (a .out .now) (a .at) (l .i)
           (a .at + l .i * a .size) (rw (h .1)) (omega arith)),
       omega arith,
@@ -85,8 +99,10 @@ same-length c = c .before .before .loop .inv .2
 
 returns : tie.Need-returns Inv-loop μ-loop
 returns c =
-    let e : c .before .before .loop .i ≡ c .before .before .before .before .before .args .t4 .counts .actions = omega arith in
-    rw e at (c .before .before .loop .inv .1)
+    let c-args = c .before .before .before .before .before .args in
+    let c-loop = c .before .before .loop in
+    let e : c-loop .i ≡ c-args .t4 .counts .actions = omega arith in
+    rw e at (c-loop .inv .1)
 
 pub actions-spec : {M : Type 1} → statement M
 actions-spec =

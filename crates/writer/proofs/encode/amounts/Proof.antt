@@ -51,12 +51,16 @@ loop-less c = omega arith
 
 loop-again : tie.Need-loop-again Inv-loop μ-loop
 loop-again c =
-    let l = c .before .before .before .before .before .before .loop in
-    let a = c .before .before .before .before .before .before .before .before .args in
+    let c-args = c .before .before .before .before .before .before .before .before .args in
+    let c-loop = c .before .before .before .before .before .before .loop in
+    let c-wide32 = c .before .before .before .wide32 in
+    let c-write-number = c .before .before .write-number in
+    let l = c-loop in
+    let a = c-args in
     let f : ℕ → ℕ = λ k. getD (a .t3) k 0 in
-    let k = c .before .before .write-number .kept .0 in (
+    let k = c-write-number .kept .0 in (
       omega arith,
-      rw (c .before .before .write-number .ensures, c .before .before .before .wide32 .ensures, l .inv .1)
+      rw (c-write-number .ensures, c-wide32 .ensures, l .inv .1)
           (pieces-more (toBytes 4) f 4 (λ k. length-bytes 4 (f k)) (a .out .now) (a .at) (l .i) (a .at + 4 * l .i) (omega arith)
           (omega arith)),
       omega arith,
@@ -67,8 +71,10 @@ same-length c = c .before .loop .inv .2
 
 returns : tie.Need-returns Inv-loop μ-loop
 returns c =
-    let e : c .before .loop .i ≡ c .before .before .before .args .n = omega arith in
-    rw e at (c .before .loop .inv .1)
+    let c-args = c .before .before .before .args in
+    let c-loop = c .before .loop in
+    let e : c-loop .i ≡ c-args .n = omega arith in
+    rw e at (c-loop .inv .1)
 
 pub amounts-spec : {M : Type 1} → statement M
 amounts-spec =

@@ -32,8 +32,10 @@ mul-stores c = omega arith
 
 mul-actions : tie.Need-mul-actions Inv-loop μ-loop
 mul-actions c =
-    let h = c .before .before .before .before .before .pre in
-    let w = few-action-bytes (c .before .before .before .before .before .args .job .counts) (h .0) in
+    let c-pre = c .before .before .before .before .before .pre in
+    let c-args = c .before .before .before .before .before .args in
+    let h = c-pre in
+    let w = few-action-bytes (c-args .job .counts) (h .0) in
     rw (h .1) (omega arith)
 
 add-second : tie.Need-add-second Inv-loop μ-loop
@@ -47,9 +49,10 @@ add-t13 c = omega arith
 
 loop-holds : tie.Need-loop-holds Inv-loop μ-loop
 loop-holds c =
-    let n = c .before .before .before .before .before .args .job .counts in
-    let f : ℕ → ℕ = λ k. getD (contentsOf (4 * n .pools) (4 * n .stores) (n .actions * c .before .before .before .before .before .args .size)) k 0 in
-    (omega arith, pieces-none (toBytes 2) f 2 (λ k. length-bytes 2 (f k)) (c .before .before .before .before .before .args .out .now) 0, refl)
+    let c-args = c .before .before .before .before .before .args in
+    let n = c-args .job .counts in
+    let f : ℕ → ℕ = λ k. getD (contentsOf (4 * n .pools) (4 * n .stores) (n .actions * c-args .size)) k 0 in
+    (omega arith, pieces-none (toBytes 2) f 2 (λ k. length-bytes 2 (f k)) (c-args .out .now) 0, refl)
 
 mul-write-number : tie.Need-mul-write-number Inv-loop μ-loop
 mul-write-number c = omega arith
@@ -71,14 +74,17 @@ loop-less c = omega arith
 
 loop-again : tie.Need-loop-again Inv-loop μ-loop
 loop-again c =
-    let b8 = c .before .before .before .before .before .before .before .before in
-    let l = c .before .before .before .before .before .loop in
-    let n = b8 .before .before .before .args .job .counts in
-    let f : ℕ → ℕ = λ k. getD (contentsOf (4 * n .pools) (4 * n .stores) (n .actions * b8 .before .before .before .args .size)) k 0 in
-    let k = c .before .before .write-number .kept .0 in (
+    let at8 = c .before .before .before .before .before .before .before .before in
+    let c-args = at8 .before .before .before .args in
+    let c-loop = c .before .before .before .before .before .loop in
+    let c-write-number = c .before .before .write-number in
+    let l = c-loop in
+    let n = c-args .job .counts in
+    let f : ℕ → ℕ = λ k. getD (contentsOf (4 * n .pools) (4 * n .stores) (n .actions * c-args .size)) k 0 in
+    let k = c-write-number .kept .0 in (
       omega arith,
-      rw (c .before .before .write-number .ensures, l .inv .1)
-          (pieces-more (toBytes 2) f 2 (λ k. length-bytes 2 (f k)) (b8 .before .before .before .args .out .now) 0 (l .k) (l .k * 2) (omega arith)
+      rw (c-write-number .ensures, l .inv .1)
+          (pieces-more (toBytes 2) f 2 (λ k. length-bytes 2 (f k)) (c-args .out .now) 0 (l .k) (l .k * 2) (omega arith)
           (omega arith)),
       omega arith,
     )
@@ -89,16 +95,19 @@ same-length c = c .before .loop .inv .2
 returns : tie.Need-returns Inv-loop μ-loop
 unfolding tabulate
 returns c =
-    let j = c .before .before .before .before .before .before .before .args .job in
-    let s = c .before .before .before .before .before .before .before .args .size in
-    let e : c .before .loop .k ≡ 8 = omega arith in
+    let c-args = c .before .before .before .before .before .before .before .args in
+    let c-pre = c .before .before .before .before .before .before .before .pre in
+    let c-loop = c .before .loop in
+    let j = c-args .job in
+    let s = c-args .size in
+    let e : c-loop .k ≡ 8 = omega arith in
     let lp = length-tabulate (j .counts .pools) (λ k. getD (j .pools) k 0) in
     let ls = length-tabulate (j .counts .stores) (λ k. getD (j .stores) k 0) in
-    let la = length-pieces actionBytes (actionAt j) s (rw (c .before .before .before .before .before .before .before .pre .1) (length-action-at j)) (j .counts .actions) in
+    let la = length-pieces actionBytes (actionAt j) s (rw (c-pre .1) (length-action-at j)) (j .counts .actions) in
     let numbers =
     contents-of (jobIn j) (4 * j .counts .pools) (4 * j .counts .stores) (j .counts .actions * s) (omega arith)
     (omega arith) la in
-    (rw e at (c .before .loop .inv .1)) ∙ ap (λ (ns : List ℕ). overwrite (c .before .before .before .before .before .before .before .args .out .now) 0 (joined (toBytes 2) ns)) (sym numbers)
+    (rw e at (c-loop .inv .1)) ∙ ap (λ (ns : List ℕ). overwrite (c-args .out .now) 0 (joined (toBytes 2) ns)) (sym numbers)
 
 pub contents-spec : {M : Type 1} → statement M
 contents-spec =

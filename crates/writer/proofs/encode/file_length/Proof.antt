@@ -27,14 +27,20 @@ add-result-2 c = search needs
 
 mul-result : tie.Need-mul-result
 mul-result c =
-    let w = few-action-bytes (c .before .before .before .before .before .args .job .counts) (c .before .before .before .before .before .pre) in
-    rw (c .before .before .before .action-size .ensures) (omega arith)
+    let c-args = c .before .before .before .before .before .args in
+    let c-pre = c .before .before .before .before .before .pre in
+    let c-action-size = c .before .before .before .action-size in
+    let w = few-action-bytes (c-args .job .counts) (c-pre) in
+    rw (c-action-size .ensures) (omega arith)
 
 add-result-3 : tie.Need-add-result-3
 add-result-3 c =
-    let w = few-action-bytes (c .before .before .before .before .before .args .job .counts) (c .before .before .before .before .before .pre) in
-    let h = c .before .before .before .before .before .pre in
-    rw (c .before .before .before .action-size .ensures) (omega arith)
+    let c-args = c .before .before .before .before .before .args in
+    let c-pre = c .before .before .before .before .before .pre in
+    let c-action-size = c .before .before .before .action-size in
+    let w = few-action-bytes (c-args .job .counts) (c-pre) in
+    let h = c-pre in
+    rw (c-action-size .ensures) (omega arith)
 
 returns : tie.Need-returns
 returns c = rw (c .before .before .before .action-size .ensures, length-file-in) (omega arith)

@@ -30,18 +30,25 @@ same-length c = search needs
 
 returns : tie.Need-returns
 returns c =
-    let b8 = c .before .before .before .before .before .before .before .before in
-    let b16 = b8 .before .before .before .before .before .before .before .before in
-    let h = b16 .before .before .before .pre in
+    let at8 = c .before .before .before .before .before .before .before .before in
+    let at16 = at8 .before .before .before .before .before .before .before .before in
+    let c-pre = at16 .before .before .before .pre in
+    let c-args = at16 .before .before .before .args in
+    let c-wide8 = at16 .wide8 in
+    let c-write-number = at8 .before .before .before .before .before .before .before .write-number in
+    let c-wide16 = at8 .before .before .before .wide16 in
+    let c-write-number2 = at8 .before .before .write-number2 in
+    let c-write-number3 = c .before .before .before .before .before .before .write-number3 in
+    let h = c-pre in
     rw (
       c .before .before .write-number4 .ensures,
-      c .before .before .before .before .before .before .write-number3 .ensures,
-      b8 .before .before .write-number2 .ensures,
-      b8 .before .before .before .wide16 .ensures,
-      b8 .before .before .before .before .before .before .before .write-number .ensures,
-      b16 .wide8 .ensures,
+      c-write-number3 .ensures,
+      c-write-number2 .ensures,
+      c-wide16 .ensures,
+      c-write-number .ensures,
+      c-wide8 .ensures,
     )
-    (write-head (b16 .before .before .before .args .out .now) (jobIn (b16 .before .before .before .args .job)) (omega arith))
+    (write-head (c-args .out .now) (jobIn (c-args .job)) (omega arith))
 
 pub head-spec : {M : Type 1} → statement M
 head-spec =
