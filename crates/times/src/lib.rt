@@ -1,0 +1,1 @@
+// Earliest times: definitions in specs/, their laws in proofs/.
