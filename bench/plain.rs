@@ -1,0 +1,230 @@
+//! Plain Rust versions of the reader, the writer and the checker, written for speed and from the document alone. The
+//! benchmark compares the proved calls with these, and their answers with each other.
+
+#[derive(Clone, Copy, Default)]
+pub struct Action {
+    pub duration: u8,
+    pub needs: u64,
+    pub adds: u64,
+    pub deletes: u64,
+    pub pools: [u32; 4],
+    pub stores: [u32; 4],
+}
+
+pub struct Job {
+    pub facts: u8,
+    pub deadline: u16,
+    pub start: u64,
+    pub goal: u64,
+    pub pools: usize,
+    pub stores: usize,
+    pub pool: [u32; 4],
+    pub store: [u32; 4],
+    pub actions: Vec<Action>,
+}
+
+fn u16_at(b: &[u8], at: usize) -> usize {
+    u16::from_le_bytes([b[at], b[at + 1]]) as usize
+}
+
+fn u32_at(b: &[u8], at: usize) -> u32 {
+    u32::from_le_bytes(b[at..at + 4].try_into().unwrap())
+}
+
+fn u64_at(b: &[u8], at: usize) -> u64 {
+    u64::from_le_bytes(b[at..at + 8].try_into().unwrap())
+}
+
+fn amounts(b: &[u8]) -> [u32; 4] {
+    let mut out = [0; 4];
+    for (k, x) in b.chunks_exact(4).enumerate() {
+        out[k] = u32_at(x, 0);
+    }
+    out
+}
+
+fn foreign(facts: u8, set: u64) -> bool {
+    facts < 64 && set >> facts != 0
+}
+
+pub fn read(b: &[u8]) -> Result<Job, u64> {
+    if b.len() < 16 || b.len() > 4096 {
+        return Err(1);
+    }
+    let mut at = 16;
+    let mut size = [0; 4];
+    for k in 0..4 {
+        if u16_at(b, 4 * k) != at {
+            return Err(2);
+        }
+        size[k] = u16_at(b, 4 * k + 2);
+        at += size[k];
+    }
+    if at != b.len() {
+        return Err(2);
+    }
+    let (pools, stores) = (size[1] / 4, size[2] / 4);
+    let one = 25 + 4 * pools + 4 * stores;
+    if size[0] != 19 || size[1] % 4 != 0 || size[1] > 16 || size[2] % 4 != 0 || size[2] > 16 {
+        return Err(3);
+    }
+    if size[3] % one != 0 || size[3] / one > 64 {
+        return Err(3);
+    }
+    let head = &b[16..35];
+    let pool_at = 35;
+    let store_at = pool_at + size[1];
+    let action_at = store_at + size[2];
+    let job = Job {
+        facts: head[0],
+        deadline: u16_at(head, 1) as u16,
+        start: u64_at(head, 3),
+        goal: u64_at(head, 11),
+        pools,
+        stores,
+        pool: amounts(&b[pool_at..store_at]),
+        store: amounts(&b[store_at..action_at]),
+        actions: b[action_at..]
+            .chunks_exact(one)
+            .map(|x| Action {
+                duration: x[0],
+                needs: u64_at(x, 1),
+                adds: u64_at(x, 9),
+                deletes: u64_at(x, 17),
+                pools: amounts(&x[25..25 + 4 * pools]),
+                stores: amounts(&x[25 + 4 * pools..]),
+            })
+            .collect(),
+    };
+    validate(&job)?;
+    Ok(job)
+}
+
+fn validate(j: &Job) -> Result<(), u64> {
+    if j.facts > 64 {
+        return Err(4);
+    }
+    if j.deadline > 1440 {
+        return Err(5);
+    }
+    if foreign(j.facts, j.start | j.goal) {
+        return Err(6);
+    }
+    if j.pool.iter().chain(&j.store).any(|&x| x > 1_000_000) {
+        return Err(7);
+    }
+    if j.actions.iter().any(|a| a.duration == 0) {
+        return Err(8);
+    }
+    if j.actions.iter().any(|a| foreign(j.facts, a.needs | a.adds | a.deletes)) {
+        return Err(9);
+    }
+    if j.actions.iter().any(|a| a.adds & a.deletes != 0) {
+        return Err(10);
+    }
+    if j.actions.iter().any(|a| a.pools.iter().chain(&a.stores).any(|&x| x > 1_000_000)) {
+        return Err(11);
+    }
+    Ok(())
+}
+
+pub fn write(j: &Job, out: &mut [u8]) -> Result<usize, u64> {
+    validate(j)?;
+    let one = 25 + 4 * j.pools + 4 * j.stores;
+    let sizes = [19, 4 * j.pools, 4 * j.stores, j.actions.len() * one];
+    let length = 16 + sizes.iter().sum::<usize>();
+    if out.len() < length {
+        return Err(23);
+    }
+    let mut at = 16;
+    for k in 0..4 {
+        out[4 * k..4 * k + 2].copy_from_slice(&(at as u16).to_le_bytes());
+        out[4 * k + 2..4 * k + 4].copy_from_slice(&(sizes[k] as u16).to_le_bytes());
+        at += sizes[k];
+    }
+    out[16] = j.facts;
+    out[17..19].copy_from_slice(&j.deadline.to_le_bytes());
+    out[19..27].copy_from_slice(&j.start.to_le_bytes());
+    out[27..35].copy_from_slice(&j.goal.to_le_bytes());
+    let mut at = 35;
+    let mut amounts = |out: &mut [u8], at: &mut usize, xs: &[u32]| {
+        for x in xs {
+            out[*at..*at + 4].copy_from_slice(&x.to_le_bytes());
+            *at += 4;
+        }
+    };
+    amounts(out, &mut at, &j.pool[..j.pools]);
+    amounts(out, &mut at, &j.store[..j.stores]);
+    for a in &j.actions {
+        out[at] = a.duration;
+        out[at + 1..at + 9].copy_from_slice(&a.needs.to_le_bytes());
+        out[at + 9..at + 17].copy_from_slice(&a.adds.to_le_bytes());
+        out[at + 17..at + 25].copy_from_slice(&a.deletes.to_le_bytes());
+        at += 25;
+        amounts(out, &mut at, &a.pools[..j.pools]);
+        amounts(out, &mut at, &a.stores[..j.stores]);
+    }
+    Ok(length)
+}
+
+/// The plan's end, or the refusal: minute by minute, as the document describes it.
+pub fn check(j: &Job, plan: &[u8]) -> Result<u64, u64> {
+    if plan.len() % 3 != 0 || plan.len() > 96 {
+        return Err(12);
+    }
+    let steps: Vec<(usize, u32, u32, &Action)> = match plan
+        .chunks_exact(3)
+        .map(|x| {
+            let n = x[0] as usize;
+            let start = u16_at(x, 1) as u32;
+            j.actions.get(n).map(|a| (n, start, start + a.duration as u32, a))
+        })
+        .collect::<Option<Vec<_>>>()
+    {
+        Some(s) => s,
+        None => return Err(13),
+    };
+    if steps.windows(2).any(|w| (w[0].1, w[0].0) >= (w[1].1, w[1].0)) {
+        return Err(14);
+    }
+    if steps.iter().any(|s| s.2 > j.deadline as u32) {
+        return Err(15);
+    }
+    let hinders = |a: &Action, b: &Action| a.deletes & (b.needs | b.adds) != 0;
+    for (i, x) in steps.iter().enumerate() {
+        for y in &steps[..i] {
+            if x.1 < y.2 && y.1 < x.2 && (x.0 == y.0 || hinders(x.3, y.3) || hinders(y.3, x.3)) {
+                return Err(16);
+            }
+        }
+    }
+    let end = steps.iter().map(|s| s.2).max().unwrap_or(0);
+    for t in 0..end {
+        for k in 0..j.pools {
+            let used: u64 = steps.iter().filter(|s| s.1 <= t && t < s.2).map(|s| s.3.pools[k] as u64).sum();
+            if used > j.pool[k] as u64 {
+                return Err(17);
+            }
+        }
+    }
+    for k in 0..j.stores {
+        if steps.iter().map(|s| s.3.stores[k] as u64).sum::<u64>() > j.store[k] as u64 {
+            return Err(18);
+        }
+    }
+    let mut held = j.start;
+    for t in 0..=end {
+        if t > 0 {
+            let ending = || steps.iter().filter(|s| s.2 == t);
+            held &= !ending().fold(0, |d, s| d | s.3.deletes);
+            held |= ending().fold(0, |d, s| d | s.3.adds);
+        }
+        if steps.iter().any(|s| s.1 == t && s.3.needs & !held != 0) {
+            return Err(19);
+        }
+    }
+    if j.goal & !held != 0 {
+        return Err(20);
+    }
+    Ok(end as u64)
+}
