@@ -1,6 +1,7 @@
 // Calls for the benchmark in bench/, which measures them beside plain Rust ones. Each answers one number.
 use checker::Checked;
-use job::refusal::{Verdict, number};
+use job::refusal::Verdict;
+use job::refusal::number;
 use jobfile::Written;
 
 // Reads a file: the number of its actions, or 1,000 and the refusal.

@@ -61,7 +61,8 @@ impl Clock {
     // One minute forward: what the steps ending then delete goes, and what they add comes.
     pub fn tick(mut self, plan: Plan) -> Clock
         requires { ⌜ (plan .length ≤ 32) × (self .minute < 4294967295) ⌝ }
-        ensures { λ r. ⌜ r ≡ record { minute = self .minute + 1; facts = next (stepsOf plan) (self .minute + 1) (self .facts) } ⌝ }
+        ensures { λ r. ⌜ r ≡
+            record { minute = self .minute + 1; facts = next (stepsOf plan) (self .minute + 1) (self .facts) } ⌝ }
     {
         self.minute += 1;
         let now = effects_at(plan, self.minute);

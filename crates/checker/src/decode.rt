@@ -31,7 +31,8 @@ pub fn size(bytes: &[u8]) -> Verdict
 
 // Test 13: every action is one of the job's.
 pub fn known_actions(job: Job, bytes: &[u8]) -> Verdict
-    ensures { λ r. ⌜ r ≡ first (UnknownAction when any (unknown (jobIn job)) (stepsIn (jobIn job) (now (bytes .entry))) ∷ []) ⌝ }
+    ensures { λ r. ⌜ r ≡
+        first (UnknownAction when any (unknown (jobIn job)) (stepsIn (jobIn job) (now (bytes .entry))) ∷ []) ⌝ }
 {
     let counts = job.counts;
     let mut i = 0;
@@ -63,7 +64,8 @@ fn step(job: Job, number: u8, start: u32) -> Step
 pub fn plan(job: Job, bytes: &[u8]) -> Plan
     requires { ⌜ Fits (job .counts) × (wrongSize (now bytes) ≡ false) ⌝ }
     requires { ⌜ any (unknown (jobIn job)) (stepsIn (jobIn job) (now bytes)) ≡ false ⌝ }
-    ensures { λ r. ⌜ (r .length ≤ 32) × (r .counts ≡ job .counts) × (stepsOf r ≡ stepsIn (jobIn job) (now (bytes .entry))) ⌝ }
+    ensures { λ r. ⌜ (r .length ≤ 32) × (r .counts ≡ job .counts)
+        × (stepsOf r ≡ stepsIn (jobIn job) (now (bytes .entry))) ⌝ }
 {
     let action = Action::unused();
     let unused = Step {

@@ -61,7 +61,8 @@ fn check_steps(plan: Plan, job: Job, goal: u64) -> Checked
 // Tests 12 to 20, of a job that passes 3 to 11.
 fn check_bytes(job: Job, goal: u64, bytes: &[u8]) -> Checked
     requires { ⌜ Valid job ⌝ }
-    ensures { λ r. ⌜ r ≡ checkedOf (first (planRows (jobIn job) goal (now (bytes .entry)))) (stepsIn (jobIn job) (now (bytes .entry))) ⌝ }
+    ensures { λ r. ⌜ r ≡ checkedOf (first (planRows (jobIn job) goal (now (bytes .entry))))
+        (stepsIn (jobIn job) (now (bytes .entry))) ⌝ }
 {
     let Verdict::Pass = decode::size(bytes) else {
         return Checked::Refused(Refusal::PlanSize);

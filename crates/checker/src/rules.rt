@@ -179,7 +179,8 @@ fn exceeds_pool(plan: Plan, pool: usize, available: u64) -> bool
 // Test 17: in each minute the running steps use no more of each pool than there is.
 pub fn pools(plan: Plan, job: Job) -> Verdict
     requires { ⌜ (plan .length ≤ 32) × (plan .counts ≡ job .counts) × Fits (job .counts) ⌝ }
-    ensures { λ r. ⌜ r ≡ first (PoolExceeded when anyBelow (length (jobIn job .pools)) (exceedsPool (jobIn job) (stepsOf plan)) ∷ []) ⌝ }
+    ensures { λ r. ⌜ r ≡ first
+        (PoolExceeded when anyBelow (length (jobIn job .pools)) (exceedsPool (jobIn job) (stepsOf plan)) ∷ []) ⌝ }
 {
     let counts = job.counts;
     let mut k = 0;
@@ -211,7 +212,8 @@ fn used_up(plan: Plan, store: usize) -> u64
 // Test 18: over the plan the steps use up no more of each store than there is.
 pub fn stores(plan: Plan, job: Job) -> Verdict
     requires { ⌜ (plan .length ≤ 32) × (plan .counts ≡ job .counts) × Fits (job .counts) ⌝ }
-    ensures { λ r. ⌜ r ≡ first (StoreExceeded when anyBelow (length (jobIn job .stores)) (exceedsStore (jobIn job) (stepsOf plan)) ∷ []) ⌝ }
+    ensures { λ r. ⌜ r ≡ first
+        (StoreExceeded when anyBelow (length (jobIn job .stores)) (exceedsStore (jobIn job) (stepsOf plan)) ∷ []) ⌝ }
 {
     let counts = job.counts;
     let mut k = 0;

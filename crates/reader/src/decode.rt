@@ -49,7 +49,8 @@ fn action(bytes: &[u8], pools: usize, stores: usize) -> Action
 // All actions of a job with so many pools and stores.
 fn actions(bytes: &[u8], pools: usize, stores: usize) -> [Action; Job::ACTIONS]
     requires { ⌜ (pools ≤ 4) × (stores ≤ 4) × (length (now bytes) / actionSize pools stores ≤ 64) ⌝ }
-    ensures { λ r. ⌜ r ≡ filled 64 unusedAction (map actionValue (split (actionSize pools stores) (actionOf pools stores) (now (bytes .entry)))) ⌝ }
+    ensures { λ r. ⌜ r ≡ filled 64 unusedAction
+        (map actionValue (split (actionSize pools stores) (actionOf pools stores) (now (bytes .entry)))) ⌝ }
 {
     let size = Layout::action_size(pools, stores);
     let count = bytes.len() / size;
@@ -70,7 +71,8 @@ pub fn decode(head: &[u8], pools: &[u8], stores: &[u8], actions_: &[u8]) -> Job
     requires { ⌜ length (now head) ≡ 19 ⌝ }
     requires { ⌜ (length (now pools) ≤ 16) × (length (now stores) ≤ 16) ⌝ }
     requires { ⌜ length (now «actions_») / actionSize (length (now pools) / 4) (length (now stores) / 4) ≤ 64 ⌝ }
-    ensures { λ r. ⌜ r ≡ jobValue (jobOf (now (head .entry)) (now (pools .entry)) (now (stores .entry)) (now («actions_» .entry))) ⌝ }
+    ensures { λ r. ⌜ r ≡ jobValue
+        (jobOf (now (head .entry)) (now (pools .entry)) (now (stores .entry)) (now («actions_» .entry))) ⌝ }
 {
     let counts = Counts {
         pools: pools.len() / Layout::AMOUNT,

@@ -48,22 +48,22 @@ addsBoth J T a p q = choice (has (a .adds) p && has (a .adds) q) (after (a .dura
 abbrev pub addsOne : Job → Table → Action → ℕ → ℕ → Time
 addsOne J T a p q =
     choice (has (a .adds) p && not (has (a .deletes) q))
-      (after (a .duration) (timeOf J T (union (a .needs) (single q))))
+    (after (a .duration) (timeOf J T (union (a .needs) (single q))))
 
 -- "(iii) Two different actions that don't clash add one fact each: with lengths s ≤ l, s plus the larger of (time of the
 -- longer one's needs, plus l − s) and the time of both needs together." a is the longer one.
 abbrev pub addsEach : Job → Table → Action → Action → ℕ → ℕ → Time
 addsEach J T a b p q =
     choice (leb (b .duration) (a .duration)
-      && ((has (a .adds) p && has (b .adds) q) || (has (a .adds) q && has (b .adds) p)))
+    && ((has (a .adds) p && has (b .adds) q) || (has (a .adds) q && has (b .adds) p)))
     (after (b .duration)
-      (later (after (a .duration - b .duration) (timeOf J T (a .needs))) (timeOf J T (union (a .needs) (b .needs)))))
+    (later (after (a .duration - b .duration) (timeOf J T (a .needs))) (timeOf J T (union (a .needs) (b .needs)))))
 
 -- by one action: (i), and for two facts (ii)
 abbrev pub byOne : Job → Table → ℕ → ℕ → Action → Time
 byOne J T p q a =
     choice (fitsAlone J a)
-      (earlier (addsBoth J T a p q) (choice (not (eqb p q)) (earlier (addsOne J T a p q) (addsOne J T a q p))))
+    (earlier (addsBoth J T a p q) (choice (not (eqb p q)) (earlier (addsOne J T a p q) (addsOne J T a q p))))
 
 -- by two different actions that don't clash: (iii)
 abbrev pub byTwo : Job → Table → ℕ → ℕ → ℕ → ℕ → Time
@@ -71,7 +71,7 @@ byTwo J T p q i j =
     let a = actionOf J i in
     let b = actionOf J j in
     choice (not (eqb p q) && (not (eqb i j) && (not (hinders a b || hinders b a) && fitTogether J a b)))
-      (addsEach J T a b p q)
+    (addsEach J T a b p q)
 
 -- the right side of the equation for facts p and q: "E inside the start set: 0. Otherwise the least over these choices."
 unfoldable pub rightSide : Job → Table → ℕ → ℕ → Time

@@ -33,8 +33,10 @@ fn wide32(x: u32) -> u64
 
 // The contents of the job's file, whose actions take `size` bytes each.
 pub fn contents(out: &mut [u8], job: Job, size: usize)
-    requires { ⌜ Fits (job .counts) × (size ≡ actionSize (job .counts .pools) (job .counts .stores)) × (16 ≤ length (now out)) ⌝ }
-    ensures { λ r. ⌜ now (out .exit) ≡ overwrite (now (out .entry)) 0 (joined (toBytes 2) (contents 16 (bodies (jobIn job)))) ⌝ }
+    requires { ⌜ Fits (job .counts) × (size ≡ actionSize (job .counts .pools) (job .counts .stores))
+        × (16 ≤ length (now out)) ⌝ }
+    ensures { λ r. ⌜ now (out .exit) ≡
+        overwrite (now (out .entry)) 0 (joined (toBytes 2) (contents 16 (bodies (jobIn job)))) ⌝ }
 {
     let counts = job.counts;
     let pools = Layout::AMOUNT * counts.pools;
@@ -102,7 +104,8 @@ fn action(out: &mut [u8], at: usize, counts: Counts, a: Action)
 
 // All actions of a job, of `size` bytes each, from place `at` on.
 pub fn actions(out: &mut [u8], at: usize, size: usize, job: Job)
-    requires { ⌜ Fits (job .counts) × (size ≡ actionSize (job .counts .pools) (job .counts .stores)) × (at + job .counts .actions * size ≤ length (now out)) ⌝ }
+    requires { ⌜ Fits (job .counts) × (size ≡ actionSize (job .counts .pools) (job .counts .stores))
+        × (at + job .counts .actions * size ≤ length (now out)) ⌝ }
     ensures { λ r. ⌜ now (out .exit) ≡ overwrite (now (out .entry)) at (joined actionBytes (jobIn job .actions)) ⌝ }
 {
     let counts = job.counts;
