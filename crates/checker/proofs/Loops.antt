@@ -111,7 +111,8 @@ module _ (at : ℕ → Step) where
   short-rising (suc (suc i)) l = absurd (omega arith)
 
   -- an order broken early is broken
-  pub rising-broken : (i n : ℕ) → i ≤ n → strictlyRising (tabulate i at) ≡ false → strictlyRising (tabulate n at) ≡ false
+  pub rising-broken : (i n : ℕ) → i ≤ n → strictlyRising (tabulate i at) ≡ false → strictlyRising (tabulate n at)
+      ≡ false
   rising-broken i zero l h = let e : i ≡ 0 = omega arith in rw e at h
   rising-broken i (suc zero) l h = short-rising 1 (omega arith) ∙ (sym (short-rising i l) ∙ h)
   rising-broken i (suc (suc n)) l h =
@@ -144,7 +145,8 @@ module _ (at : ℕ → Step) where
   largest-at f zero k h = absurd (omega arith)
   largest-at f (suc n) k h =
       let e : n + 1 ≡ suc n = omega arith in
-      let m : largest f (tabulate (suc n) at) ≡ max (largest f (tabulate n at)) (f (at n)) = rw e at (largest-more f n) in
+      let m : largest f (tabulate (suc n) at) ≡ max (largest f (tabulate n at)) (f (at n))
+      = rw e at (largest-more f n) in
       elim (decLt k n) [
         | yes l ↦ let i = largest-at f n k l in omega arith
         | no l ↦ let q : k ≡ n = omega arith in rw q (omega arith)

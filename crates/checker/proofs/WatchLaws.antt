@@ -49,7 +49,8 @@ module _ (start : ℕ) (plan : Plan) where
         any-at lacks (r .2) (lacks-now x e ∙ and-right (eqb (x .start) (clock .minute)) _ (r .3))
 
     pub watching-next : any (lacksAt clock) (stepsOf plan) ≡ false
-        → (next : Clock) → next .minute ≡ clock .minute + 1 → next .facts ≡ held start (stepsOf plan) (clock .minute + 1)
+        → (next : Clock) → next .minute ≡ clock .minute + 1 → next .facts
+        ≡ held start (stepsOf plan) (clock .minute + 1)
         → Watching next
     watching-next h next m f =
         record {
@@ -61,7 +62,8 @@ module _ (start : ℕ) (plan : Plan) where
                     let e : stepAt plan k .start ≡ clock .minute = omega arith in
                     let n = length-tabulate (plan .length) (stepAt plan) in
                     let all = any-none (lacksAt clock) (stepsOf plan) h in
-                    let here = each-at (λ x. lacksAt clock x ≡ false) (stepsOf plan) (stepAt plan k) all k (omega arith) in
+                    let here = each-at (λ x. lacksAt clock x ≡ false) (stepsOf plan) (stepAt plan k) all k
+                    (omega arith) in
                     let at : lacksAt clock (stepAt plan k) ≡ false
                     = rw (getD-tabulate (plan .length) (stepAt plan) k (stepAt plan k) l) at here in
                     lacks-now (stepAt plan k) e ∙ (rw (eq-eqb (stepAt plan k .start) (clock .minute) e) at at)
@@ -83,7 +85,8 @@ module _ (start : ℕ) (plan : Plan) where
       w .passed k h (omega arith)))
 
   -- one minute forward
-  pub held-tick : (t : ℕ) → next (stepsOf plan) (t + 1) (held start (stepsOf plan) t) ≡ held start (stepsOf plan) (t + 1)
+  pub held-tick : (t : ℕ) → next (stepsOf plan) (t + 1) (held start (stepsOf plan) t)
+      ≡ held start (stepsOf plan) (t + 1)
   held-tick t = rw (add-one t)
 
   -- the clock at the plan's end

@@ -41,6 +41,7 @@ number-lt (b ∷ bs) h =
     let i = number-lt bs (λ j. h (suc j)) in
     omega arith
 
-pub number-drop : (bs : List ℕ) (i : ℕ) → i < length bs → fromBytes (drop i bs) ≡ getD bs i 0 + 256 * fromBytes (drop (suc i) bs)
+pub number-drop : (bs : List ℕ) (i : ℕ) → i < length bs → fromBytes (drop i bs)
+    ≡ getD bs i 0 + 256 * fromBytes (drop (suc i) bs)
 unfolding fromBytes
 number-drop bs i h = rw (drop-cons bs i 0)

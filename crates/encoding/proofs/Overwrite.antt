@@ -18,9 +18,11 @@ overwrite-none xs at =
     let e : at + 0 ≡ at = omega arith in
     rw (append-nil (take at xs), e) (take-append-drop at xs)
 
-pub length-overwrite : (xs : List ℕ) (at : ℕ) (A : List ℕ) → at + length A ≤ length xs → length (overwrite xs at A) ≡ length xs
+pub length-overwrite : (xs : List ℕ) (at : ℕ) (A : List ℕ) → at + length A ≤ length xs → length (overwrite xs at A)
+    ≡ length xs
 unfolding overwrite
-length-overwrite xs at A h = let l = length-take-le at xs (omega arith) in simp (length-append, length-drop) (omega arith)
+length-overwrite xs at A h = let l = length-take-le at xs (omega arith) in simp (length-append, length-drop)
+    (omega arith)
 
 -- one after the other
 pub overwrite-overwrite : (xs : List ℕ) (at : ℕ) (A B : List ℕ) (next : ℕ) → next ≡ at + length A → next ≤ length xs
@@ -28,10 +30,12 @@ pub overwrite-overwrite : (xs : List ℕ) (at : ℕ) (A B : List ℕ) (next : �
 unfolding overwrite
 overwrite-overwrite xs at A B next e h =
     let P = take at xs ++ A in
-    let l : length P ≡ next = length-append (take at xs) A ∙ (let q = length-take-le at xs (omega arith) in omega arith) in
+    let l : length P ≡ next = length-append (take at xs) A
+    ∙ (let q = length-take-le at xs (omega arith) in omega arith) in
     let t : take next (overwrite xs at A) ≡ P = take-at P (drop (at + length A) xs) next l in
     let k : next + length B ≡ length P + length B = omega arith in
-    let d : drop (next + length B) (overwrite xs at A) ≡ drop (length B) (drop (at + length A) xs) = rw k (drop-append-add P (drop (at + length A) xs) (length B)) in
+    let d : drop (next + length B) (overwrite xs at A) ≡ drop (length B) (drop (at + length A) xs)
+    = rw k (drop-append-add P (drop (at + length A) xs) (length B)) in
     let m : at + length A + length B ≡ at + length (A ++ B) = let q = length-append A B in omega arith in
     rw (t, d, drop-drop (length B) (at + length A) xs, m, append-assoc (take at xs) A B)
 
@@ -55,7 +59,8 @@ module _ {A : Type 0} (g : A → List ℕ) (f : ℕ → A) (s : ℕ) (e : (k : �
   pieces-none o at = sym (overwrite-none o at)
 
   pub pieces-more : (o : List ℕ) (at i next : ℕ) → next ≡ at + i * s → next ≤ length o
-      → overwrite (overwrite o at (joined g (tabulate i f))) next (g (f i)) ≡ overwrite o at (joined g (tabulate (i + 1) f))
+      → overwrite (overwrite o at (joined g (tabulate i f))) next (g (f i))
+      ≡ overwrite o at (joined g (tabulate (i + 1) f))
   unfolding tabulate
   pieces-more o at i next h l =
       let q = length-pieces i in

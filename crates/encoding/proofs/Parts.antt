@@ -39,7 +39,8 @@ part-part bs a n b m h =
     ∙ ap (take m) (drop-drop b a bs)
 
 pub part-glue : (bs : List ℕ) (a n m : ℕ) → part bs a n ++ part bs (a + n) m ≡ part bs a (n + m)
-part-glue bs a n m = sym (take-add n m (drop a bs) ∙ ap (λ (l : List ℕ). take n (drop a bs) ++ take m l) (drop-drop n a bs))
+part-glue bs a n m = sym (take-add n m (drop a bs) ∙ ap (λ (l : List ℕ). take n (drop a bs) ++ take m l)
+    (drop-drop n a bs))
 
 pub part-seam : (A B C : List ℕ) (at n : ℕ) → length A ≡ at → length B ≡ n → part (A ++ (B ++ C)) at n ≡ B
 part-seam A B C at n p q = ap (take n) (drop-at A (B ++ C) at p) ∙ take-at B C n q

@@ -34,7 +34,8 @@ module _ {A : Type 0} where
   pub joined-snoc : (f : A → List ℕ) (xs : List A) (x : A) → joined f (xs ++ (x ∷ [])) ≡ joined f xs ++ f x
   joined-snoc f xs x = joined-append f xs (x ∷ []) ∙ ap (λ (l : List ℕ). joined f xs ++ l) (append-nil (f x))
 
-  pub length-joined : (f : A → List ℕ) (s : ℕ) (xs : List A) → Each (λ x. length (f x) ≡ s) xs → length (joined f xs) ≡ length xs * s
+  pub length-joined : (f : A → List ℕ) (s : ℕ) (xs : List A) → Each (λ x. length (f x) ≡ s) xs
+      → length (joined f xs) ≡ length xs * s
   length-joined f s [] h = sym (zero-mul s)
   length-joined f s (x ∷ xs) h =
       let a = h .0 in
@@ -55,8 +56,10 @@ module _ {A : Type 0} where
           → tabulate (length xs) (λ i. f (part (joined g xs) (i * s) s)) ≡ xs
       go [] l e = refl
       go (x ∷ xs) l e =
-          let o : part (joined g (x ∷ xs)) (0 * s) s ≡ g x = ap (λ (k : ℕ). part (joined g (x ∷ xs)) k s) (zero-mul s) ∙ take-at (g x) (joined g xs) s (l .0) in
-          let t : (i : ℕ) → i < length xs → f (part (joined g (x ∷ xs)) (suc i * s) s) ≡ f (part (joined g xs) (i * s) s) = λ i h.
+          let o : part (joined g (x ∷ xs)) (0 * s) s ≡ g x = ap (λ (k : ℕ). part (joined g (x ∷ xs)) k s)
+          (zero-mul s) ∙ take-at (g x) (joined g xs) s (l .0) in
+          let t : (i : ℕ) → i < length xs → f (part (joined g (x ∷ xs)) (suc i * s) s)
+          ≡ f (part (joined g xs) (i * s) s) = λ i h.
           let q = l .0 in
           let m = suc-mul i s in
           let k : suc i * s ≡ length (g x) + i * s = omega arith in

@@ -9,7 +9,8 @@ use lib.ListN.{length, getD}
 use lib.Seq.{drop-cons}
 use Rattle.encoding.specs.Bytes.{fromBytes, part}
 
-pub number-step : (bs : List ℕ) (at n : ℕ) → at < length bs → fromBytes (part bs at (suc n)) ≡ getD bs at 0 + 256 * fromBytes (part bs (suc at) n)
+pub number-step : (bs : List ℕ) (at n : ℕ) → at < length bs → fromBytes (part bs at (suc n))
+    ≡ getD bs at 0 + 256 * fromBytes (part bs (suc at) n)
 unfolding fromBytes
 number-step bs at n h = rw (drop-cons bs at 0)
 
@@ -23,12 +24,14 @@ reading-none bs at n =
     let e : n - n ≡ 0 = omega arith in
     (omega arith, rw e, rw e (omega arith))
 
-pub reading-more : (bs : List ℕ) (at n i x : ℕ) → at + n ≤ length bs → getD bs (at + (i - 1)) 0 < 256 → 0 < i → Reading bs at n i x → Reading bs at n (i - 1) (x * 256 + getD bs (at + (i - 1)) 0)
+pub reading-more : (bs : List ℕ) (at n i x : ℕ) → at + n ≤ length bs → getD bs (at + (i - 1)) 0 < 256 → 0 < i
+    → Reading bs at n i x → Reading bs at n (i - 1) (x * 256 + getD bs (at + (i - 1)) 0)
 reading-more bs at n i x l b z r =
     let e : n - (i - 1) ≡ suc (n - i) = omega arith in
     let f : suc (at + (i - 1)) ≡ at + i = omega arith in
     let q = number-step bs (at + (i - 1)) (n - i) (omega arith) in
-    let q2 : fromBytes (part bs (at + (i - 1)) (suc (n - i))) ≡ getD bs (at + (i - 1)) 0 + 256 * fromBytes (part bs (at + i) (n - i)) = rw f at q in
+    let q2 : fromBytes (part bs (at + (i - 1)) (suc (n - i)))
+    ≡ getD bs (at + (i - 1)) 0 + 256 * fromBytes (part bs (at + i) (n - i)) = rw f at q in
     let w = pow-suc 256 (n - i) in
     let r1 = r .1 in
     let r2 = r .2 in

@@ -8,11 +8,13 @@ use Rattle.job.specs.declared.refusal.Verdict.{Verdict}
 use Rattle.job.specs.declared.refusal.Verdict.the-variants.{Pass, Refused}
 use Rattle.job.specs.Refusal.{Row, _when_, first}
 
-pub first-here : (why : Refusal) (test : Bool) (rows : List Row) → test ≡ true → first (why when test ∷ rows) ≡ Refused why
+pub first-here : (why : Refusal) (test : Bool) (rows : List Row) → test ≡ true → first (why when test ∷ rows)
+    ≡ Refused why
 unfolding first
 first-here why test rows h = rw h
 
-pub first-next : (why : Refusal) (test : Bool) (rows : List Row) → test ≡ false → first (why when test ∷ rows) ≡ first rows
+pub first-next : (why : Refusal) (test : Bool) (rows : List Row) → test ≡ false → first (why when test ∷ rows)
+    ≡ first rows
 unfolding first
 first-next why test rows h = rw h
 

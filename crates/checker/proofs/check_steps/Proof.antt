@@ -181,7 +181,8 @@ returns-6 c =
     ∙ check-passes PoolExceeded _ _ (sym (c-pools .ensures) ∙ c-enum-told7 .given .1)
     ∙ check-passes StoreExceeded _ _ (sym (c-stores .ensures) ∙ c-enum-told9 .given .1)
     ∙ first-here NeedMissing _ _
-    (watched-missing _ _ (sym (c .before .before .watch .ensures (jobIn (c-args .job)) refl) ∙ c .enum-told11 .given .1))))
+    (watched-missing _ _ (sym (c .before .before .watch .ensures (jobIn (c-args .job)) refl)
+    ∙ c .enum-told11 .given .1))))
 
 goal-requires : tie.Need-goal-requires
 goal-requires c κs = search needs

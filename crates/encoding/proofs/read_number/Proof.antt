@@ -50,7 +50,8 @@ loop-again : tie.Need-loop-again Inv-loop μ-loop
 loop-again c =
     let l = c .before .before .before .loop in
     let a = c .before .before .before .before .before .args in
-    rw (c .widen .ensures .0) (reading-more (a .bytes .now) (a .at) (a .n) (l .i) (l .x) (omega arith) (omega (arith, c .before .shared-slice-known2 .given (a .at + (l .i - 1)))) (omega arith) (l .inv))
+    rw (c .widen .ensures .0) (reading-more (a .bytes .now) (a .at) (a .n) (l .i) (l .x) (omega arith)
+    (omega (arith, c .before .shared-slice-known2 .given (a .at + (l .i - 1)))) (omega arith) (l .inv))
 
 returns : tie.Need-returns Inv-loop μ-loop
 returns c =

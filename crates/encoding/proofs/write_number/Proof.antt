@@ -37,8 +37,11 @@ loop-less c = omega arith
 loop-again : tie.Need-loop-again Inv-loop μ-loop
 loop-again c =
     let l = c .before .loop in
-    let a = c .before .before .args in
-    (writing-more (a .out .now) (a .at) (a .n) (a .x) (l .out) (l .rest) (l .i) (omega arith) (omega arith) (l .inv .0), simp length-set (l .inv .1))
+    let a = c .before .before .args in (
+      writing-more (a .out .now) (a .at) (a .n) (a .x) (l .out) (l .rest) (l .i) (omega arith) (omega arith)
+          (l .inv .0),
+      simp length-set (l .inv .1),
+    )
 
 same-length : tie.Need-same-length Inv-loop μ-loop
 same-length c = c .before .loop .inv .1

@@ -29,7 +29,8 @@ returns c =
     let c-loop = c .before .before .before .loop in
     let file = c-args .file .now in
     let l = c-loop in
-    sym (l .inv .2 ∙ gapless-broken file (l .at) (l .k) (4 - l .k) (omega arith) (λ e. c .if1 .taken (c .before .short .ensures .0 ∙ e)))
+    sym (l .inv .2 ∙ gapless-broken file (l .at) (l .k) (4 - l .k) (omega arith)
+    (λ e. c .if1 .taken (c .before .short .ensures .0 ∙ e)))
 
 mul-short-2 : tie.Need-mul-short-2 Inv-loop μ-loop
 mul-short-2 c = omega arith
@@ -59,7 +60,8 @@ loop-again c =
       omega arith,
       omega arith,
       l .inv .2
-          ∙ gapless-next file (l .at) (l .k) (4 - l .k) (omega arith) (sym (c .before .before .short .ensures .0) ∙ c .before .if1 .left)
+          ∙ gapless-next file (l .at) (l .k) (4 - l .k) (omega arith)
+          (sym (c .before .before .short .ensures .0) ∙ c .before .if1 .left)
           ∙ rw (c .short2 .ensures .0, d),
     )
 

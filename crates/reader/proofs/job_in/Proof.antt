@@ -12,11 +12,13 @@ use Rattle.reader.proofs.job_in.Tie as tie
 
 add-pools : tie.Need-add-pools
 add-pools c =
-    let q = placed _ _ (c .before .before .pre .0) (c .before .before .pre .1) (c .before .before .pre .2) in omega arith
+    let q = placed _ _ (c .before .before .pre .0) (c .before .before .pre .1)
+    (c .before .before .pre .2) in omega arith
 
 add-stores : tie.Need-add-stores
 add-stores c =
-    let q = placed _ _ (c .before .before .before .pre .0) (c .before .before .before .pre .1) (c .before .before .before .pre .2) in omega arith
+    let q = placed _ _ (c .before .before .before .pre .0) (c .before .before .before .pre .1)
+    (c .before .before .before .pre .2) in omega arith
 
 add-actions : tie.Need-add-actions
 add-actions c =
@@ -78,7 +80,8 @@ decode-requires c κs =
     let q = placed file l (c-pre .0) (c-pre .1) (c-pre .2) in
     let a = 16 + l .head in
     let b = a + l .pools in
-    let f = slices-fit file (q .right) a b (b + l .stores) (ap (λ (n : ℕ). 16 + n) (q .head)) (omega arith) (omega arith) in
+    let f = slices-fit file (q .right) a b (b + l .stores) (ap (λ (n : ℕ). 16 + n) (q .head)) (omega arith)
+    (omega arith) in
     (f .0, ((f .1, f .2), f .3))
 
 returns : tie.Need-returns
@@ -93,7 +96,8 @@ returns c =
     let b = a + l .pools in
     c .decode .ensures
     ∙ ap jobValue
-    (decoded-by-slices file (q .right) a b (b + l .stores) (ap (λ (n : ℕ). 16 + n) (q .head)) (omega arith) (omega arith))
+    (decoded-by-slices file (q .right) a b (b + l .stores) (ap (λ (n : ℕ). 16 + n) (q .head)) (omega arith)
+    (omega arith))
 
 pub job-in-spec : {M : Type 1} → statement M
 job-in-spec =

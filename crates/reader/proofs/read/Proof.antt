@@ -26,7 +26,8 @@ returns-2 c =
     let c-args = c .before .before .before .before .before .args in
     let c-if1 = c .before .before .before .if1 in
     c .refused2 .ensures
-    ∙ sym (read-offsets (c-args .file .now) (c-if1 .left) (sym (c .before .before .gapless .ensures) ∙ not-true _ (c .before .if2 .taken)))
+    ∙ sym (read-offsets (c-args .file .now) (c-if1 .left)
+    (sym (c .before .before .gapless .ensures) ∙ not-true _ (c .before .if2 .taken)))
 
 layout-requires : tie.Need-layout-requires
 layout-requires c κs =

@@ -63,8 +63,11 @@ loop-again : tie.Need-loop-again Inv-loop μ-loop
 loop-again c =
     let c-loop = c .before .before .before .before .loop in
     let l = c-loop in
-    let known = c .if1 .left in
-    (omega arith, λ k h. ⊎-elim (λ e. let q : k ≡ l .i = omega arith in rw q known) (λ b. l .inv .1 k (omega arith)) (eq-or-lt-of-le h))
+    let known = c .if1 .left in (
+      omega arith,
+      λ k h. ⊎-elim (λ e. let q : k ≡ l .i = omega arith in rw q known) (λ b. l .inv .1 k (omega arith))
+          (eq-or-lt-of-le h),
+    )
 
 returns-2 : tie.Need-returns-2 Inv-loop μ-loop
 unfolding first stepsIn

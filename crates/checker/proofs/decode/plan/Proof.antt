@@ -64,8 +64,12 @@ step-requires c κs =
     let c-pre = c .before .before .before .before .before .before .pre in
     let c-args = c .before .before .before .before .before .before .args in
     let c-loop = c .before .before .before .loop in
-    let b = c .read-number .ensures .1 in
-    (c-pre .0 .0, known-byte (c-args .job) (c-args .bytes .now) (c-loop .i) (c .before .before .loop-test .taken) (c-pre .1), omega arith)
+    let b = c .read-number .ensures .1 in (
+      c-pre .0 .0,
+      known-byte (c-args .job) (c-args .bytes .now) (c-loop .i) (c .before .before .loop-test .taken)
+          (c-pre .1),
+      omega arith,
+    )
 
 mul-steps : tie.Need-mul-steps Inv-loop μ-loop
 mul-steps c =

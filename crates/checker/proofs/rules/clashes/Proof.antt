@@ -38,7 +38,8 @@ returns c =
     let i = c-loop .i in
     let found = sym (c .before .clashes-earlier .ensures) ∙ c .if2 .taken in
     sym (first-here Clash _ []
-    (pair-found (stepAt p) clashing (i + 1) (p .length) (omega arith) (pair-more (stepAt p) clashing i ∙ rw (found, or-true))))
+    (pair-found (stepAt p) clashing (i + 1) (p .length) (omega arith)
+    (pair-more (stepAt p) clashing i ∙ rw (found, or-true))))
 
 add-i : tie.Need-add-i Inv-loop μ-loop
 add-i c = omega arith
@@ -52,7 +53,11 @@ loop-again c =
     let c-loop = c .before .before .before .before .loop in
     let p = c-args .plan in (
       omega arith,
-      pair-more (stepAt p) clashing (c-loop .i) ∙ rw (c-loop .inv .1, sym (c .before .clashes-earlier .ensures) ∙ c .if2 .left),
+      pair-more (stepAt p) clashing (c-loop .i) ∙ rw (
+        c-loop .inv .1,
+        sym (c .before .clashes-earlier .ensures)
+            ∙ c .if2 .left,
+      ),
     )
 
 returns-2 : tie.Need-returns-2 Inv-loop μ-loop

@@ -57,7 +57,8 @@ loop-again c =
       omega arith,
       λ J.
           rw (l .inv .2 J, c .share .ensures .counts J (p .counts) (c-pre .2))
-          (sym (total-more (stepAt p) (λ x. cond (hasShare J (a .pool) (a .minute) x) (getD (x .action .pools) (a .pool) 0) 0)
+          (sym (total-more (stepAt p) (λ x. cond (hasShare J (a .pool) (a .minute) x)
+          (getD (x .action .pools) (a .pool) 0) 0)
           (l .i))),
     )
 

@@ -53,7 +53,8 @@ returns c =
     let test = exceedsPool (jobIn j) (stepsOf (c-args .plan)) in
     let k = c-loop .k in
     let available = getD-tabulate (j .counts .pools) (λ i. getD (j .pools) i 0) k 0 (c-if1 .taken) in
-    let e = sym (c .before .exceeds-pool .ensures (jobIn j) (available ∙ sym (c .before .before .wide .ensures .0))) ∙ c .if2 .taken in
+    let e = sym (c .before .exceeds-pool .ensures (jobIn j) (available ∙ sym (c .before .before .wide .ensures .0)))
+    ∙ c .if2 .taken in
     sym (first-here PoolExceeded _ []
     (rw length-tabulate (below-found (j .counts .pools) test k (c-if1 .taken) e)))
 
@@ -72,7 +73,8 @@ loop-again c =
     let test = exceedsPool (jobIn j) (stepsOf (c-args .plan)) in
     let k = c-loop .k in
     let available = getD-tabulate (j .counts .pools) (λ i. getD (j .pools) i 0) k 0 (c-if1 .taken) in
-    let e = sym (c .before .exceeds-pool .ensures (jobIn j) (available ∙ sym (c .before .before .wide .ensures .0))) ∙ c .if2 .left in
+    let e = sym (c .before .exceeds-pool .ensures (jobIn j) (available ∙ sym (c .before .before .wide .ensures .0)))
+    ∙ c .if2 .left in
     (omega arith, below-more k test ∙ rw (e, c-loop .inv .1))
 
 returns-2 : tie.Need-returns-2 Inv-loop μ-loop

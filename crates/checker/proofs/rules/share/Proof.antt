@@ -45,7 +45,8 @@ returns-3 c =
     record {
       counts = λ J n h.
           c .wide .ensures .0
-          ∙ sym (share-while-running J (a .pool) (a .minute) _ (stepOfValue n (a .step)) (c-if1 .left) (c .before .before .if2 .left)
+          ∙ sym (share-while-running J (a .pool) (a .minute) _ (stepOfValue n (a .step)) (c-if1 .left)
+          (c .before .before .if2 .left)
           ∙ getD-tabulate (n .pools) (λ k. getD (a .step .action .pools) k 0) (a .pool) 0 h);
       small = c .wide .ensures .1;
     }

@@ -57,7 +57,11 @@ returns c =
     let k = c-loop .k in
     let cap = getD-tabulate (j .counts .stores) (λ i. getD (j .stores) i 0) k 0 (c-if1 .taken) in
     let e : test k ≡ true =
-    lt-ltb _ _ (rw (c .before .used-up .ensures (jobIn j), c .before .before .wide .ensures .0 ∙ sym cap) at (c .if2 .taken)) in
+    lt-ltb _ _ (rw (
+      c .before .used-up .ensures (jobIn j),
+      c .before .before .wide .ensures .0
+          ∙ sym cap,
+    ) at (c .if2 .taken)) in
     sym (first-here StoreExceeded _ []
     (rw length-tabulate (below-found (j .counts .stores) test k (c-if1 .taken) e)))
 
@@ -78,7 +82,11 @@ loop-again c =
     let k = c-loop .k in
     let cap = getD-tabulate (j .counts .stores) (λ i. getD (j .stores) i 0) k 0 (c-if1 .taken) in
     let e : test k ≡ false =
-    le-ltb _ _ (rw (c .before .used-up .ensures (jobIn j), c .before .before .wide .ensures .0 ∙ sym cap) at (c .if2 .left)) in
+    le-ltb _ _ (rw (
+      c .before .used-up .ensures (jobIn j),
+      c .before .before .wide .ensures .0
+          ∙ sym cap,
+    ) at (c .if2 .left)) in
     (omega arith, below-more k test ∙ rw (e, c-loop .inv .1))
 
 returns-2 : tie.Need-returns-2 Inv-loop μ-loop

@@ -50,7 +50,8 @@ returns c =
     let c-loop = c .before .before .before .before .loop in
     let P = c-args .plan in
     let found = sym (c .before .lacks-need .ensures) ∙ c .if2 .taken in
-    λ J e. rw (missing (c-args .start) P J e ∙ watching-missing (c-args .start) P (c-loop .clock) (c-loop .inv .1) found)
+    λ J e. rw (missing (c-args .start) P J e ∙ watching-missing (c-args .start) P (c-loop .clock)
+    (c-loop .inv .1) found)
 
 tick-requires : tie.Need-tick-requires Inv-loop μ-loop
 tick-requires c κs =

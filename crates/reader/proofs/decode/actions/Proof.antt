@@ -51,14 +51,16 @@ mul-at : tie.Need-mul-at Inv-loop μ-loop
 mul-at c =
     let c-args = c .before .before .before .before .before .args in
     let c-action-size = c .before .before .before .action-size in
-    let w = piece-within (length (c-args .bytes .now)) (c-action-size .result) (c .before .loop .i) (c .loop-test .taken) in
+    let w = piece-within (length (c-args .bytes .now)) (c-action-size .result) (c .before .loop .i)
+    (c .loop-test .taken) in
     omega arith
 
 add-next : tie.Need-add-next Inv-loop μ-loop
 add-next c =
     let c-args = c .before .before .before .before .before .args in
     let c-action-size = c .before .before .before .action-size in
-    let w = piece-within (length (c-args .bytes .now)) (c-action-size .result) (c .before .loop .i) (c .loop-test .taken) in
+    let w = piece-within (length (c-args .bytes .now)) (c-action-size .result) (c .before .loop .i)
+    (c .loop-test .taken) in
     omega arith
 
 sub-action : tie.Need-sub-action Inv-loop μ-loop
@@ -71,7 +73,8 @@ part-action-end : tie.Need-part-action-end Inv-loop μ-loop
 part-action-end c =
     let c-args = c .before .before .before .before .before .args in
     let c-action-size = c .before .before .before .action-size in
-    let w = piece-within (length (c-args .bytes .now)) (c-action-size .result) (c .before .loop .i) (c .loop-test .taken) in
+    let w = piece-within (length (c-args .bytes .now)) (c-action-size .result) (c .before .loop .i)
+    (c .loop-test .taken) in
     omega arith
 
 action-requires : tie.Need-action-requires Inv-loop μ-loop

@@ -61,7 +61,8 @@ loop-again c =
     let k = c-write-number .kept .0 in (
       omega arith,
       rw (c-write-number .ensures, c-wide32 .ensures, l .inv .1)
-          (pieces-more (toBytes 4) f 4 (λ k. length-bytes 4 (f k)) (a .out .now) (a .at) (l .i) (a .at + 4 * l .i) (omega arith)
+          (pieces-more (toBytes 4) f 4 (λ k. length-bytes 4 (f k)) (a .out .now) (a .at) (l .i) (a .at + 4 * l .i)
+          (omega arith)
           (omega arith)),
       omega arith,
     )

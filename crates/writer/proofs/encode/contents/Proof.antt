@@ -107,7 +107,8 @@ returns c =
     let numbers =
     contents-of (jobIn j) (4 * j .counts .pools) (4 * j .counts .stores) (j .counts .actions * s) (omega arith)
     (omega arith) la in
-    (rw e at (c-loop .inv .1)) ∙ ap (λ (ns : List ℕ). overwrite (c-args .out .now) 0 (joined (toBytes 2) ns)) (sym numbers)
+    (rw e at (c-loop .inv .1)) ∙ ap (λ (ns : List ℕ). overwrite (c-args .out .now) 0 (joined (toBytes 2) ns))
+    (sym numbers)
 
 pub contents-spec : {M : Type 1} → statement M
 contents-spec =
