@@ -1,14 +1,12 @@
 -- Checks in a chain: each answers for one row of the table, and the first that fails is the answer.
 -- Assumes nothing.
-use Prim.Native.Nat.{ℕ}
-use mathlib.Core.Path.{_≡_, refl, ap, sym, _∙_}
+use mathlib.Core.Path.{_≡_, refl}
 use mathlib.Core.Bool.{Bool, true, false}
 use mathlib.Core.List.{List, [], _∷_}
 use Rattle.job.specs.declared.refusal.Refusal.{Refusal}
 use Rattle.job.specs.declared.refusal.Verdict.the-variants.{Pass, Refused}
 use Rattle.job.specs.Refusal.{Row, _when_, first}
 use Rattle.checker.specs.declared.clock.Clock.{Clock}
-use Rattle.checker.specs.declared.watch.Watched.{Watched}
 use Rattle.checker.specs.declared.watch.Watched.the-variants.{NeedMissing, Done}
 use Rattle.checker.specs.Watch.{watchedOf}
 

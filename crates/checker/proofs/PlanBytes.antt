@@ -1,8 +1,8 @@
 -- A step in the bytes of a plan: the byte of its action and the two of its start.
 -- Assumes nothing.
-use Prim.Native.Nat.{ℕ, zero, suc, _+_, _*_, _/_, _%_, _<_, _≤_}
-use mathlib.Core.Path.{_≡_, refl, ap, sym, _∙_}
-use mathlib.Core.Bool.{Bool, true, false, not}
+use Prim.Native.Nat.{ℕ, _+_, _*_, _/_, _%_, _<_, _≤_}
+use mathlib.Core.Path.{_≡_, ap, sym, _∙_}
+use mathlib.Core.Bool.{false, not}
 use mathlib.Core.List.{List}
 use native.Mathlib.Omega.{arith}
 use lib.Dec.{eqb, leb}
@@ -20,7 +20,7 @@ use Rattle.encoding.proofs.Pieces.{piece-within}
 use Rattle.encoding.proofs.ReadLoop.{number-step}
 use Rattle.job.specs.declared.Job as held
 use Rattle.job.specs.Job.{Job, jobIn, actionAt}
-use Rattle.timeline.specs.Step.{Step, noAction, stepOf, stepIn, stepsIn}
+use Rattle.timeline.specs.Step.{Step, stepOf, stepIn, stepsIn}
 use Rattle.timeline.specs.Accepted.{unknown, wrongSize}
 
 -- the step at place i of a plan

@@ -1,18 +1,17 @@
 -- The clock's run: up to its minute, every step that has started had its needs.
 -- Assumes nothing.
-use Prim.Native.Nat.{ℕ, zero, suc, _+_, _≤_, _<_}
-use mathlib.Core.Path.{_≡_, refl, ap, ap₂, sym, _∙_}
-use mathlib.Core.Bool.{Bool, true, false, not, _&&_}
-use mathlib.Core.List.{List, [], _∷_}
+use Prim.Native.Nat.{ℕ, _+_, _≤_, _<_}
+use mathlib.Core.Path.{_≡_, refl, ap, ap₂, _∙_}
+use mathlib.Core.Bool.{Bool, true, false, not}
 use native.Mathlib.Decide.{decLt}
 use native.Mathlib.Numerals.{add-one}
 use native.Mathlib.Omega.{arith}
 use lib.Dec.{eqb}
 use borrow.Author.Tests.{eq-eqb, eqb-true}
-use Rattle.lists.specs.Lists.{tabulate, any, Each}
+use Rattle.lists.specs.Lists.{any, Each}
 use Rattle.lists.proofs.Bools.{absurd, and-left, and-right}
 use Rattle.lists.proofs.Tabulate.{length-tabulate, getD-tabulate, each-at, each-tabulate}
-use Rattle.lists.proofs.Any.{any-none, none-any, any-found}
+use Rattle.lists.proofs.Any.{any-none, none-any}
 use Rattle.facts.specs.FactSet.{subset}
 use Rattle.timeline.specs.declared.Plan.{Plan}
 use Rattle.timeline.specs.Step.{Step}

@@ -2,11 +2,11 @@
 -- Assumes nothing.
 use Prim.Native.Nat.{ℕ}
 use mathlib.Core.Path.{_≡_}
-use mathlib.Core.List.{List, [], _∷_, _++_}
+use mathlib.Core.List.{List, _∷_, _++_}
 use Rattle.facts.specs.FactSet.{foreign}
 use Rattle.job.specs.declared.Job as held
 use Rattle.job.specs.Job.{Job, jobIn}
-use Rattle.job.specs.Refusal.{Row, _when_, first}
+use Rattle.job.specs.Refusal.{_when_, first}
 use Rattle.job.specs.Valid.{jobRows}
 use Rattle.job.specs.declared.refusal.Refusal.the-variants.{ForeignAskedFact}
 use Rattle.job.specs.declared.refusal.Verdict.{Verdict}

@@ -1,14 +1,13 @@
 -- Numbers as bytes and back: each law once, over the width.
 -- Assumes nothing.
-use Prim.Native.Nat.{ℕ, zero, suc, _+_, _*_, _-_, _/_, _%_, _^_, _≤_, _<_}
-use mathlib.Core.Path.{_≡_, refl, ap, sym, _∙_}
-use mathlib.Core.List.{List, [], _∷_, _++_, append-nil, append-assoc}
+use Prim.Native.Nat.{ℕ, zero, suc, _+_, _*_, _-_, _/_, _%_, _^_, _<_}
+use mathlib.Core.Path.{_≡_, refl, ap}
+use mathlib.Core.List.{List, [], _∷_}
 use native.Mathlib.Nat.{pow-suc}
 use native.Mathlib.Omega.{arith}
-use lib.ListN.{length, getD, drop}
-use lib.Seq.{drop-cons}
-use Rattle.encoding.specs.Bytes.{fromBytes, toBytes, part}
-use Rattle.encoding.proofs.Parts.{Bytes, part-seam}
+use lib.ListN.{length}
+use Rattle.encoding.specs.Bytes.{fromBytes, toBytes}
+use Rattle.encoding.proofs.Parts.{Bytes}
 
 pub length-bytes : (n x : ℕ) → length (toBytes n x) ≡ n
 unfolding toBytes
@@ -40,8 +39,3 @@ number-lt (b ∷ bs) h =
     let l = h 0 in
     let i = number-lt bs (λ j. h (suc j)) in
     omega arith
-
-pub number-drop : (bs : List ℕ) (i : ℕ) → i < length bs → fromBytes (drop i bs)
-    ≡ getD bs i 0 + 256 * fromBytes (drop (suc i) bs)
-unfolding fromBytes
-number-drop bs i h = rw (drop-cons bs i 0)

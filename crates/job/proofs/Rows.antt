@@ -1,11 +1,9 @@
 -- The table of a job value, with its counts for the lengths of lists.
 -- Assumes nothing.
-use Prim.Native.Nat.{ℕ}
-use mathlib.Core.Path.{_≡_, refl, ap, sym, _∙_}
-use mathlib.Core.Bool.{Bool, false, _||_}
-use mathlib.Core.List.{List, [], _∷_, _++_}
-use lib.ListN.{getD}
-use Rattle.lists.specs.Lists.{firsts, any}
+use mathlib.Core.Path.{_≡_, ap, sym, _∙_}
+use mathlib.Core.Bool.{false, _||_}
+use mathlib.Core.List.{List, _∷_}
+use Rattle.lists.specs.Lists.{any}
 use Rattle.lists.proofs.Tabulate.{length-tabulate}
 use Rattle.lists.proofs.Any.{any-append}
 use Rattle.lists.proofs.Bools.{or-left, or-right}

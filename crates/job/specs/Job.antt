@@ -1,7 +1,7 @@
 -- A job, and the job that a value of the program holds.
 -- Assumes nothing.
-use Prim.Native.Nat.{ℕ, zero, suc, _≤_}
-use mathlib.Core.List.{List, [], _∷_, map}
+use Prim.Native.Nat.{ℕ, _≤_}
+use mathlib.Core.List.{List, [], map}
 use lib.ListN.{length, getD, replicate}
 use Rattle.lists.specs.Lists.{tabulate, firsts, filled}
 use Rattle.job.specs.declared.Action as act

@@ -1,7 +1,7 @@
 -- What tests 2 and 3 say of a file: the lengths of its bodies, and the counts of the job in it.
 -- Assumes nothing.
 use Prim.Native.Nat.{ℕ, _+_, _/_, _%_, _≤_}
-use mathlib.Core.Path.{_≡_, refl, ap, _∙_}
+use mathlib.Core.Path.{_≡_, ap, _∙_}
 use mathlib.Core.Bool.{Bool, true, false, not, _&&_, _||_}
 use mathlib.Core.List.{List}
 use native.Mathlib.Omega.{arith}
@@ -9,13 +9,12 @@ use lib.Dec.{eqb}
 use lib.ListN.{length}
 use borrow.Author.Tests.{eqb-true, eq-eqb, ltb-false, le-ltb, not-false}
 use Rattle.lists.proofs.Bools.{and-left, and-right, or-left, or-right}
-use Rattle.lists.proofs.Tabulate.{length-tabulate}
 use Rattle.encoding.proofs.Parts.{length-part}
-use Rattle.job.specs.Job.{Fits, jobIn, jobValue}
+use Rattle.job.specs.Job.{jobIn, jobValue}
 use Rattle.job.specs.declared.Job as held
 use Rattle.job.specs.Valid.{over}
 use Rattle.job.proofs.Values.{Shape, value-holds-job}
-use Rattle.jobfile.specs.File.{offset, size, body, layoutIn, actionSize, jobOf, decoded, gapless, missized}
+use Rattle.jobfile.specs.File.{offset, size, body, layoutIn, actionSize, decoded, gapless, missized}
 use Rattle.jobfile.proofs.DecodeLaws.{job-of-shape}
 
 -- the bodies stand in a row up to the file's end, and have lengths that a job gives
@@ -113,24 +112,6 @@ module _ (file : List ℕ) (l : Laid file) where
 
   pub length-body3 : length (body file 3) ≡ size file 3
   length-body3 = length-part file (offset file 3) (size file 3) (omega arith)
-
-  -- ── the counts of the job in it, which test 3 of the job passes ──
-
-  pub decoded-counts : (length (decoded file .pools) ≡ size file 1 / 4)
-      × (length (decoded file .stores) ≡ size file 2 / 4)
-      × (length (decoded file .actions) ≡ size file 3 / actionSize (size file 1 / 4) (size file 2 / 4))
-  unfolding jobOf
-  decoded-counts = simp (length-tabulate, length-body1, length-body2, length-body3) (refl, refl, refl)
-
-  pub decoded-fits : Fits (jobValue (decoded file) .counts)
-  decoded-fits =
-      let c = decoded-counts in
-      let a = l .fewActions in
-      (omega arith, omega arith, omega arith)
-
-  pub decoded-not-over : (over 4 (length (decoded file .pools)) || over 4 (length (decoded file .stores))
-      || over 64 (length (decoded file .actions))) ≡ false
-  decoded-not-over = let f = decoded-fits in rw (le-ltb 4 _ (f .0), le-ltb 4 _ (f .1)) (le-ltb 64 _ (f .2))
 
 pub decoded-shape : (file : List ℕ) → Shape (decoded file)
 decoded-shape file = job-of-shape (body file 0) (body file 1) (body file 2) (body file 3)

@@ -1,14 +1,13 @@
 -- What reading a file answers: one law for each way out of the reader, and the job in the slices that it takes.
 -- Assumes nothing.
-use Prim.Native.Nat.{ℕ, _+_, _-_, _/_, _≤_, _<_}
+use Prim.Native.Nat.{ℕ, _+_, _-_, _/_, _≤_}
 use mathlib.Core.Path.{_≡_, ap, sym, _∙_}
 use mathlib.Core.Bool.{Bool, true, false, not, _||_}
 use mathlib.Core.List.{List}
 use native.Mathlib.Omega.{arith}
 use lib.Dec.{ltb}
 use lib.ListN.{length}
-use borrow.Author.Tests.{lt-ltb, le-ltb, not-false}
-use Rattle.lists.proofs.Bools.{or-true}
+use borrow.Author.Tests.{le-ltb, not-false}
 use Rattle.encoding.specs.Bytes.{part}
 use Rattle.job.specs.Job.{Job, jobIn, jobValue, zeroValue}
 use Rattle.job.specs.Refusal.{first}
@@ -61,12 +60,6 @@ module _ (file : List ℕ) where
   pub read-wrong-size : wrongSize file ≡ true → readFile file ≡ refusedWith FileSize
   unfolding readRows fileRows
   read-wrong-size h = reading file (Refused FileSize) (first-here FileSize _ _ h)
-
-  pub read-too-small : length file < 16 → readFile file ≡ refusedWith FileSize
-  read-too-small h = read-wrong-size (rw (lt-ltb (length file) 16 h))
-
-  pub read-too-large : 4096 < length file → readFile file ≡ refusedWith FileSize
-  read-too-large h = read-wrong-size (rw (lt-ltb 4096 (length file) h) (or-true (ltb (length file) 16)))
 
   pub read-offsets : wrongSize file ≡ false → gapless file 16 0 4 ≡ false → readFile file ≡ refusedWith Offsets
   unfolding readRows fileRows

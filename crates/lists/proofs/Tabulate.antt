@@ -1,12 +1,12 @@
 -- Laws of lists by places: lengths, elements, the first elements of an array that is filled up.
 -- Assumes nothing.
-use Prim.Native.Nat.{ℕ, zero, suc, _+_, _-_, _≤_, _<_}
+use Prim.Native.Nat.{ℕ, zero, suc, _+_, _-_, _<_}
 use mathlib.Core.Path.{_≡_, refl, ap, sym, _∙_}
 use mathlib.Core.List.{List, [], _∷_, _++_, map, map-append}
 use native.Mathlib.Decide.{decLt}
 use native.Mathlib.Numerals.{add-one}
 use native.Mathlib.Omega.{arith}
-use lib.ListN.{length, getD, set, replicate, length-append, length-replicate, List·getD-append}
+use lib.ListN.{length, getD, set, replicate, length-append, List·getD-append}
 use lib.Seq.{getD-at, set-at, append-snoc}
 use Rattle.lists.specs.Lists.{tabulate, firsts, filled, Each}
 use Rattle.lists.proofs.Bools.{absurd}
@@ -53,12 +53,6 @@ module _ {A : Type 0} where
       tabulate-same (length xs) (λ k. getD (filled n z xs) k d) (λ k. getD xs k d)
       (λ i h. List·getD-append xs (replicate (n - length xs) z) d i h)
       ∙ firsts-all xs d
-
-  pub length-filled : (n : ℕ) (z : A) (xs : List A) → length xs ≤ n → length (filled n z xs) ≡ n
-  length-filled n z xs h =
-      let a = length-append xs (replicate (n - length xs) z) in
-      let b = length-replicate (n - length xs) z in
-      omega arith
 
   -- one more element of an array that is filled from the front
   pub filled-more : (n : ℕ) (z : A) (xs : List A) (x : A) → length xs < n

@@ -1,7 +1,7 @@
 -- Steps of a plan, the steps in a plan's bytes, and what is gathered over a list of steps.
 -- Every definition here but `strictlyRising` is the same for every order of the list.
 -- Assumes nothing.
-use Prim.Native.Nat.{ℕ, zero, suc, _+_, max}
+use Prim.Native.Nat.{ℕ, _+_, max}
 use mathlib.Core.Bool.{Bool, true, false, _&&_, _||_}
 use mathlib.Core.List.{List, [], _∷_}
 use lib.Dec.{eqb, ltb}

@@ -1,7 +1,7 @@
 -- The right side of an equation, read as its choices: it is at most t exactly if one of them ends by minute t.
 -- Assumes nothing.
-use Prim.Native.Nat.{ℕ, zero, suc, _+_, _-_, _<_, _≤_, max}
-use mathlib.Core.Path.{_≡_, refl, sym, ap, _∙_}
+use Prim.Native.Nat.{ℕ, _+_, _-_, _<_, _≤_}
+use mathlib.Core.Path.{_≡_, sym, ap}
 use mathlib.Core.Bool.{Bool, true, false, not, _&&_, _||_, or-true}
 use mathlib.Core.Logic.{_⊎_, inl, inr, ⊎-elim}
 use native.Mathlib.Omega.{arith}
@@ -13,7 +13,7 @@ use Rattle.facts.specs.FactSet.{has, union}
 use Rattle.job.specs.Job.{Action, Job}
 use Rattle.timeline.specs.Timeline.{hinders}
 use Rattle.timeline.proofs.Tests.{and-both, or-cases, or-neither}
-use Rattle.times.specs.Time.{Time, at, earlier, later, after, choice, least}
+use Rattle.times.specs.Time.{Time, at, later, after, choice, least}
 use Rattle.times.specs.Earliest.{Table, timeOf, actionOf, single, fitsAlone, fitTogether}
 use Rattle.times.specs.Earliest.{addsBoth, addsOne, addsEach, byOne, byTwo, rightSide}
 use Rattle.times.proofs.Times.{By, by-later-minute, by-earlier, earlier-by-first, earlier-by-second}

@@ -3,3 +3,8 @@ pub mod Singles
 pub mod Choices
 pub mod Monotone
 pub mod Unique
+pub mod PlanSteps
+pub mod Admissible
+pub mod Pairs
+pub mod Counting
+pub mod Finite

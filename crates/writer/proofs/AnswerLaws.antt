@@ -1,9 +1,8 @@
 -- What writing answers and leaves, for each way out of the writer.
 -- Assumes nothing.
 use Prim.Native.Nat.{ℕ, _≤_, _<_}
-use mathlib.Core.Path.{_≡_, refl, ap, sym, _∙_}
-use mathlib.Core.List.{List, [], _∷_}
-use lib.Dec.{ltb}
+use mathlib.Core.Path.{_≡_, _∙_}
+use mathlib.Core.List.{List, []}
 use lib.ListN.{length}
 use borrow.Author.Tests.{lt-ltb, le-ltb}
 use Rattle.encoding.specs.Bytes.{overwrite}
@@ -12,7 +11,7 @@ use Rattle.job.specs.declared.refusal.Refusal.the-variants.{FileSlice}
 use Rattle.job.specs.declared.refusal.Verdict.{Verdict}
 use Rattle.job.specs.declared.refusal.Verdict.the-variants.{Pass, Refused}
 use Rattle.job.specs.Job.{Job}
-use Rattle.job.specs.Refusal.{_when_, first}
+use Rattle.job.specs.Refusal.{first}
 use Rattle.job.specs.Valid.{jobRows}
 use Rattle.job.proofs.Table.{first-here, first-next, first-append-pass, first-append-refused}
 use Rattle.jobfile.specs.declared.Written.the-variants as written

@@ -1,6 +1,6 @@
 -- `check` meets its contract: the tests of the job, then those of the plan.
 -- Assumes nothing.
-use mathlib.Core.Path.{_≡_, sym, ap, _∙_}
+use mathlib.Core.Path.{sym, ap, _∙_}
 use Rattle.job.specs.declared.refusal.Verdict.{Verdict}
 use Rattle.job.specs.Job.{jobIn}
 use Rattle.job.specs.Valid.{jobRows}

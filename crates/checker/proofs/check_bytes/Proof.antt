@@ -1,9 +1,7 @@
 -- `check_bytes` meets its contract: the size, the actions, then the steps.
 -- Assumes nothing.
-use mathlib.Core.Path.{_≡_, sym, ap, _∙_}
-use mathlib.Core.Bool.{false}
+use mathlib.Core.Path.{sym, ap, _∙_}
 use mathlib.Core.List.{List}
-use Rattle.lists.specs.Lists.{any, Each}
 use Rattle.job.specs.declared.refusal.Refusal.the-variants.{PlanSize, UnknownAction}
 use Rattle.job.specs.declared.refusal.Verdict.{Verdict}
 use Rattle.job.specs.Job.{jobIn}
@@ -11,8 +9,7 @@ use Rattle.job.specs.Refusal.{first}
 use Rattle.job.proofs.Passed.{passed}
 use Rattle.job.proofs.Rows.{fits-of-pass}
 use Rattle.timeline.specs.Step.{Step, stepsIn}
-use Rattle.timeline.specs.Accepted.{unknown, stepRows, planRows}
-use Rattle.checker.specs.declared.Checked.{Checked}
+use Rattle.timeline.specs.Accepted.{stepRows, planRows}
 use Rattle.checker.specs.Check.{checkedOf}
 use Rattle.checker.proofs.ChainLaws.{check-passes, check-fails, passed-test}
 use Rattle.checker.proofs.StepLaws.{known-steps-last}

@@ -1,6 +1,6 @@
 -- `check_steps` meets its contract: each return has the checks before it passed, and its own failed.
 -- Assumes nothing.
-use mathlib.Core.Path.{_≡_, refl, sym, ap, _∙_}
+use mathlib.Core.Path.{refl, sym, ap, _∙_}
 use mathlib.Core.Bool.{not}
 use Rattle.facts.specs.FactSet.{subset}
 use Rattle.job.specs.declared.refusal.Refusal.the-variants.{UnknownAction, StepOrder, AfterDeadline, Clash}

@@ -1,9 +1,8 @@
 -- `read_number` meets its contract: `Reading` is the loop's invariant.
 -- Assumes nothing.
 use Prim.Native.Nat.{_+_, _-_}
-use mathlib.Core.Path.{_≡_, refl, ap, sym, _∙_}
+use mathlib.Core.Path.{_≡_}
 use native.Mathlib.Omega.{arith}
-use borrow.Author.Needs.{needs}
 use Rattle.encoding.proofs.ReadLoop.{Reading, reading-none, reading-more, reading-fits}
 use Rattle.encoding.proofs.read_number.Statement.{statement}
 use Rattle.encoding.proofs.read_number.Tie as tie

@@ -1,10 +1,8 @@
 -- `write_number` meets its contract: `Writing` is the loop's invariant.
 -- Assumes nothing.
-use Prim.Native.Nat.{_+_, _-_, _*_, _/_, _≤_, _<_}
-use mathlib.Core.Path.{_≡_, refl, ap, sym, _∙_}
-use mathlib.Core.Bool.{Bool, true, false}
+use Prim.Native.Nat.{_-_}
+use mathlib.Core.Path.{_≡_, refl}
 use native.Mathlib.Omega.{arith}
-use borrow.Author.Needs.{needs}
 use lib.ListN.{length, length-set}
 use Rattle.encoding.proofs.WriteLoop.{Writing, writing-none, writing-more, writing-end}
 use Rattle.encoding.proofs.write_number.Statement.{statement}

@@ -1,7 +1,7 @@
 -- `job_in` meets its contract: the four slices are the bodies.
 -- Assumes nothing.
 use Prim.Native.Nat.{ℕ, _+_}
-use mathlib.Core.Path.{_≡_, refl, ap, _∙_}
+use mathlib.Core.Path.{ap, _∙_}
 use Rattle.job.specs.Job.{jobValue}
 use Rattle.jobfile.proofs.ReadLaws.{decoded-by-slices, slices-fit}
 use Rattle.reader.proofs.ContentsLaws.{placed}

@@ -1,6 +1,5 @@
 -- `layout` meets its contract.
 -- Assumes nothing.
-use mathlib.Core.Path.{_≡_, refl}
 use borrow.Author.Needs.{needs}
 use Rattle.reader.proofs.layout.Statement.{statement}
 use Rattle.reader.proofs.layout.Tie as tie

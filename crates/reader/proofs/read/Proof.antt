@@ -1,6 +1,6 @@
 -- `read` meets its contract: a way out for each refusal of the file, one for those of the job, and the job.
 -- Assumes nothing.
-use mathlib.Core.Path.{_≡_, sym, ap, _∙_}
+use mathlib.Core.Path.{sym, _∙_}
 use borrow.Author.Tests.{not-true, not-false}
 use Rattle.jobfile.proofs.ReadLaws.{read-wrong-size, read-offsets, read-body-sizes, read-refused, read-passed}
 use Rattle.reader.proofs.ContentsLaws.{has-contents}

@@ -1,6 +1,6 @@
 -- `write` meets its contract: three ways out.
 -- Assumes nothing.
-use mathlib.Core.Path.{_≡_, sym, _∙_}
+use mathlib.Core.Path.{sym, _∙_}
 use Rattle.job.specs.Job.{jobIn}
 use Rattle.job.proofs.Rows.{fits-of-pass}
 use Rattle.writer.proofs.AnswerLaws.{wrote-refused, wrote-short, wrote-file}

@@ -1,6 +1,6 @@
 -- `known_actions` meets its contract: the actions of the first i steps are known.
 -- Assumes nothing.
-use Prim.Native.Nat.{ℕ, _+_, _-_, _*_, _/_, _≤_, _<_}
+use Prim.Native.Nat.{ℕ, _-_, _*_, _/_, _≤_, _<_}
 use mathlib.Core.Path.{_≡_, sym, _∙_}
 use mathlib.Core.Bool.{false}
 use mathlib.Core.List.{[]}
@@ -8,7 +8,7 @@ use mathlib.Core.Logic.{⊎-elim}
 use native.Mathlib.Nat.{eq-or-lt-of-le}
 use lib.ListN.{length, getD}
 use borrow.Author.Tests.{le-leb, lt-leb}
-use Rattle.lists.specs.Lists.{tabulate, any}
+use Rattle.lists.specs.Lists.{tabulate}
 use Rattle.lists.proofs.Bools.{absurd}
 use Rattle.lists.proofs.Any.{any-found, none-any}
 use Rattle.lists.proofs.Tabulate.{each-tabulate}

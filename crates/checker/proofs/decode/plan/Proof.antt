@@ -2,7 +2,6 @@
 -- Assumes nothing.
 use Prim.Native.Nat.{ℕ, _+_, _-_, _*_, _/_, _≤_, _<_}
 use mathlib.Core.Path.{_≡_, refl, sym, ap, _∙_}
-use mathlib.Core.Bool.{false}
 use lib.ListN.{length, getD, length-set}
 use Rattle.lists.proofs.Bools.{absurd}
 use Rattle.lists.proofs.Tabulate.{tabulate-same}

@@ -1,6 +1,6 @@
 -- `clashes_earlier` meets its contract: no step before place j clashes.
 -- Assumes nothing.
-use Prim.Native.Nat.{_+_, _-_, _≤_}
+use Prim.Native.Nat.{_-_, _≤_}
 use mathlib.Core.Path.{_≡_, sym, _∙_}
 use mathlib.Core.Bool.{false}
 use Rattle.lists.specs.Lists.{tabulate, any}

@@ -1,7 +1,7 @@
 -- `in_use` meets its contract: what the first i steps use.
 -- Assumes nothing.
-use Prim.Native.Nat.{_+_, _-_, _*_, _≤_}
-use mathlib.Core.Path.{_≡_, refl, sym, _∙_}
+use Prim.Native.Nat.{_-_, _*_, _≤_}
+use mathlib.Core.Path.{_≡_, refl, sym}
 use mathlib.Core.Bool.{cond}
 use lib.ListN.{getD}
 use Rattle.lists.specs.Lists.{tabulate}

@@ -1,8 +1,8 @@
 -- `pools` meets its contract: none of the first k pools is exceeded.
 -- Assumes nothing.
-use Prim.Native.Nat.{ℕ, _+_, _-_, _≤_}
+use Prim.Native.Nat.{_-_, _≤_}
 use mathlib.Core.Path.{_≡_, refl, sym, ap, _∙_}
-use mathlib.Core.Bool.{Bool, false}
+use mathlib.Core.Bool.{false}
 use mathlib.Core.List.{[]}
 use lib.ListN.{length, getD}
 use Rattle.lists.proofs.Tabulate.{getD-tabulate, length-tabulate}

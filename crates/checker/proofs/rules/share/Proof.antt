@@ -1,6 +1,6 @@
 -- `share` meets its contract: before the step starts, after it stops, and while it runs.
 -- Assumes nothing.
-use mathlib.Core.Path.{_≡_, sym, _∙_}
+use mathlib.Core.Path.{sym, _∙_}
 use lib.ListN.{getD}
 use Rattle.lists.proofs.Tabulate.{getD-tabulate}
 use Rattle.timeline.specs.Value.{stepOfValue}

@@ -1,6 +1,6 @@
 -- `used_up` meets its contract: what the first i steps use up.
 -- Assumes nothing.
-use Prim.Native.Nat.{_+_, _-_, _*_, _≤_}
+use Prim.Native.Nat.{_-_, _*_, _≤_}
 use mathlib.Core.Path.{_≡_, refl, sym, _∙_}
 use lib.ListN.{getD}
 use Rattle.lists.specs.Lists.{tabulate}

@@ -1,6 +1,6 @@
 -- `goal` meets its contract.
 -- Assumes nothing.
-use mathlib.Core.Path.{_≡_, sym, ap, _∙_}
+use mathlib.Core.Path.{sym, ap, _∙_}
 use mathlib.Core.Bool.{not}
 use mathlib.Core.List.{[]}
 use Rattle.job.specs.declared.refusal.Refusal.the-variants.{GoalMissing}

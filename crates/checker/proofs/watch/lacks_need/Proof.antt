@@ -1,7 +1,7 @@
 -- `lacks_need` meets its contract: none of the first i steps lacks a need.
 -- Assumes nothing.
-use Prim.Native.Nat.{_+_, _-_, _≤_}
-use mathlib.Core.Path.{_≡_, sym, _∙_}
+use Prim.Native.Nat.{_-_, _≤_}
+use mathlib.Core.Path.{_≡_, sym}
 use mathlib.Core.Bool.{false}
 use Rattle.lists.specs.Lists.{tabulate, any}
 use Rattle.lists.proofs.Any.{any-start, any-more, any-found}

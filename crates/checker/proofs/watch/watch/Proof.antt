@@ -1,8 +1,8 @@
 -- `watch` meets its contract: up to the clock's minute no need was missing.
 -- Assumes nothing.
 use Prim.Native.Nat.{ℕ, _+_, _-_, _≤_}
-use mathlib.Core.Path.{_≡_, refl, sym, ap, _∙_}
-use mathlib.Core.Bool.{Bool, not}
+use mathlib.Core.Path.{_≡_, sym, ap, _∙_}
+use mathlib.Core.Bool.{not}
 use Rattle.lists.specs.Lists.{any}
 use Rattle.facts.specs.FactSet.{subset}
 use Rattle.job.specs.Job.{Job}
@@ -12,7 +12,6 @@ use Rattle.timeline.specs.Accepted.{lacksNeed}
 use Rattle.timeline.specs.Value.{stepsOf}
 use Rattle.checker.specs.declared.clock.Clock.{Clock}
 use Rattle.checker.specs.declared.watch.Watched.the-variants.{Done}
-use Rattle.checker.specs.Watch.{watchedOf}
 use Rattle.checker.proofs.WatchLaws.{lacks, Watching, watching-none, watching-missing, watching-next}
 use Rattle.checker.proofs.WatchLaws.{watching-end, watching-clock, held-tick}
 use native.Mathlib.Omega.{arith}

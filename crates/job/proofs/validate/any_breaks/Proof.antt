@@ -1,6 +1,6 @@
 -- `any_breaks` meets its contract: no action before place i breaks the rule.
 -- Assumes nothing.
-use Prim.Native.Nat.{_+_, _-_, _≤_}
+use Prim.Native.Nat.{_-_, _≤_}
 use mathlib.Core.Path.{_≡_, sym, _∙_}
 use mathlib.Core.Bool.{false}
 use Rattle.lists.specs.Lists.{tabulate, any}

@@ -1,9 +1,8 @@
 -- `any_over` meets its contract: no amount before place i is over the limit.
 -- Assumes nothing.
-use Prim.Native.Nat.{_+_, _-_, _≤_}
+use Prim.Native.Nat.{_-_, _≤_}
 use mathlib.Core.Path.{_≡_, sym}
 use mathlib.Core.Bool.{false}
-use lib.ListN.{getD}
 use borrow.Author.Tests.{lt-ltb, le-ltb}
 use Rattle.lists.specs.Lists.{firsts, any}
 use Rattle.lists.proofs.Any.{any-start, any-more, any-found}

@@ -1,6 +1,5 @@
 -- `validate` meets its contract: each return has the tests before it passed, and its own failed.
 -- Assumes nothing.
-use mathlib.Core.Path.{_≡_, sym, _∙_}
 use borrow.Author.Tests.{lt-ltb, le-ltb}
 use Rattle.job.specs.Refusal.{first}
 use Rattle.job.proofs.Rows.{rows-of-value, fits-of-counts}

@@ -1,6 +1,6 @@
 -- `validate_actions` meets its contract: each return has the tests before it passed, and its own failed.
 -- Assumes nothing.
-use mathlib.Core.Path.{_≡_, sym, _∙_}
+use mathlib.Core.Path.{sym, _∙_}
 use Rattle.job.specs.Refusal.{first}
 use Rattle.job.specs.Valid.{actionRows}
 use borrow.Author.Needs.{needs}

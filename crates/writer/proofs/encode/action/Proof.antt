@@ -1,7 +1,6 @@
 -- `action` meets its contract: six writes one after the other.
 -- Assumes nothing.
 use Prim.Native.Nat.{_+_, _*_}
-use mathlib.Core.Path.{_≡_}
 use lib.ListN.{getD}
 use Rattle.lists.proofs.Tabulate.{length-tabulate}
 use Rattle.job.specs.Job.{actionIn}

@@ -1,7 +1,6 @@
 -- `file` meets its contract: five writes one after the other.
 -- Assumes nothing.
 use Prim.Native.Nat.{_*_}
-use mathlib.Core.Path.{_≡_}
 use lib.ListN.{getD}
 use Rattle.lists.proofs.Tabulate.{length-tabulate}
 use Rattle.job.specs.Job.{jobIn}
