@@ -128,13 +128,9 @@ module _ (J : Job) (T : Table) (horizon goal : ℕ) (P : List Step) (plan : Plan
           let z = h .stops in
           let l = plan .keeps .lasting adder (g .rest) (g .place) in
           let m = plan .keeps .lasting (h .by) (h .rest) (h .place) in
-          no-clash-of-test P (plan .keeps .noClash) adder (g .rest) (g .place) (h .by) (r .0) (r .1) (omega arith)
-          (omega arith)
-          .spares
-          .adds
-          q
-          d
-          (h .adds))
+          let noClash = no-clash-of-test P (plan .keeps .noClash) adder (g .rest) (g .place) in
+          let able = noClash (h .by) (r .0) (r .1) (omega arith) (omega arith) in
+          able .spares .adds q d (h .adds))
           (split-place (g .place) (h .place)))
           (λ c. c .1 adder (g .rest) (g .place) (g .stops) d)
           (held-comes-from (J .start) P t q hq)

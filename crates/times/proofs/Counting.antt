@@ -43,7 +43,8 @@ sum-same zero f g h e k l = absurd (omega arith)
 sum-same (suc n) f g h e k l =
     let a = h n (omega arith) in
     let b = sum-mono n f g (λ k l. h k (omega arith)) in
-    ⊎-elim (λ z. let same : k ≡ n = omega arith in rw same (omega arith))
+    let last : g n ≤ f n = omega arith in
+    ⊎-elim (λ z. let same : k ≡ n = omega arith in rw same last)
     (λ m. sum-same n f g (λ k l. h k (omega arith)) (omega arith) k (omega arith))
     (eq-or-lt-of-le l)
 

@@ -8,3 +8,4 @@ pub mod Admissible
 pub mod Pairs
 pub mod Counting
 pub mod Finite
+pub mod Iteration
