@@ -9,3 +9,8 @@ pub mod Pairs
 pub mod Counting
 pub mod Finite
 pub mod Iteration
+pub mod Sentinel
+pub mod Slots
+pub mod Falling
+pub mod Kept
+pub mod Exists

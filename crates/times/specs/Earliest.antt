@@ -50,8 +50,8 @@ addsOne J T a p q =
     choice (has (a .adds) p && not (has (a .deletes) q))
     (after (a .duration) (timeOf J T (union (a .needs) (single q))))
 
--- "(iii) Two different actions that don't clash add one fact each: with lengths s ≤ l, s plus the larger of (time of the
--- longer one's needs, plus l − s) and the time of both needs together." a is the longer one.
+-- "(iii) Two different actions that don't clash add one fact each: with lengths s ≤ l, s plus the larger of (time of
+-- the longer one's needs, plus l − s) and the time of both needs together." a is the longer one.
 abbrev pub addsEach : Job → Table → Action → Action → ℕ → ℕ → Time
 addsEach J T a b p q =
     choice (leb (b .duration) (a .duration)
@@ -73,7 +73,8 @@ byTwo J T p q i j =
     choice (not (eqb p q) && (not (eqb i j) && (not (hinders a b || hinders b a) && fitTogether J a b)))
     (addsEach J T a b p q)
 
--- the right side of the equation for facts p and q: "E inside the start set: 0. Otherwise the least over these choices."
+-- the right side of the equation for facts p and q: "E inside the start set: 0. Otherwise: the least over these
+-- choices."
 unfoldable pub rightSide : Job → Table → ℕ → ℕ → Time
 rightSide J T p q =
     earlier (choice (has (J .start) p && has (J .start) q) (at 0))

@@ -1,2 +1,3 @@
 pub mod Time
 pub mod Earliest
+pub mod Numbers
