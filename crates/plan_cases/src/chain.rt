@@ -1,0 +1,68 @@
+// Case 11 of document 01: a chain of actions, and its plan.
+ghost use mathlib.Core.Path.{_≡_};
+ghost use lib.ListN.{length};
+use crate::jobs;
+use crate::show;
+use job::Job;
+
+// A chain of so many actions of length 1, at most 64. Each needs what the one before it adds, and uses as much of a
+// store of 1,000,000.
+pub fn of(actions: u8, store: u32) -> Job {
+    let mut job = jobs::with_store(jobs::empty(0, 40, 0, 0), 1_000_000);
+    let mut i: u8 = 0;
+    while i < actions {
+        job = with_link(job, store);
+        i += 1;
+    }
+    job
+}
+
+// The chain with one action and one fact more, which is the new goal.
+fn with_link(job: Job, store: u32) -> Job {
+    if job.facts >= Job::FACTS {
+        return job;
+    }
+    let facts = job.facts + 1;
+    let fact = 1 << job.facts;
+    let action = jobs::using(jobs::action(1, job.goal, fact, 0), 0, store);
+    let mut longer = jobs::with_action(job, action);
+    longer.facts = facts;
+    longer.goal = fact;
+    longer
+}
+
+// The plan of a chain of 33: each action starts when the one before it ends.
+fn plan() -> [u8; 99]
+    ensures { λ r. ⌜ 99 ≡ length r ⌝ }
+{
+    let mut plan = [0u8; 99];
+    let mut i: u8 = 0;
+    while i < 33 {
+        let at = i as usize * 3;
+        plan[at] = i;
+        plan[at + 1] = i;
+        i += 1;
+    }
+    plan
+}
+
+// The first bytes, so many, or all where there are fewer.
+fn front(bytes: &[u8], length: usize) -> &[u8] {
+    if length <= bytes.len() {
+        &bytes[0..length]
+    } else {
+        bytes
+    }
+}
+
+// The first bytes of the plan, so many, are accepted.
+pub fn ends(case: &[u8], job: Job, bytes: usize, end: u32) {
+    let plan = plan();
+    show::ends(case, job, front(&plan, bytes), end);
+}
+
+// The first bytes of the plan, so many, are refused.
+pub fn refused(case: &[u8], job: Job, bytes: usize, number: u32) {
+    let plan = plan();
+    show::refused(case, job, front(&plan, bytes), number);
+}

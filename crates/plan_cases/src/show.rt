@@ -1,0 +1,95 @@
+// The lines of the output: the name of a case, a colon, and what the checker answered. Where that is not what the case
+// expects, the line says so.
+use checker::Checked;
+use job::Job;
+use libc::STDOUT_FILENO;
+
+// An answer of the checker: the end of an accepted plan, or the number of the refusal.
+struct Answer {
+    accepted: bool,
+    number: u32,
+}
+
+fn answer_of(checked: Checked) -> Answer {
+    match checked {
+        Checked::Ends(end) => Answer {
+            accepted: true,
+            number: end,
+        },
+        Checked::Refused(why) => Answer {
+            accepted: false,
+            number: job::refusal::number(why) as u32,
+        },
+    }
+}
+
+fn same(a: Answer, b: Answer) -> bool {
+    (a.accepted == b.accepted) & (a.number == b.number)
+}
+
+fn text(bytes: &[u8]) {
+    io::write_all(STDOUT_FILENO, bytes);
+}
+
+fn print(answer: Answer) {
+    if answer.accepted {
+        text(b"ends ");
+    } else {
+        text(b"refused ");
+    }
+    io::print_decimal(STDOUT_FILENO, answer.number as u64);
+}
+
+fn line(case: &[u8], checked: Checked, expected: Answer) {
+    let found = answer_of(checked);
+    text(b"  ");
+    text(case);
+    text(b": ");
+    print(found);
+    if !same(found, expected) {
+        text(b", expected ");
+        print(expected);
+    }
+    text(b"\n");
+}
+
+pub fn heading(sentence: &[u8]) {
+    text(sentence);
+    text(b"\n");
+}
+
+// A plan that is accepted for the job's goal.
+pub fn ends(case: &[u8], job: Job, plan: &[u8], end: u32) {
+    let expected = Answer {
+        accepted: true,
+        number: end,
+    };
+    line(case, checker::check(job, plan), expected);
+}
+
+// A plan that is refused.
+pub fn refused(case: &[u8], job: Job, plan: &[u8], number: u32) {
+    let expected = Answer {
+        accepted: false,
+        number,
+    };
+    line(case, checker::check(job, plan), expected);
+}
+
+// A plan that is accepted for another goal.
+pub fn ends_for(case: &[u8], job: Job, goal: u64, plan: &[u8], end: u32) {
+    let expected = Answer {
+        accepted: true,
+        number: end,
+    };
+    line(case, checker::check_for(job, goal, plan), expected);
+}
+
+// A plan that is refused for another goal.
+pub fn refused_for(case: &[u8], job: Job, goal: u64, plan: &[u8], number: u32) {
+    let expected = Answer {
+        accepted: false,
+        number,
+    };
+    line(case, checker::check_for(job, goal, plan), expected);
+}
