@@ -1,4 +1,4 @@
--- Sets digit by digit: an operation that works on each digit by itself, read by membership. Helpers of Membership.
+-- Sets digit by digit: an operation that works on each digit by itself, read by membership. For Membership alone.
 -- Assumes nothing.
 use Prim.Native.Nat.{ℕ, zero, suc, _+_, _*_, _/_, _%_}
 use mathlib.Core.Path.{_≡_, refl, _∙_}
