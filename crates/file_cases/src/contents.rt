@@ -37,7 +37,7 @@ pub fn bodies() {
     read::shaped(b"3, pools of 15 bytes", 19, 15, 0, 0);
     read::shaped(b"3, pools of 20 bytes", 19, 20, 0, 0);
     read::shaped(b"stores of 16 bytes", 19, 0, 16, 0);
-    read::shaped(b"3, stores of 17 bytes", 19, 0, 17, 0);
+    read::shaped(b"3, stores of 14 bytes", 19, 0, 14, 0);
     read::shaped(b"3, stores of 20 bytes", 19, 0, 20, 0);
 }
 
