@@ -6,32 +6,13 @@ use job::Job;
 
 pub fn starred() {
     show::heading(b"Days to try it on: cases 8 to 10, and case 1.");
-    show::ends(
-        b"case 8, action 1 at 2",
-        jobs::case_6(),
-        &[0, 0, 0, 1, 2, 0],
-        3,
-    );
-    show::refused(
-        b"case 8, action 1 at 1",
-        jobs::case_6(),
-        &[0, 0, 0, 1, 1, 0],
-        16,
-    );
+    let case_6 = jobs::case_6();
     let case_2 = jobs::case_2(7);
-    show::refused(
-        b"case 9, action 1 at 0, 2 at 1",
-        case_2,
-        &[1, 0, 0, 2, 1, 0],
-        19,
-    );
-    show::refused(
-        b"case 9, action 0 at 0 and at 2",
-        case_2,
-        &[0, 0, 0, 0, 2, 0],
-        16,
-    );
     let day = [1u8, 0, 0, 2, 2, 0, 0, 4, 0];
+    show::ends(b"case 8, action 1 at 2", case_6, &[0, 0, 0, 1, 2, 0], 3);
+    show::refused(b"case 8, action 1 at 1", case_6, &[0, 0, 0, 1, 1, 0], 16);
+    show::refused(b"case 9, action 2 at 1", case_2, &[1, 0, 0, 2, 1, 0], 19);
+    show::refused(b"case 9, action 0 twice", case_2, &[0, 0, 0, 0, 2, 0], 16);
     show::ends(b"case 10, deadline 7", case_2, &day, 7);
     show::refused(b"case 10, deadline 6", jobs::case_2(6), &day, 15);
     show::refused(b"case 10, no steps", case_2, &[], 20);
@@ -52,27 +33,13 @@ pub fn resources() {
 
 pub fn limits() {
     show::heading(b"Days to try it on: cases 11 to 13.");
+    let step = [0u8, 0, 0];
     chain::ends(b"case 11, chain of 32", chain::of(32, 0), 96, 32);
     chain::refused(b"case 11, chain of 33, 33 steps", chain::of(33, 0), 99, 12);
     chain::refused(b"case 11, chain of 33, 32 steps", chain::of(33, 0), 96, 20);
-    show::ends(
-        b"case 12, deadline 1,440",
-        jobs::single(1_440, 1),
-        &[0, 0, 0],
-        1,
-    );
-    show::refused(
-        b"case 12, deadline 1,441",
-        jobs::single(1_441, 1),
-        &[0, 0, 0],
-        5,
-    );
-    show::ends(
-        b"case 12, length 255",
-        jobs::single(1_440, 255),
-        &[0, 0, 0],
-        255,
-    );
-    show::refused(b"case 12, length 0", jobs::single(1_440, 0), &[0, 0, 0], 8);
+    show::ends(b"case 12, deadline 1,440", jobs::single(1_440, 1), &step, 1);
+    show::refused(b"case 12, deadline 1,441", jobs::single(1_441, 1), &step, 5);
+    show::ends(b"case 12, length 255", jobs::single(1_440, 255), &step, 255);
+    show::refused(b"case 12, length 0", jobs::single(1_440, 0), &step, 8);
     show::refused(b"case 13, no steps", jobs::empty(1, 1_440, 0, 1), &[], 20);
 }

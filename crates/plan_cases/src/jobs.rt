@@ -117,7 +117,7 @@ pub fn base() -> Job {
     job = with_action(job, using(action(3, 0b001, 0b010, 0), 1, 1));
     job = with_action(job, using(action(2, 0b010, 0b100, 0), 1, 1));
     job = with_action(job, using(action(1, 0, 0, 0), 2, 0));
-    with_action(job, using(action(1, 0, 0, 0), 0, 2))
+    with_action(job, using(action(1, 0, 0, 0), 0, 3))
 }
 
 // One action that adds the one fact, the goal.

@@ -22,6 +22,7 @@ fn main() {
     order::jobs();
     goals::asked();
     goals::foreign();
+    goals::last_fact();
     steps::sizes();
     steps::bytes();
     steps::actions();
@@ -32,8 +33,7 @@ fn main() {
     minutes::deleted_needs();
     minutes::goal();
     clashes::itself();
-    clashes::needed();
-    clashes::added();
+    clashes::different();
     clashes::none();
     amounts::shares();
     amounts::pools();

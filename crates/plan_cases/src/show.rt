@@ -10,16 +10,26 @@ struct Answer {
     number: u32,
 }
 
-fn answer_of(checked: Checked) -> Answer {
-    match checked {
-        Checked::Ends(end) => Answer {
+impl Answer {
+    fn ends(end: u32) -> Answer {
+        Answer {
             accepted: true,
             number: end,
-        },
-        Checked::Refused(why) => Answer {
+        }
+    }
+
+    fn refused(number: u32) -> Answer {
+        Answer {
             accepted: false,
-            number: job::refusal::number(why) as u32,
-        },
+            number,
+        }
+    }
+
+    fn of(checked: Checked) -> Answer {
+        match checked {
+            Checked::Ends(end) => Answer::ends(end),
+            Checked::Refused(why) => Answer::refused(job::refusal::number(why) as u32),
+        }
     }
 }
 
@@ -41,7 +51,7 @@ fn print(answer: Answer) {
 }
 
 fn line(case: &[u8], checked: Checked, expected: Answer) {
-    let found = answer_of(checked);
+    let found = Answer::of(checked);
     text(b"  ");
     text(case);
     text(b": ");
@@ -60,36 +70,22 @@ pub fn heading(sentence: &[u8]) {
 
 // A plan that is accepted for the job's goal.
 pub fn ends(case: &[u8], job: Job, plan: &[u8], end: u32) {
-    let expected = Answer {
-        accepted: true,
-        number: end,
-    };
-    line(case, checker::check(job, plan), expected);
+    line(case, checker::check(job, plan), Answer::ends(end));
 }
 
 // A plan that is refused.
 pub fn refused(case: &[u8], job: Job, plan: &[u8], number: u32) {
-    let expected = Answer {
-        accepted: false,
-        number,
-    };
-    line(case, checker::check(job, plan), expected);
+    line(case, checker::check(job, plan), Answer::refused(number));
 }
 
-// A plan that is accepted for another goal.
+// A plan that is accepted for the goal that the call names.
 pub fn ends_for(case: &[u8], job: Job, goal: u64, plan: &[u8], end: u32) {
-    let expected = Answer {
-        accepted: true,
-        number: end,
-    };
-    line(case, checker::check_for(job, goal, plan), expected);
+    let checked = checker::check_for(job, goal, plan);
+    line(case, checked, Answer::ends(end));
 }
 
-// A plan that is refused for another goal.
+// A plan that is refused for the goal that the call names.
 pub fn refused_for(case: &[u8], job: Job, goal: u64, plan: &[u8], number: u32) {
-    let expected = Answer {
-        accepted: false,
-        number,
-    };
-    line(case, checker::check_for(job, goal, plan), expected);
+    let checked = checker::check_for(job, goal, plan);
+    line(case, checked, Answer::refused(number));
 }
