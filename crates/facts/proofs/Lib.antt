@@ -1,3 +1,4 @@
 mod Digits
 pub mod Membership
+pub mod Lowest
 pub mod SetLaws

@@ -119,7 +119,7 @@ meets-some a b h =
     (n, both .0, both .1)
 
 -- ---- membership by a shift
-has-shifted : (set k n : ℕ) → has (set / 2 ^ k) n ≡ has set (k + n)
+pub has-shifted : (set k n : ℕ) → has (set / 2 ^ k) n ≡ has set (k + n)
 unfolding has
 has-shifted set zero n = rw (div-one set, zero-add n)
 has-shifted set (suc k) n =

@@ -1,6 +1,6 @@
 -- Sets of facts. "Fact n is bit n, bit 0 lowest."
 -- Assumes nothing.
-use Prim.Native.Nat.{ℕ, zero, suc, _-_, _/_, _%_, _^_, _≤_}
+use Prim.Native.Nat.{ℕ, zero, suc, _-_, _/_, _%_, _^_, _≤_, _<_}
 use mathlib.Core.Path.{_≡_}
 use mathlib.Core.Bool.{Bool, true, false, not}
 use lib.Dec.{eqb, leb}
@@ -43,3 +43,14 @@ foreign facts set = leb (2 ^ facts) set
 
 abbrev pub Within : ℕ → ℕ → Type 0
 Within facts set = (n : ℕ) → facts ≤ n → has set n ≡ false
+
+-- the set of one fact
+abbrev pub single : ℕ → ℕ
+single n = 2 ^ n
+
+-- r is the lowest fact of the set at or above a number, or 64 where there is none
+pub record NextFact (set from r : ℕ) : Type 0 where
+  pub within : r ≤ 64
+  pub onward : from ≤ 64 → from ≤ r
+  pub skipped : (n : ℕ) → from ≤ n → n < r → has set n ≡ false
+  pub found : r < 64 → has set r ≡ true

@@ -4,6 +4,8 @@ ghost use mathlib.Core.Bool.{not, _&&_, _||_};
 ghost use Rattle.lists.specs.Answer.{Decides};
 ghost use Rattle.facts.specs.FactSet.{has, Members, union, difference};
 ghost use Rattle.facts.specs.FactSet.{subset, Subset, meets, Disjoint, foreign, Within};
+ghost use Rattle.facts.specs.FactSet.{single, NextFact};
+ghost use Prim.Native.Nat.{_<_};
 
 // Whether fact n is in the set.
 pub fn has(set: u64, n: u8) -> bool
@@ -51,4 +53,26 @@ pub fn foreign(facts: u8, set: u64) -> bool
         return false;
     }
     (set >> facts) != 0
+}
+
+// The set of one fact.
+pub fn single(n: u8) -> u64
+    requires { ⌜ n < 64 ⌝ }
+    ensures { λ r. ⌜ r ≡ single n ⌝ }
+{
+    1u64 << n
+}
+
+// The lowest fact of the set at or above a number, 64 where there is none.
+pub fn next(set: u64, from: u8) -> u8
+    ensures { λ r. ⌜ NextFact set from r ⌝ }
+{
+    if 64 <= from {
+        return 64;
+    }
+    let rest = set >> from;
+    if rest == 0 {
+        return 64;
+    }
+    from + (u64::trailing_zeros(rest) % 64) as u8
 }

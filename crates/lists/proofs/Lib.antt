@@ -1,3 +1,4 @@
 pub mod Bools
 pub mod Tabulate
 pub mod Any
+pub mod Inside

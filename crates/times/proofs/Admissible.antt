@@ -6,7 +6,7 @@ use mathlib.Core.Bool.{true, false}
 use mathlib.Core.Logic.{⊎-elim}
 use mathlib.Core.List.{List}
 use native.Mathlib.Omega.{arith}
-use Rattle.facts.specs.FactSet.{has, union, Subset}
+use Rattle.facts.specs.FactSet.{has, union, Subset, single}
 use Rattle.facts.proofs.SetLaws.{in-union-cases}
 use Rattle.job.specs.Job.{Action, Job}
 use Rattle.timeline.specs.Step.{Step}
@@ -16,7 +16,7 @@ use Rattle.timeline.proofs.Places.{Place, split-place}
 use Rattle.timeline.proofs.HeldFacts.{Added, held-comes-from}
 use Rattle.timeline.proofs.Clashes.{no-clash-of-test}
 use Rattle.times.specs.Time.{unreachable}
-use Rattle.times.specs.Earliest.{Table, timeOf, actionOf, single, Solves}
+use Rattle.times.specs.Earliest.{Table, timeOf, actionOf, Solves}
 use Rattle.times.proofs.Times.{By, by-same, by-later-minute, timeOf-by}
 use Rattle.times.proofs.Singles.{in-with-cases}
 use Rattle.times.proofs.Choices.{Alone, Together, Reached, atStart, both, one, each, eachOther}

@@ -9,12 +9,12 @@ use lib.Dec.{eqb, leb}
 use lib.ListN.{length}
 use borrow.Author.Tests.{eqb-false, ne-eqb, leb-true, le-leb, not-true}
 use Rattle.lists.proofs.Bools.{and-left, and-right, or-left, or-right}
-use Rattle.facts.specs.FactSet.{has, union}
+use Rattle.facts.specs.FactSet.{has, union, single}
 use Rattle.job.specs.Job.{Action, Job}
 use Rattle.timeline.specs.Timeline.{hinders}
 use Rattle.timeline.proofs.Tests.{and-both, or-cases, or-neither}
 use Rattle.times.specs.Time.{Time, at, later, after, choice, least}
-use Rattle.times.specs.Earliest.{Table, timeOf, actionOf, single, fitsAlone, fitTogether}
+use Rattle.times.specs.Earliest.{Table, timeOf, actionOf, fitsAlone, fitTogether}
 use Rattle.times.specs.Earliest.{addsBoth, addsOne, addsEach, byOne, byTwo, rightSide}
 use Rattle.times.proofs.Times.{By, by-later-minute, by-earlier, earlier-by-first, earlier-by-second}
 use Rattle.times.proofs.Times.{by-later, later-by, by-after, after-by, by-choice, choice-by, by-least, least-by}

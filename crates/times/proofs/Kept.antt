@@ -116,8 +116,9 @@ module _ (J : Job) (durations : LongestDuration J 255) (few : J .facts ≤ 64) (
     place = let l = entry-inside p q a b in let n = kept .whole in omega arith
 
     -- the number of finite entries grows where the old one was unreachable
-    grown : (finiteIn xs ≤ finiteIn (set xs (entryOf p q) v)) × (v ≤ 255 * finiteIn (set xs (entryOf p q) v))
-    grown =
+    pub finite-when-written : (finiteIn xs ≤ finiteIn (set xs (entryOf p q) v))
+        × (v ≤ 255 * finiteIn (set xs (entryOf p q) v))
+    finite-when-written =
         let l = less in
         let f = most in
         let c = cap in
@@ -132,8 +133,8 @@ module _ (J : Job) (durations : LongestDuration J 255) (few : J .facts ≤ 64) (
     pub kept-when-written : Lowered J (tableIn xs) (tableIn (set xs (entryOf p q) v))
         → Kept J (set xs (entryOf p q) v)
     kept-when-written lowered =
-        let g = grown .0 in
-        let h = grown .1 in
+        let g = finite-when-written .0 in
+        let h = finite-when-written .1 in
         let n = kept .whole in
         record {
           whole = length-set xs (entryOf p q) v ∙ kept .whole;

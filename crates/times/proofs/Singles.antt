@@ -8,11 +8,10 @@ use native.Mathlib.Nat.{pow-succ'}
 use native.Mathlib.Omega.{arith}
 use lib.Dec.{eqb}
 use borrow.Author.Tests.{eqb-true, eq-eqb, ne-eqb}
-use Rattle.facts.specs.FactSet.{has, union}
+use Rattle.facts.specs.FactSet.{has, union, single}
 use Rattle.facts.proofs.Membership.{has-union, has-zero}
 use Rattle.facts.proofs.SetLaws.{in-union-right, in-union-cases}
 use Rattle.timeline.proofs.Tests.{same-test}
-use Rattle.times.specs.Earliest.{single}
 
 pub has-single : (q n : ℕ) → has (single q) n ≡ eqb n q
 unfolding has

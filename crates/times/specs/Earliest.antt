@@ -1,11 +1,11 @@
 -- Earliest times: the equations of document 000, (5) to (8), with m = 2, as document 01 gives them.
 -- Assumes nothing.
-use Prim.Native.Nat.{ℕ, suc, _+_, _-_, _^_, _≤_, _<_}
+use Prim.Native.Nat.{ℕ, suc, _+_, _-_, _≤_, _<_}
 use mathlib.Core.Path.{_≡_}
 use mathlib.Core.Bool.{Bool, not, _&&_, _||_}
 use lib.Dec.{eqb, leb}
 use lib.ListN.{length, getD}
-use Rattle.facts.specs.FactSet.{has, union}
+use Rattle.facts.specs.FactSet.{has, union, single}
 use Rattle.job.specs.Job.{Action, Job}
 use Rattle.job.specs.Valid.{over}
 use Rattle.timeline.specs.Step.{noAction}
@@ -23,10 +23,6 @@ timeOf J T set = greatest (J .facts) (λ q. greatest (suc q) (λ p. demand (has 
 
 abbrev pub actionOf : Job → ℕ → Action
 actionOf J i = getD (J .actions) i noAction
-
--- the set of one fact
-abbrev pub single : ℕ → ℕ
-single n = 2 ^ n
 
 -- ── "Chosen actions that together exceed a pool are no choice." ──
 

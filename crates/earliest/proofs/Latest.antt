@@ -1,0 +1,66 @@
+-- The largest number over a set of facts, from one fact of the set to the next.
+-- Assumes nothing.
+use Prim.Native.Nat.{ℕ, zero, suc, _+_, _-_, _≤_, _<_, min, max}
+use mathlib.Core.Path.{_≡_, refl, sym, ap, _∙_}
+use mathlib.Core.Bool.{true, false}
+use native.Mathlib.Omega.{arith}
+use Rattle.facts.specs.FactSet.{has, NextFact}
+use Rattle.earliest.specs.Numbers.{latest}
+
+module _ (set : ℕ) (f : ℕ → ℕ) where
+  pub latest-first : latest set f 0 ≡ 0
+  unfolding latest
+  latest-first = refl
+
+  -- facts that are not in the set do not count
+  past-others : (n d : ℕ) → ((k : ℕ) → n ≤ k → k < n + d → has set k ≡ false) → latest set f (n + d) ≡ latest set f n
+  unfolding latest
+  past-others n zero others = let e : n + 0 ≡ n = omega arith in ap (latest set f) e
+  past-others n (suc d) others =
+      let e : n + suc d ≡ suc (n + d) = omega arith in
+      let last = others (n + d) (omega arith) (omega arith) in
+      let rest = past-others n d (λ k a b. others k a (omega arith)) in
+      let first : max 0 (latest set f n) ≡ latest set f n = omega arith in
+      ap (latest set f) e ∙ rw (last, rest) first
+
+  pub latest-to-next : (from r m : ℕ) → NextFact set from r → from ≤ m → m ≤ r → latest set f m ≡ latest set f from
+  latest-to-next from r m next l u =
+      let e : from + (m - from) ≡ m = omega arith in
+      rw e at (past-others from (m - from) (λ k a b. next .skipped k a (omega arith)))
+
+  -- a fact of the set counts
+  pub latest-at-member : (n : ℕ) → has set n ≡ true → latest set f (suc n) ≡ max (latest set f n) (f n)
+  unfolding latest
+  latest-at-member n h = let e : max (f n) (latest set f n) ≡ max (latest set f n) (f n) = omega arith in rw h e
+
+  -- from a fact of the set to the next one, or as far as m
+  pub latest-on : (n r m : ℕ) → has set n ≡ true → NextFact set (n + 1) r → n < m → m ≤ r
+      → latest set f m ≡ max (latest set f n) (f n)
+  latest-on n r m h next l u =
+      let e : n + 1 ≡ suc n = omega arith in
+      latest-to-next (n + 1) r m next (omega arith) u ∙ ap (latest set f) e ∙ latest-at-member n h
+
+-- ---- a loop over the facts of the set below a bound
+module _ (set : ℕ) (f : ℕ → ℕ) (bound : ℕ) where
+  -- n is a fact of the set or 64, and x the largest number of the facts below n
+  abbrev pub Counted : ℕ → ℕ → Type 0
+  Counted n x = (n ≤ 64) × (n < 64 → has set n ≡ true) × (x ≡ latest set f (min n bound))
+
+  pub counted-at-first : (r : ℕ) → NextFact set 0 r → Counted r 0
+  counted-at-first r next = (
+    next .within,
+    next .found,
+    sym (latest-to-next set f 0 r (min r bound) next (omega arith) (omega arith) ∙ latest-first set f),
+  )
+
+  pub counted-on : (n x r : ℕ) → Counted n x → n < bound → n < 64 → NextFact set (n + 1) r → Counted r (max x (f n))
+  counted-on n x r c l k next =
+      let here : min n bound ≡ n = omega arith in
+      let onward = next .onward (omega arith) in (
+        next .within,
+        next .found,
+        rw (c .2, here) (sym (latest-on set f n r (min r bound) (c .1 k) next (omega arith) (omega arith))),
+      )
+
+  pub counted-all : (n x : ℕ) → Counted n x → bound ≤ n → x ≡ latest set f bound
+  counted-all n x c l = let e : min n bound ≡ bound = omega arith in c .2 ∙ ap (latest set f) e

@@ -1,0 +1,4 @@
+mod Latest
+mod LoweringLaws
+mod Loops
+mod Members

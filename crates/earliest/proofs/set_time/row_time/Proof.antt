@@ -1,0 +1,105 @@
+-- `row_time` meets its contract: the facts of the set below `low` are counted.
+-- Assumes nothing.
+use Prim.Native.Nat.{ℕ, _+_, _-_, suc, max}
+use mathlib.Core.Path.{_≡_, ap, _∙_}
+use lib.ListN.{getD}
+use Rattle.lists.proofs.Inside.{getD-inside}
+use Rattle.pairs.specs.Pairs.{entryOf}
+use Rattle.times.specs.Numbers.{none}
+use Rattle.times.proofs.Slots.{entry-before-2080}
+use Rattle.earliest.proofs.Latest.{Counted, counted-at-first, counted-on, counted-all}
+use native.Mathlib.Omega.{arith}
+use Rattle.earliest.proofs.set_time.row_time.Statement.{statement}
+use Rattle.earliest.proofs.set_time.row_time.Tie as tie
+
+abbrev Inv-loop : tie.InvT-loop
+Inv-loop table set high first latest₀ low₀ latest low = Counted set (λ p. getD table (entryOf p high) none) (suc high) low latest
+
+abbrev μ-loop : tie.MeasureT-loop
+μ-loop table set high first latest₀ low₀ latest low = 64 - low
+
+entry-requires : tie.Need-entry-requires Inv-loop μ-loop
+entry-requires c κs = let h = c .before .pre in (omega arith, omega arith)
+
+next-requires : tie.Need-next-requires Inv-loop μ-loop
+next-requires c κs = tt
+
+loop-holds : tie.Need-loop-holds Inv-loop μ-loop
+loop-holds c = counted-at-first _ _ _ _ (c .next .ensures)
+
+cast-later : tie.Need-cast-later Inv-loop μ-loop
+cast-later c = omega arith
+
+add-later : tie.Need-add-later Inv-loop μ-loop
+add-later c = omega arith
+
+mul-later : tie.Need-mul-later Inv-loop μ-loop
+mul-later c = omega arith
+
+shared-slice-read-later : tie.Need-shared-slice-read-later Inv-loop μ-loop
+shared-slice-read-later c =
+    let c-pre = c .before .before .before .before .before .before .pre in
+    let c-args = c .before .before .before .before .before .before .args in
+    let c-entry = c .before .before .before .before .entry in
+    let h = c-pre in
+    let at = c-entry .ensures in
+    let inside = entry-before-2080 (c .before .before .loop .low) (c-args .high) (omega arith) (omega arith) in
+    omega arith
+
+later-requires : tie.Need-later-requires Inv-loop μ-loop
+later-requires c κs = tt
+
+add-next : tie.Need-add-next Inv-loop μ-loop
+add-next c = omega arith
+
+next-requires-2 : tie.Need-next-requires-2 Inv-loop μ-loop
+next-requires-2 c κs = tt
+
+loop-less : tie.Need-loop-less Inv-loop μ-loop
+loop-less c =
+    let onward = c .next2 .ensures .onward in
+    let k = onward (omega arith) in
+    omega arith
+
+loop-again : tie.Need-loop-again Inv-loop μ-loop
+loop-again c =
+    let c-pre = c .before .before .before .before .before .before .before .before .pre in
+    let c-args = c .before .before .before .before .before .before .before .before .args in
+    let c-entry = c .before .before .before .before .before .before .entry in
+    let c-loop = c .before .before .before .before .loop in
+    let c-later = c .before .later in
+    let h = c-pre in
+    let xs = c-args .table .now in
+    let high = c-args .high in
+    let low = c-loop .low in
+    let place : c-entry .result + low ≡ entryOf low high = let e = c-entry .ensures .0 in omega arith in
+    let on = counted-on _ _ _ low (c-loop .latest) (c .next2 .result) (c-loop .inv) (omega arith) (omega arith)
+    (c .next2 .ensures) in
+    let inside = entry-before-2080 low high (omega arith) (omega arith) in
+    let value : c-later .result ≡ max (c-loop .latest) (getD xs (c-entry .result + low) 0) = c-later .ensures in
+    let read : getD xs (c-entry .result + low) 0 ≡ getD xs (entryOf low high) none =
+    ap (λ (k : ℕ). getD xs k 0) place ∙ getD-inside xs (entryOf low high) 0 none (omega arith) in
+    (on .0, on .1, value ∙ ap (max (c-loop .latest)) read ∙ on .2)
+
+returns : tie.Need-returns Inv-loop μ-loop
+returns c = counted-all _ _ _ _ _ (c .before .loop .inv) (omega arith)
+
+pub row-time-spec : {M : Type 1} → statement M
+row-time-spec =
+    tie.close
+    (tie.spec
+    Inv-loop
+    μ-loop
+    entry-requires
+    next-requires
+    loop-holds
+    cast-later
+    add-later
+    mul-later
+    shared-slice-read-later
+    later-requires
+    add-next
+    next-requires-2
+    loop-less
+    loop-again
+    returns)
