@@ -1,0 +1,107 @@
+-- What the search concludes: where the chosen steps alone are refused, they are a dead end; where the kept steps are a
+-- dead end from the start, no accepted plan has them.
+-- Assumes nothing.
+use Prim.Native.Nat.{ℕ, _/_, _%_, _<_, _≤_}
+use mathlib.Core.Path.{_≡_}
+use mathlib.Core.Bool.{true, not}
+use mathlib.Core.List.{List, [], _∷_, _++_}
+use native.Mathlib.Omega.{arith}
+use lib.Dec.{eqb}
+use lib.ListN.{length}
+use borrow.Author.Tests.{ltb-false}
+use Rattle.lists.proofs.Bools.{or-right}
+use Rattle.lists.proofs.Tabulate.{length-tabulate}
+use Rattle.job.specs.Job.{Job}
+use Rattle.job.specs.Refusal.{first}
+use Rattle.job.specs.declared.refusal.Verdict.the-variants.{Pass}
+use Rattle.job.proofs.Table.{first-pass}
+use Rattle.job.proofs.Passed.{Passed}
+use Rattle.timeline.specs.Step.{Step, stepsIn, strictlyRising}
+use Rattle.timeline.specs.Timeline.{end}
+use Rattle.timeline.specs.Accepted.{Accepted, planRows, stepRows}
+use Rattle.timeline.proofs.Places.{here, Member, EachStep, each-step, place-append}
+use Rattle.timeline.proofs.AcceptedSteps.{accepted-steps}
+use Rattle.timeline.proofs.Keeps.{keeps-of-accepted}
+use Rattle.timeline.proofs.JobSteps.{OfJob, lasting-of-known, steps-in-bytes, steps-of-accepted}
+use Rattle.timeline.proofs.Permutations.{Permutation, empty, next-step, permutation-sym, permutation-each}
+use Rattle.timeline.proofs.Permutations.{permutation-keeps, permutation-length, permutation-of-members}
+use Rattle.timeline.proofs.Rising.{AllApart, rising-apart, apart-distinct}
+use Rattle.times.proofs.PlanSteps.{PlanOf}
+use Rattle.regression.specs.DeadEnd.{NormalPlan, Until, Dead}
+use Rattle.regression.proofs.NormalPlans.{normal-plan-exists, normal-plan-apart, normal-plan-accepted}
+
+module _ (J : Job) (b goal T : ℕ) where
+  -- ---- nothing is left to choose
+  -- where no new step can stop by t, what holds of no normal plan of the steps L is a dead end
+  dead-when-none-left : (t : ℕ) → t ≤ b → (L : List Step) → (NormalPlan J b goal T L → ⊥)
+      → Dead J b goal T (Until b t) L
+  dead-when-none-left t l L none [] h p = none p
+  dead-when-none-left t l L none (x ∷ E) h p =
+      let u = h x E here in let a = u .0 in let c = u .1 in let d = u .2 in omega arith
+
+  -- R is L in rising order, and it is refused
+  pub dead-when-refused : T ≤ J .deadline → (t : ℕ) → t ≤ b → (L R : List Step) → Permutation R L
+      → (AllApart L → strictlyRising R ≡ true) → (first (stepRows J goal R) ≡ Pass → ⊥)
+      → Dead J b goal T (Until b t) L
+  dead-when-refused d t l L R o rising refused =
+      dead-when-none-left t l L
+      (λ p. refused (normal-plan-accepted J b goal T d o (rising (normal-plan-apart J b goal T p)) p .0))
+
+  -- R is rising, and has the steps of L
+  pub dead-when-refused-by-members : T ≤ J .deadline → (t : ℕ) → t ≤ b → (L R : List Step)
+      → EachStep (λ x. Member x L) R → EachStep (λ x. Member x R) L → strictlyRising R ≡ true
+      → (first (stepRows J goal R) ≡ Pass → ⊥) → Dead J b goal T (Until b t) L
+  dead-when-refused-by-members d t l L R into back rising refused =
+      dead-when-none-left t l L
+      (λ p.
+      let apart = apart-distinct L (normal-plan-apart J b goal T p) in
+      let o = permutation-of-members R L (apart-distinct R (rising-apart R rising)) apart into back in
+      refused (normal-plan-accepted J b goal T d o rising p .0))
+
+  -- ---- no plan
+  -- R is an accepted plan of the new steps P and the kept steps K
+  pub no-plan-when-dead : Passed J → (P K R : List Step) → Permutation R (P ++ K) → EachStep (OfJob J) R
+      → EachStep (λ x. b ≤ x .start) P → EachStep (λ x. x .start < b) K → length R ≤ 32
+      → first (stepRows J goal R) ≡ Pass → end R ≤ T → Dead J b goal T (Until b T) K → ⊥
+  no-plan-when-dead passed P K R o own new kept few pass l dead =
+      let Known : Step → Type 0 = λ x. x .number < length (J .actions) in
+      let known = accepted-steps J goal R pass .known in
+      let keeps = keeps-of-accepted J goal R T (lasting-of-known J R passed own known) pass l in
+      let back = permutation-sym o in
+      let same = permutation-length o in
+      let plan : PlanOf J T goal (P ++ K)
+      = record {
+        keeps = permutation-keeps J T goal back keeps;
+        own = permutation-each (OfJob J) back own;
+        known = permutation-each Known back known;
+      } in
+      let normal = normal-plan-exists J b goal T passed P K plan new kept (omega arith) in
+      let F : List Step = normal .0 in
+      let n = normal .2 .plan .keeps in
+      dead F
+      (λ x Q i.
+      let j = place-append K i in
+      (normal .1 x Q i, n .lasting x (Q ++ K) j, n .inTime x (Q ++ K) j))
+      (normal .2)
+
+-- ---- an ordinary call: no kept steps, and every minute is free
+-- an accepted plan has at most 32 steps
+few-steps : (J : Job) (goal : ℕ) (bytes : List ℕ) → Accepted J goal bytes → length (stepsIn J bytes) ≤ 32
+unfolding planRows stepsIn
+few-steps J goal bytes accepted =
+    let size = first-pass _ _ _ accepted .0 in
+    let bound = ltb-false 96 (length bytes) (or-right (not (eqb (length bytes % 3) 0)) _ size) in
+    let count : length (stepsIn J bytes) ≡ length bytes / 3 = length-tabulate _ _ in
+    omega arith
+
+append-nothing : (P : List Step) → Permutation P (P ++ [])
+append-nothing [] = empty
+append-nothing (x ∷ P) = next-step here (append-nothing P)
+
+-- no accepted plan ends by T
+pub no-accepted-plan-when-dead : (J : Job) (goal T : ℕ) → Passed J → Dead J 0 goal T (Until 0 T) []
+    → (bytes : List ℕ) → Accepted J goal bytes → end (stepsIn J bytes) ≤ T → ⊥
+no-accepted-plan-when-dead J goal T passed dead bytes accepted l =
+    no-plan-when-dead J 0 goal T passed (stepsIn J bytes) [] (stepsIn J bytes) (append-nothing (stepsIn J bytes))
+    (steps-in-bytes J bytes) (λ x Q i. omega arith) (each-step (λ x. x .start < 0) [] tt)
+    (few-steps J goal bytes accepted) (steps-of-accepted J goal bytes accepted) l dead

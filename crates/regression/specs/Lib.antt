@@ -1,0 +1,4 @@
+pub mod Wanted
+pub mod Normal
+pub mod Tests
+pub mod DeadEnd

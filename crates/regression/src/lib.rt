@@ -1,0 +1,1 @@
+// Regression: definitions of the backward search in specs/, their laws in proofs/.
