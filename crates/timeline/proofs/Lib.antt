@@ -6,6 +6,7 @@ pub mod Shares
 pub mod AcceptedSteps
 pub mod Keeps
 pub mod JobSteps
+pub mod PlanBytes
 pub mod Persist
 pub mod Drop
 pub mod Replaced

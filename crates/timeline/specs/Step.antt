@@ -3,11 +3,11 @@
 -- Assumes nothing.
 use Prim.Native.Nat.{ℕ, _+_, max}
 use mathlib.Core.Bool.{Bool, true, false, _&&_, _||_}
-use mathlib.Core.List.{List, [], _∷_}
+use mathlib.Core.List.{List, [], _∷_, _++_}
 use lib.Dec.{eqb, ltb}
 use lib.ListN.{getD}
 use Rattle.lists.specs.Lists.{any}
-use Rattle.encoding.specs.Bytes.{fromBytes, part, split}
+use Rattle.encoding.specs.Bytes.{fromBytes, toBytes, part, split, joined}
 use Rattle.facts.specs.FactSet.{union}
 use Rattle.job.specs.Job.{Action, Job}
 
@@ -35,6 +35,13 @@ stepIn J bytes = stepOf J (fromBytes (part bytes 0 1)) (fromBytes (part bytes 1 
 
 unfoldable pub stepsIn : Job → List ℕ → List Step
 stepsIn J bytes = split 3 (stepIn J) bytes
+
+-- the bytes of a step, and of the steps of a plan one after the other
+abbrev pub stepBytes : Step → List ℕ
+stepBytes x = toBytes 1 (x .number) ++ toBytes 2 (x .start)
+
+unfoldable pub planBytes : List Step → List ℕ
+planBytes P = joined stepBytes P
 
 -- "strictly rising order of start, then action"
 abbrev pub before : Step → Step → Bool
