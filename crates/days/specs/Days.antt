@@ -9,9 +9,17 @@ use Rattle.job.specs.declared.refusal.Refusal.the-variants.{AfterDeadline, Clas
 use Rattle.checker.specs.declared.Checked.{Checked}
 use Rattle.checker.specs.declared.Checked.the-variants.{Ends, Refused}
 use Rattle.checker.specs.Check.{checkPlan}
+use Rattle.times.specs.Time.{Time, at}
+use Rattle.times.specs.Earliest.{Table, timeOf, Solves}
+use Rattle.makespan.specs.Makespan.{Makespan, endsAt, noPlan, makespan}
 
--- ── jobs without pools and stores ──
+-- ── jobs ──
 
+-- case 1: "No facts, actions or goals, deadline 0."
+abbrev pub job1 : Job
+job1 = record { facts = 0; deadline = 0; start = 0; goal = 0; pools = []; stores = []; actions = [] }
+
+-- an action that uses no pool and no store
 abbrev pub plain : ℕ → ℕ → ℕ → ℕ → Action
 plain duration needs adds deletes =
     record { duration = duration; needs = needs; adds = adds; deletes = deletes; pools = []; stores = [] }
@@ -30,6 +38,31 @@ job2 deadline =
       actions = plain 3 1 8 0 ∷ plain 2 2 4 0 ∷ plain 5 4 16 0 ∷ [];
     }
 
+-- cases 4, 5 and 7: "Two actions of length 2, needing no facts, add facts 0 and 1; goal both": with a deadline, pools and
+-- stores, and what each action uses of these
+abbrev pub twoActions : ℕ → List ℕ → List ℕ → List ℕ → List ℕ → Job
+twoActions deadline pools stores poolUses storeUses =
+    record {
+      facts = 2;
+      deadline = deadline;
+      start = 0;
+      goal = 3;
+      pools = pools;
+      stores = stores;
+      actions = adding 1 ∷ adding 2 ∷ [];
+    }
+  where
+    adding : ℕ → Action
+    adding facts = record { duration = 2; needs = 0; adds = facts; deletes = 0; pools = poolUses; stores = storeUses }
+
+-- case 4: "each uses 1 of a pool of 1"
+abbrev pub job4 : ℕ → Job
+job4 deadline = twoActions deadline (1 ∷ []) [] (1 ∷ []) []
+
+-- case 5: "Pool of 2"
+abbrev pub job5 : ℕ → Job
+job5 deadline = twoActions deadline (2 ∷ []) [] (1 ∷ []) []
+
 -- case 6: "Start {0}, goal {0, 1}, deadline 3. Action 0: length 2, needs and deletes 0, adds 1. Action 1: length 1,
 -- needs 1, adds 0."
 abbrev pub job6 : Job
@@ -44,6 +77,10 @@ job6 =
       actions = plain 2 1 2 1 ∷ plain 1 2 1 0 ∷ [];
     }
 
+-- case 7: "Case 4 without pool, each using 2 of a store"
+abbrev pub job7 : ℕ → ℕ → Job
+job7 store deadline = twoActions deadline [] (store ∷ []) [] (2 ∷ [])
+
 -- ── plans ──
 
 -- "a step is the action (1 byte), then the start (2 bytes)"
@@ -54,16 +91,45 @@ step action start = toBytes 1 action ++ toBytes 2 start
 
 -- what is said of a day
 pub data Day : Type 0 where
+  -- its makespan, where `noPlan` stands for the planner's reply 22
+  planned : Job → Makespan → Day
+  -- the earliest time of a set of facts, by the one table that solves the equations
+  earliest : Job → ℕ → Time → Day
   -- the checker's answer to a plan
   checked : Job → List ℕ → Checked → Day
 
 abbrev pub Holds : Day → Type 0
+Holds (planned J answer) = makespan J (J .goal) ≡ answer
+Holds (earliest J set time) = (table : Table) × Solves J table × (timeOf J table set ≡ time)
 Holds (checked J plan answer) = checkPlan J plan ≡ answer
 
 abbrev pub days : List Day
 days =
+    -- 1: "end 0, no steps"
+    planned job1 (endsAt 0)
+    ∷ checked job1 [] (Ends 0)
+    -- 2: "Deadline 7: end 7."
+    ∷ planned (job2 7) (endsAt 7)
+    -- 3: "The same, deadline 6: 22."
+    ∷ planned (job2 6) noPlan
+    -- 4: "Deadline 4: end 4, earliest time of both 4. Deadline 3: 22."
+    ∷ planned (job4 4) (endsAt 4)
+    ∷ earliest (job4 4) (job4 4 .goal) (at 4)
+    ∷ planned (job4 3) noPlan
+    -- 5: "Pool of 2: end 2, earliest time 2."
+    ∷ planned (job5 4) (endsAt 2)
+    ∷ planned (job5 3) (endsAt 2)
+    ∷ earliest (job5 4) (job5 4 .goal) (at 2)
+    -- 6: "End 3, earliest time of the goal 3."
+    ∷ planned job6 (endsAt 3)
+    ∷ earliest job6 (job6 .goal) (at 3)
+    -- 7: "store 4 ends at 2, store 3 gives 22"
+    ∷ planned (job7 4 4) (endsAt 2)
+    ∷ planned (job7 4 3) (endsAt 2)
+    ∷ planned (job7 3 4) noPlan
+    ∷ planned (job7 3 3) noPlan
     -- 8: "Case 6, action 0 at 0, action 1 at 2: accepted; at 1: 16."
-    checked job6 (step 0 0 ++ step 1 2) (Ends 3)
+    ∷ checked job6 (step 0 0 ++ step 1 2) (Ends 3)
     ∷ checked job6 (step 0 0 ++ step 1 1) (Refused Clash)
     -- 9: "Case 2, action 1 at 0, action 2 at 1: 19. Action 0 at 0 and at 2: 16."
     ∷ checked (job2 7) (step 1 0 ++ step 2 1) (Refused NeedMissing)

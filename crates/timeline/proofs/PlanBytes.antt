@@ -46,7 +46,8 @@ step-read-back J x own number start =
     let n = length-bytes 2 (x .start) in
     let p : part (stepBytes x) 0 1 ≡ a = take-at a b 1 m in
     let q : part (stepBytes x) 1 2 ≡ b = ap (take 2) (drop-at a b 1 m) ∙ take-all 2 b (omega arith) in
-    ap₂ (stepOf J) (ap fromBytes p ∙ number-bytes 1 (x .number) number) (ap fromBytes q ∙ number-bytes 2 (x .start) start)
+    ap₂ (stepOf J) (ap fromBytes p ∙ number-bytes 1 (x .number) number)
+    (ap fromBytes q ∙ number-bytes 2 (x .start) start)
     ∙ sym own
 
 -- the steps that a plan's bytes were written from are the steps in them

@@ -1,0 +1,78 @@
+-- The makespan of a job for a goal set: the least end of the accepted plans, found by trying every plan.
+-- Assumes nothing.
+use Prim.Native.Nat.{ℕ, zero, suc, _≤_}
+use mathlib.Core.Path.{_≡_}
+use mathlib.Core.Bool.{Bool, true, false, not, _&&_, _||_}
+use mathlib.Core.List.{List, [], _∷_, _++_}
+use lib.Dec.{leb}
+use lib.ListN.{length}
+use Rattle.lists.specs.Lists.{any}
+use Rattle.job.specs.Job.{Job}
+use Rattle.job.specs.Refusal.{first}
+use Rattle.job.specs.declared.refusal.Verdict.{Verdict}
+use Rattle.job.specs.declared.refusal.Verdict.the-variants.{Pass, Refused}
+use Rattle.timeline.specs.Step.{Step, stepOf, stepsIn, before}
+use Rattle.timeline.specs.Timeline.{end}
+use Rattle.timeline.specs.Accepted.{Accepted, anyBelow, clashing, stepRows}
+
+-- the least end of the accepted plans; or there is none
+pub data Makespan : Type 0 where
+  endsAt : ℕ → Makespan
+  noPlan : Makespan
+
+-- e is the end of a plan that is accepted, and "no other such plan ends earlier"
+pub record LeastEnd (J : Job) (goal e : ℕ) : Type 0 where
+  pub plan : (bytes : List ℕ) × Accepted J goal bytes × (end (stepsIn J bytes) ≡ e)
+  pub least : (bytes : List ℕ) → Accepted J goal bytes → e ≤ end (stepsIn J bytes)
+
+-- ── trying every plan ──
+
+-- the verdict is a pass
+abbrev pub isPass : Verdict → Bool
+isPass Pass = true
+isPass (Refused why) = false
+
+-- none of tests 13 to 20 is true of the steps
+abbrev pub passes : Job → ℕ → List Step → Bool
+passes J goal P = isPass (first (stepRows J goal P))
+
+-- x can be the next step behind the steps P: it stops by minute T, stands after each of them, and clashes with none
+-- that it shares a minute with
+abbrev pub canFollow : ℕ → List Step → Step → Bool
+canFollow T P x = leb (x .stop) T && not (any (λ y. not (before y x) || clashing y x) P)
+
+-- x can be the next step and passes the test, which is only made then
+abbrev pub followsWith : ℕ → List Step → (Step → Bool) → Step → Bool
+followsWith T P test x = elim (canFollow T P x) [ true ↦ test x | false ↦ false ]
+
+-- some step of the job can be the next one behind P and passes the test
+abbrev pub someNext : Job → ℕ → List Step → (Step → Bool) → Bool
+someNext J T P test =
+    anyBelow T
+    (λ start. anyBelow (length (J .actions)) (λ number. followsWith T P test (stepOf J number start)))
+
+-- the steps P pass, alone or with at most n steps behind them that each stop by minute T
+abbrev pub completable : Job → ℕ → ℕ → ℕ → List Step → Bool
+completable J goal T zero P = passes J goal P
+completable J goal T (suc n) P =
+    elim (passes J goal P) [
+      | true ↦ true
+      | false ↦ someNext J T P (λ x. completable J goal T n (P ++ (x ∷ [])))
+    ]
+
+-- "A plan is a list of 0 to 32 steps": some plan whose steps stop by minute T passes
+abbrev pub solvable : Job → ℕ → ℕ → Bool
+solvable J goal T = completable J goal T 32 []
+
+-- the least number below n that passes the test
+abbrev pub leastBelow : ℕ → (ℕ → Bool) → Makespan
+leastBelow zero test = noPlan
+leastBelow (suc n) test =
+    elim (leastBelow n test) [
+      | endsAt e ↦ endsAt e
+      | noPlan ↦ elim (test n) [ true ↦ endsAt n | false ↦ noPlan ]
+    ]
+
+-- the least minute, up to the deadline, by which the steps of some plan stop
+unfoldable pub makespan : Job → ℕ → Makespan
+makespan J goal = leastBelow (suc (J .deadline)) (solvable J goal)
