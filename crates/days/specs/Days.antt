@@ -38,8 +38,8 @@ job2 deadline =
       actions = plain 3 1 8 0 ∷ plain 2 2 4 0 ∷ plain 5 4 16 0 ∷ [];
     }
 
--- cases 4, 5 and 7: "Two actions of length 2, needing no facts, add facts 0 and 1; goal both": with a deadline, pools and
--- stores, and what each action uses of these
+-- cases 4, 5 and 7: "Two actions of length 2, needing no facts, add facts 0 and 1; goal both", with a deadline, pools
+-- and stores, and what each action uses of these
 abbrev pub twoActions : ℕ → List ℕ → List ℕ → List ℕ → List ℕ → Job
 twoActions deadline pools stores poolUses storeUses =
     record {

@@ -20,6 +20,7 @@ use Rattle.makespan.specs.Makespan.{Makespan, endsAt, noPlan, LeastEnd, 
 use Rattle.makespan.proofs.Search.{solvable-of-accepted, accepted-of-solvable}
 
 -- ---- the least number below n that passes a test
+-- what is so of it, or that there is none
 abbrev LeastBelow : ℕ → (ℕ → Bool) → Makespan → Type 0
 LeastBelow n test (endsAt e) = (test e ≡ true) × (e < n) × ((k : ℕ) → k < e → test k ≡ false)
 LeastBelow n test noPlan = (k : ℕ) → k < n → test k ≡ false
@@ -49,25 +50,30 @@ ends-by-deadline J goal bytes accepted =
     largest-at-most (λ x. x .stop) (J .deadline) (stepsIn J bytes)
     (accepted-steps J goal (stepsIn J bytes) (steps-of-accepted J goal bytes accepted) .beforeDeadline)
 
+-- a makespan is the end of an accepted plan, and no accepted plan ends earlier
 pub least-end-of-makespan : (J : Job) (goal e : ℕ) → Passed J → makespan J goal ≡ endsAt e → LeastEnd J goal e
 least-end-of-makespan J goal e passed h =
     let l = least-of-makespan J goal (endsAt e) h in
     let found = accepted-of-solvable J goal e passed (l .0) in
     let by = found .2 in
     let least : (bytes : List ℕ) → Accepted J goal bytes → e ≤ end (stepsIn J bytes) = λ bytes accepted.
-    ⊎-elim (λ a. a) (λ early. not-both (solvable-of-accepted J goal bytes passed accepted) (l .2 _ early))
-    (le-or-lt e (end (stepsIn J bytes))) in
+    let d = end (stepsIn J bytes) in
+    ⊎-elim (λ a. a)
+    (λ early. not-both (solvable-of-accepted J goal d bytes passed accepted (omega arith)) (l .2 d early))
+    (le-or-lt e d) in
     let a = least (found .0) (found .1) in
     record { plan = (found .0, found .1, omega arith); least = least }
 
+-- where the makespan says that there is no plan, none is accepted
 pub none-accepted-when-no-plan : (J : Job) (goal : ℕ) → Passed J → makespan J goal ≡ noPlan
     → (bytes : List ℕ) → Accepted J goal bytes → ⊥
 none-accepted-when-no-plan J goal passed h bytes accepted =
-    let d = ends-by-deadline J goal bytes accepted in
-    not-both (solvable-of-accepted J goal bytes passed accepted)
-    (least-of-makespan J goal noPlan h (end (stepsIn J bytes)) (omega arith))
+    not-both
+    (solvable-of-accepted J goal (J .deadline) bytes passed accepted (ends-by-deadline J goal bytes accepted))
+    (least-of-makespan J goal noPlan h (J .deadline) (omega arith))
 
 -- ---- and back
+-- the least end of the accepted plans is the makespan
 pub makespan-of-least-end : (J : Job) (goal e : ℕ) → Passed J → LeastEnd J goal e → makespan J goal ≡ endsAt e
 makespan-of-least-end J goal e passed least = go (makespan J goal) refl
   where
@@ -82,6 +88,7 @@ makespan-of-least-end J goal e passed least = go (makespan J goal) refl
         h ∙ ap endsAt same
     go noPlan h = absurd (none-accepted-when-no-plan J goal passed h (least .plan .0) (least .plan .1))
 
+-- where no plan is accepted, the makespan says so
 pub makespan-when-none-accepted : (J : Job) (goal : ℕ) → Passed J → ((bytes : List ℕ) → Accepted J goal bytes → ⊥)
     → makespan J goal ≡ noPlan
 makespan-when-none-accepted J goal passed none = go (makespan J goal) refl

@@ -70,6 +70,7 @@ can-follow J goal T P x F inTime pass =
     earlier (z ∷ P) h y Q here = rising-before z (P ++ (x ∷ F)) h x _ (place-after P here)
     earlier (z ∷ P) h y Q (there {Q = R} i) = earlier P (rising-rest z (P ++ (x ∷ F)) h) y R i
 
+-- a step of the job that passes a test is found, and what is found is a step of the job
 module _ (J : Job) (T : ℕ) (P : List Step) (test : Step → Bool) where
   next-found : (x : Step) → OfJob J x → x .number < length (J .actions) → x .start < T → canFollow T P x ≡ true
       → test x ≡ true → someNext J T P test ≡ true
@@ -96,9 +97,9 @@ record Completion (J : Job) (goal T n : ℕ) (P : List Step) : Type 0 where
   pass : first (stepRows J goal (P ++ steps)) ≡ Pass
 
 module _ (J : Job) (goal T : ℕ) where
-  -- nothing more is needed
-  complete : (n : ℕ) (P : List Step) → passes J goal P ≡ true → Completion J goal T n P
-  complete n P h =
+  -- where P passes alone, and back
+  completion-of-pass : (n : ℕ) (P : List Step) → passes J goal P ≡ true → Completion J goal T n P
+  completion-of-pass n P h =
       record {
         steps = [];
         few = omega arith;
@@ -107,10 +108,14 @@ module _ (J : Job) (goal T : ℕ) where
         pass = ap (λ (Q : List Step). first (stepRows J goal Q)) (append-nil P) ∙ pass-of-test _ h;
       }
 
+  passes-alone : (P : List Step) → first (stepRows J goal (P ++ [])) ≡ Pass → passes J goal P ≡ true
+  passes-alone P pass = ap (passes J goal) (sym (append-nil P)) ∙ ap isPass pass
+
+  -- what the search finds completes P, and the search finds whatever completes P
   completion-of-completable : (n : ℕ) (P : List Step) → completable J goal T n P ≡ true → Completion J goal T n P
-  completion-of-completable zero P h = complete 0 P h
+  completion-of-completable zero P h = completion-of-pass 0 P h
   completion-of-completable (suc n) P h =
-      ⊎-elim (λ now. complete (suc n) P now)
+      ⊎-elim (λ now. completion-of-pass (suc n) P now)
       (λ more.
       let next = some-next J T P (λ x. completable J goal T n (P ++ (x ∷ []))) more in
       let x : Step = next .0 in
@@ -127,12 +132,10 @@ module _ (J : Job) (goal T : ℕ) where
 
   completable-of-completion : (n : ℕ) (P F : List Step) → length F ≤ n → EachStep (OfJob J) F → Lasting F
       → EachStep (λ x. x .stop ≤ T) F → first (stepRows J goal (P ++ F)) ≡ Pass → completable J goal T n P ≡ true
-  completable-of-completion zero P [] few own lasting inTime pass =
-      ap (passes J goal) (sym (append-nil P)) ∙ ap isPass pass
+  completable-of-completion zero P [] few own lasting inTime pass = passes-alone P pass
   completable-of-completion zero P (x ∷ F) few own lasting inTime pass = absurd (omega arith)
   completable-of-completion (suc n) P [] few own lasting inTime pass =
-      let now : passes J goal P ≡ true = ap (passes J goal) (sym (append-nil P)) ∙ ap isPass pass in
-      either-passes (passes J goal P) _ (inl now)
+      either-passes (passes J goal P) _ (inl (passes-alone P pass))
   completable-of-completion (suc n) P (x ∷ F) few own lasting inTime pass =
       let steps = accepted-steps J goal (P ++ (x ∷ F)) pass in
       let l = lasting x F here in
@@ -146,17 +149,19 @@ module _ (J : Job) (goal T : ℕ) where
       either-passes (passes J goal P) _ (inr next)
 
 -- ---- accepted plans
-pub solvable-of-accepted : (J : Job) (goal : ℕ) (bytes : List ℕ) → Passed J → Accepted J goal bytes
-    → solvable J goal (end (stepsIn J bytes)) ≡ true
-solvable-of-accepted J goal bytes passed accepted =
+-- where an accepted plan ends by minute T, the search finds a plan
+pub solvable-of-accepted : (J : Job) (goal T : ℕ) (bytes : List ℕ) → Passed J → Accepted J goal bytes
+    → end (stepsIn J bytes) ≤ T → solvable J goal T ≡ true
+solvable-of-accepted J goal T bytes passed accepted by =
     let P = stepsIn J bytes in
     let own = steps-in-bytes J bytes in
     let pass = steps-of-accepted J goal bytes accepted in
-    completable-of-completion J goal (end P) 32 [] P (few-steps-of-accepted J goal bytes accepted) own
+    completable-of-completion J goal T 32 [] P (few-steps-of-accepted J goal bytes accepted) own
     (lasting-of-known J P passed own (accepted-steps J goal P pass .known))
-    (λ x Q i. largest-at-least (λ y. y .stop) i)
+    (λ x Q i. let l = largest-at-least (λ y. y .stop) i in omega arith)
     pass
 
+-- where the search finds a plan, an accepted plan ends by minute T
 pub accepted-of-solvable : (J : Job) (goal T : ℕ) → Passed J → solvable J goal T ≡ true
     → (bytes : List ℕ) × Accepted J goal bytes × (end (stepsIn J bytes) ≤ T)
 accepted-of-solvable J goal T passed h =

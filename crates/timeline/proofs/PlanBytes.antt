@@ -33,6 +33,7 @@ length-step-bytes x =
     let b = length-bytes 2 (x .start) in
     length-append (toBytes 1 (x .number)) (toBytes 2 (x .start)) ∙ omega arith
 
+-- three bytes a step
 pub length-plan-bytes : (P : List Step) → length (planBytes P) ≡ 3 * length P
 unfolding planBytes
 length-plan-bytes P = let e = length-joined stepBytes 3 P (each-all length-step-bytes P) in omega arith
@@ -80,6 +81,7 @@ accepted-bytes-of-steps J goal P passed own few pass =
     (le-ltb 96 (length (planBytes P)) (omega arith)) in
     (first-next _ _ _ size ∙ ap (λ (Q : List Step). first (stepRows J goal Q)) same ∙ pass, same)
 
+-- an accepted plan has at most 32 steps
 pub few-steps-of-accepted : (J : Job) (goal : ℕ) (bytes : List ℕ) → Accepted J goal bytes
     → length (stepsIn J bytes) ≤ 32
 unfolding planRows stepsIn
