@@ -1,28 +1,24 @@
 -- What the search concludes: where the chosen steps alone are refused, they are a dead end; where the kept steps are a
 -- dead end from the start, no accepted plan has them.
 -- Assumes nothing.
-use Prim.Native.Nat.{ℕ, _/_, _%_, _<_, _≤_}
+use Prim.Native.Nat.{ℕ, _<_, _≤_}
 use mathlib.Core.Path.{_≡_}
-use mathlib.Core.Bool.{true, not}
+use mathlib.Core.Bool.{true}
 use mathlib.Core.List.{List, [], _∷_, _++_}
 use native.Mathlib.Omega.{arith}
-use lib.Dec.{eqb}
 use lib.ListN.{length}
-use borrow.Author.Tests.{ltb-false}
-use Rattle.lists.proofs.Bools.{or-right}
-use Rattle.lists.proofs.Tabulate.{length-tabulate}
 use Rattle.job.specs.Job.{Job}
 use Rattle.job.specs.Refusal.{first}
 use Rattle.job.specs.declared.refusal.Verdict.the-variants.{Pass}
-use Rattle.job.proofs.Table.{first-pass}
 use Rattle.job.proofs.Passed.{Passed}
 use Rattle.timeline.specs.Step.{Step, stepsIn, strictlyRising}
 use Rattle.timeline.specs.Timeline.{end}
-use Rattle.timeline.specs.Accepted.{Accepted, planRows, stepRows}
+use Rattle.timeline.specs.Accepted.{Accepted, stepRows}
 use Rattle.timeline.proofs.Places.{here, Member, EachStep, each-step, place-append}
 use Rattle.timeline.proofs.AcceptedSteps.{accepted-steps}
 use Rattle.timeline.proofs.Keeps.{keeps-of-accepted}
 use Rattle.timeline.proofs.JobSteps.{OfJob, lasting-of-known, steps-in-bytes, steps-of-accepted}
+use Rattle.timeline.proofs.PlanBytes.{few-steps-of-accepted}
 use Rattle.timeline.proofs.Permutations.{Permutation, empty, next-step, permutation-sym, permutation-each}
 use Rattle.timeline.proofs.Permutations.{permutation-keeps, permutation-length, permutation-of-members}
 use Rattle.timeline.proofs.Rising.{AllApart, rising-apart, apart-distinct}
@@ -85,15 +81,6 @@ module _ (J : Job) (b goal T : ℕ) where
       (normal .2)
 
 -- ---- an ordinary call: no kept steps, and every minute is free
--- an accepted plan has at most 32 steps
-few-steps : (J : Job) (goal : ℕ) (bytes : List ℕ) → Accepted J goal bytes → length (stepsIn J bytes) ≤ 32
-unfolding planRows stepsIn
-few-steps J goal bytes accepted =
-    let size = first-pass _ _ _ accepted .0 in
-    let bound = ltb-false 96 (length bytes) (or-right (not (eqb (length bytes % 3) 0)) _ size) in
-    let count : length (stepsIn J bytes) ≡ length bytes / 3 = length-tabulate _ _ in
-    omega arith
-
 append-nothing : (P : List Step) → Permutation P (P ++ [])
 append-nothing [] = empty
 append-nothing (x ∷ P) = next-step here (append-nothing P)
@@ -104,4 +91,4 @@ pub no-accepted-plan-when-dead : (J : Job) (goal T : ℕ) → Passed J → Dead 
 no-accepted-plan-when-dead J goal T passed dead bytes accepted l =
     no-plan-when-dead J 0 goal T passed (stepsIn J bytes) [] (stepsIn J bytes) (append-nothing (stepsIn J bytes))
     (steps-in-bytes J bytes) (λ x Q i. omega arith) (each-step (λ x. x .start < 0) [] tt)
-    (few-steps J goal bytes accepted) (steps-of-accepted J goal bytes accepted) l dead
+    (few-steps-of-accepted J goal bytes accepted) (steps-of-accepted J goal bytes accepted) l dead
