@@ -5,14 +5,14 @@ ghost use mathlib.Core.List.{[], _∷_};
 ghost use Prim.Native.Nat.{max, _≤_, _<_};
 ghost use lib.ListN.{length};
 ghost use Rattle.lists.specs.Lists.{any, tabulate};
-ghost use Rattle.job.specs.Job.{actionIn, jobIn, Fits};
+ghost use Rattle.job.specs.Job.{jobIn, Fits};
 ghost use Rattle.job.specs.declared.Counts.{Counts};
 ghost use Rattle.job.specs.Refusal.{_when_, first};
 ghost use Rattle.job.specs.Valid.{over};
 ghost use Rattle.job.specs.declared.refusal.Refusal.the-variants.{StepOrder, AfterDeadline, Clash, PoolExceeded};
 ghost use Rattle.job.specs.declared.refusal.Refusal.the-variants.{StoreExceeded};
 ghost use Rattle.timeline.specs.Step.{before, strictlyRising, anyPair};
-ghost use Rattle.timeline.specs.Timeline.{end, hinders};
+ghost use Rattle.timeline.specs.Timeline.{end};
 ghost use Rattle.timeline.specs.Accepted.{anyBelow, clashing, exceedsPool, exceedsStore};
 ghost use Rattle.timeline.specs.Value.{stepOfValue, stepAt, stepsOf};
 ghost use Rattle.checker.specs.Leaf.{Share, InUse, ExceedsPool, UsedUp};
@@ -81,13 +81,6 @@ pub fn deadline(plan: Plan, limit: u16) -> Verdict
     Verdict::Pass
 }
 
-// Whether a deletes a fact that b needs or adds.
-fn hinders(a: Action, b: Action) -> bool
-    ensures { λ r. ⌜ ((n : Counts) → r ≡ hinders (actionIn n a) (actionIn n b)) ⌝ }
-{
-    facts::meets(a.deletes, facts::union(b.needs, b.adds))
-}
-
 // Whether two steps share a minute and clash.
 fn clashing(x: Step, y: Step) -> bool
     ensures { λ r. ⌜ ((n : Counts) → r ≡ clashing (stepOfValue n x) (stepOfValue n y)) ⌝ }
@@ -95,7 +88,7 @@ fn clashing(x: Step, y: Step) -> bool
     let a = x.action;
     let b = y.action;
     ((x.start < y.stop) & (y.start < x.stop))
-        & ((x.number == y.number) | (hinders(a, b) | hinders(b, a)))
+        & ((x.number == y.number) | (timeline::hinders(a, b) | timeline::hinders(b, a)))
 }
 
 // Whether a step before place i clashes with the step there.

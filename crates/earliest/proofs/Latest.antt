@@ -2,7 +2,9 @@
 -- Assumes nothing.
 use Prim.Native.Nat.{ℕ, zero, suc, _+_, _-_, _≤_, _<_, min, max}
 use mathlib.Core.Path.{_≡_, refl, sym, ap, _∙_}
-use mathlib.Core.Bool.{true, false}
+use mathlib.Core.Bool.{Bool, true, false, cond}
+use mathlib.Core.Logic.{⊎-elim}
+use native.Mathlib.Nat.{eq-or-lt-of-le}
 use native.Mathlib.Omega.{arith}
 use Rattle.facts.specs.FactSet.{has, NextFact}
 use Rattle.earliest.specs.Numbers.{latest}
@@ -64,3 +66,30 @@ module _ (set : ℕ) (f : ℕ → ℕ) (bound : ℕ) where
 
   pub counted-all : (n x : ℕ) → Counted n x → bound ≤ n → x ≡ latest set f bound
   counted-all n x c l = let e : min n bound ≡ bound = omega arith in c .2 ∙ ap (latest set f) e
+
+-- ---- bounds
+module _ (set : ℕ) (f : ℕ → ℕ) where
+  pub latest-at-most : (n t : ℕ) → ((k : ℕ) → k < n → has set k ≡ true → f k ≤ t) → latest set f n ≤ t
+  unfolding latest
+  latest-at-most zero t h = omega arith
+  latest-at-most (suc n) t h =
+      let rest = latest-at-most n t (λ k l m. h k (omega arith) m) in
+      let last = counts (has set n) refl in
+      omega arith
+    where
+      counts : (b : Bool) → has set n ≡ b → cond b (f n) 0 ≤ t
+      counts true e = h n (omega arith) e
+      counts false e = omega arith
+
+  pub member-at-most-latest : (n k : ℕ) → k < n → has set k ≡ true → f k ≤ latest set f n
+  unfolding latest
+  member-at-most-latest zero k l h = absurd (omega arith)
+  member-at-most-latest (suc n) k l h =
+      ⊎-elim
+      (λ e.
+      let same : k ≡ n = omega arith in
+      let here : cond (has set n) (f n) 0 ≡ f n = rw (← same, h) refl in
+      let value : f k ≡ f n = ap f same in
+      omega arith)
+      (λ m. let rest = member-at-most-latest n k (omega arith) h in omega arith)
+      (eq-or-lt-of-le l)

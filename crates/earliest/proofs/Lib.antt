@@ -1,4 +1,10 @@
 mod Latest
+mod SetTimes
+mod ChoiceLaws
+mod Swept
+mod Lowers
+mod AllowedActions
+mod JobSweep
 mod LoweringLaws
 mod Loops
 mod Members

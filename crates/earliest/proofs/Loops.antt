@@ -1,11 +1,10 @@
 -- Loops that lower a table: over the numbers below a bound, and over the facts of a set.
 -- Assumes nothing.
-use Prim.Native.Nat.{ℕ, suc, _+_, _≤_, _<_, min}
+use Prim.Native.Nat.{ℕ, _+_, _≤_, _<_, min}
 use mathlib.Core.Path.{_≡_, sym, _∙_}
 use mathlib.Core.Bool.{Bool, true, false, _||_, true≢false}
 use mathlib.Core.Logic.{⊎-elim}
 use mathlib.Core.List.{List}
-use native.Mathlib.Nat.{eq-or-lt-of-le}
 use native.Mathlib.Omega.{arith}
 use lib.ListN.{length}
 use Rattle.facts.specs.FactSet.{has, NextFact}
@@ -24,10 +23,11 @@ module _ (J : Job) (D : ℕ → List ℕ → Type 0) where
   below-at-first xs kept = lowering-none J (Below D 0) xs kept (λ k l. absurd (omega arith))
 
   pub below-next : (n : ℕ) (xs ys zs : List ℕ) (b c : Bool) → Lowering J (Below D n) xs ys b → Lowering J (D n) ys zs c
-      → Lowering J (Below D (suc n)) xs zs (c || b)
+      → Lowering J (Below D (n + 1)) xs zs (c || b)
   below-next n xs ys zs b c done next =
-      lowering-then J (Below D n) (D n) (Below D (suc n)) xs ys zs b c done next
-      (λ before here k l. ⊎-elim (λ e. let same : k ≡ n = omega arith in rw same here) (λ m. before k (omega arith)) (eq-or-lt-of-le l))
+      lowering-then J (Below D n) (D n) (Below D (n + 1)) xs ys zs b c done next
+      (λ before here k l.
+      ⊎-elim (λ a. let same : k ≡ n = omega arith in rw same here) (λ a. before k a) (le-or-lt n k))
 
   -- numbers that ask nothing
   pub below-more : (n m : ℕ) (xs ys : List ℕ) (b : Bool) → Lowering J (Below D n) xs ys b
@@ -73,7 +73,7 @@ module _ (set facts : ℕ) (Able : Job → Type 0) (D : ℕ → List ℕ → Typ
         let here : min n facts ≡ n = omega arith in
         let before = swept .3 J able in
         let now = lowering-weaker J (D n) (AtMembers n) xs ys c (step J able before) (λ d h. d) in
-        below-more J AtMembers (suc n) (min r facts) first ys (c || b)
+        below-more J AtMembers (n + 1) (min r facts) first ys (c || b)
         (below-next J AtMembers n first xs ys b c (rw here at before) now)
         (λ i p q. skip (n + 1) r i next (omega arith) (omega arith) first),
   )

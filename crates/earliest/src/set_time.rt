@@ -4,6 +4,12 @@ ghost use Prim.Native.Nat.{max, suc, _≤_, _<_};
 ghost use lib.ListN.{length};
 ghost use Rattle.earliest.specs.Numbers.{rowNumber, setNumber};
 
+// The number that stands for unreachable.
+pub const NONE: u32 = 4_294_967_295;
+
+// No finite entry is later: 255 minutes for each of the 2,080 entries.
+pub const LATEST: u32 = 530_400;
+
 // The later of two times.
 pub fn later(a: u32, b: u32) -> u32
     ensures { λ r. ⌜ r ≡ max a b ⌝ }

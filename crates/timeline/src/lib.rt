@@ -1,4 +1,8 @@
 // The timeline of a plan: definitions in specs/, their laws in proofs/, and a plan by value.
+ghost use mathlib.Core.Path.{_≡_};
+ghost use Rattle.job.specs.Job.{actionIn};
+ghost use Rattle.job.specs.declared.Counts.{Counts};
+ghost use Rattle.timeline.specs.Timeline.{hinders};
 use job::Action;
 use job::Counts;
 
@@ -25,4 +29,11 @@ impl Plan {
     pub const STEP: usize = 3;
 
     pub const BYTES: usize = 96;
+}
+
+// Whether a deletes a fact that b needs or adds.
+pub fn hinders(a: Action, b: Action) -> bool
+    ensures { λ r. ⌜ ((n : Counts) → r ≡ hinders (actionIn n a) (actionIn n b)) ⌝ }
+{
+    facts::meets(a.deletes, facts::union(b.needs, b.adds))
 }

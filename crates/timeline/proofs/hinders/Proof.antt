@@ -1,8 +1,8 @@
 -- `hinders` meets its contract.
 -- Assumes nothing.
 use borrow.Author.Needs.{needs}
-use Rattle.checker.proofs.rules.hinders.Statement.{statement}
-use Rattle.checker.proofs.rules.hinders.Tie as tie
+use Rattle.timeline.proofs.hinders.Statement.{statement}
+use Rattle.timeline.proofs.hinders.Tie as tie
 
 union-requires : tie.Need-union-requires
 union-requires c κs = search needs

@@ -1,0 +1,190 @@
+-- The choices as the code tries them: the number that it computes for a choice is the minute at which the choice ends.
+-- Assumes nothing.
+use Prim.Native.Nat.{ℕ, _+_, _*_, _≤_, _<_, max}
+use mathlib.Core.Path.{_≡_, sym, ap, _∙_}
+use mathlib.Core.Bool.{Bool, true, false, not, _&&_, _||_, true≢false}
+use mathlib.Core.Logic.{⊎-elim}
+use mathlib.Core.List.{List}
+use native.Mathlib.Omega.{arith}
+use lib.Dec.{eqb, leb, ltb}
+use lib.ListN.{length, getD}
+use borrow.Author.Tests.{eqb-true, eqb-false, leb-true, not-true, ltb-false, le-ltb}
+use Rattle.lists.proofs.Bools.{and-left, and-right, or-left, or-right}
+use Rattle.facts.specs.FactSet.{has, union, single}
+use Rattle.facts.proofs.Membership.{has-union}
+use Rattle.facts.proofs.SetLaws.{in-union-left}
+use Rattle.job.specs.Job.{Action, Job}
+use Rattle.job.specs.Valid.{over}
+use Rattle.timeline.specs.Timeline.{hinders}
+use Rattle.timeline.proofs.Tests.{decided}
+use Rattle.timeline.proofs.Places.{below-none, none-below}
+use Rattle.times.specs.Time.{Time}
+use Rattle.times.specs.Earliest.{timeOf, actionOf, fitsAlone, fitTogether}
+use Rattle.times.specs.Numbers.{none, tableIn}
+use Rattle.times.proofs.Times.{By, by-timeOf, timeOf-by}
+use Rattle.times.proofs.Choices.{Alone, Together, Reached, both, one, other, each, eachOther}
+use Rattle.times.proofs.Kept.{finiteIn}
+use Rattle.earliest.specs.Numbers.{setNumber, afterNumber}
+use Rattle.earliest.specs.Lowering.{Lowerable, Offered, RowOffered, AllOffered}
+use Rattle.earliest.specs.Sweep.{endNumber, bothEndNumber, mayJoin}
+use Rattle.earliest.proofs.SetTimes.{number-by-set, set-by-number, number-of-reachable, number-within-finite}
+use Rattle.earliest.proofs.SetTimes.{after-finite, finite-of-after}
+
+-- an action that fits beside another fits alone
+pub fits-alone-of-together : (J : Job) (a b : Action) → fitTogether J a b ≡ true → fitsAlone J a ≡ true
+fits-alone-of-together J a b h =
+    ap not
+    (none-below (length (J .pools)) (λ k. over (available k) (getD (a .pools) k 0))
+    (λ k l.
+    let together : ℕ = getD (a .pools) k 0 + getD (b .pools) k 0 in
+    let m = ltb-false (available k) together
+        (below-none (length (J .pools)) (λ k. over (available k) (getD (a .pools) k 0 + getD (b .pools) k 0)) (not-true _ h) k l) in
+    le-ltb (available k) (getD (a .pools) k 0) (omega arith)))
+  where
+    available : ℕ → ℕ
+    available k = getD (J .pools) k 0
+
+module _ (J : Job) (xs : List ℕ) (able : Lowerable J xs) where
+  -- ---- one action
+  module _ (i set : ℕ) (known : i < length (J .actions)) where
+    abbrev ends : ℕ
+    ends = endNumber J xs (actionOf J i) set
+
+    abbrev ready : ℕ
+    ready = setNumber xs set (J .facts)
+
+    -- the action that starts when the set is there ends then
+    pub alone-by-number : fitsAlone J (actionOf J i) ≡ true → (t : ℕ) → ends ≤ t → ends < none
+        → Alone J (tableIn xs) t set i
+    alone-by-number fits t m l =
+        let k = finite-of-after (actionOf J i .duration) ready l in
+        let e = after-finite (actionOf J i .duration) ready k in
+        record {
+          known = known;
+          fits = fits;
+          from = ready;
+          ready = set-by-number J xs able set k;
+          ends = omega arith;
+        }
+
+    pub end-within-finite : ends < none → ends ≤ 255 + 255 * finiteIn xs
+    end-within-finite l =
+        let k = finite-of-after (actionOf J i .duration) ready l in
+        let e = after-finite (actionOf J i .duration) ready k in
+        let d = able .durations i known in
+        let f = number-within-finite J xs able set k in
+        omega arith
+
+    -- no earlier
+    pub number-by-alone : (from t : ℕ) → By (timeOf J (tableIn xs) set) from → actionOf J i .duration + from ≤ t
+        → (ends ≤ t) × (ends < none)
+    number-by-alone from t h l =
+        let k = number-of-reachable J xs able set from h in
+        let e = after-finite (actionOf J i .duration) ready k in
+        let n = number-by-set J xs able set from h in
+        let d = able .durations i known in
+        (omega arith, omega arith)
+
+  -- ---- (i)
+  pub both-offered : (i : ℕ) → i < length (J .actions) → fitsAlone J (actionOf J i) ≡ true
+      → AllOffered J xs (endNumber J xs (actionOf J i) (actionOf J i .needs)) (actionOf J i .adds) (actionOf J i .adds)
+  both-offered i known fits p a hp q b hq l = (
+    both i (alone-by-number i (actionOf J i .needs) known fits _ (omega arith) l) hp hq,
+    end-within-finite i (actionOf J i .needs) known l,
+  )
+
+  -- ---- (ii)
+  pub carried-offered : (i q : ℕ) → i < length (J .actions) → fitsAlone J (actionOf J i) ≡ true
+      → has (union (actionOf J i .adds) (actionOf J i .deletes)) q ≡ false
+      → RowOffered J xs (endNumber J xs (actionOf J i) (union (actionOf J i .needs) (single q))) q (actionOf J i .adds)
+  carried-offered i q known fits untouched p b hp l =
+      let apart = sym (has-union (actionOf J i .adds) (actionOf J i .deletes) q) ∙ untouched in
+      let set : ℕ = union (actionOf J i .needs) (single q) in
+      let added = or-left (has (actionOf J i .adds) q) _ apart in (
+        other i (λ e. true≢false (sym (rw (← e) at hp) ∙ added)) (alone-by-number i set known fits _ (omega arith) l) hp
+            (or-right (has (actionOf J i .adds) q) _ apart),
+        end-within-finite i set known l,
+      )
+
+  -- ---- (iii)
+  module _ (i j : ℕ) (known : i < length (J .actions)) (known-too : j < length (J .actions))
+      (joined : mayJoin J i j ≡ true) where
+    abbrev a : Action
+    a = actionOf J i
+
+    abbrev b : Action
+    b = actionOf J j
+
+    abbrev both-needs : ℕ
+    both-needs = union (a .needs) (b .needs)
+
+    abbrev parted : Bool
+    parted = not (hinders a b || hinders b a) && fitTogether J a b
+
+    after-different : (leb (b .duration) (a .duration) && parted) ≡ true
+    after-different = and-right (not (eqb i j)) (leb (b .duration) (a .duration) && parted) joined
+
+    pub joined-fit : fitTogether J a b ≡ true
+    joined-fit =
+        and-right (not (hinders a b || hinders b a)) (fitTogether J a b)
+        (and-right (leb (b .duration) (a .duration)) parted after-different)
+
+    no-clash : (hinders a b || hinders b a) ≡ false
+    no-clash =
+        not-true (hinders a b || hinders b a)
+        (and-left (not (hinders a b || hinders b a)) (fitTogether J a b)
+        (and-right (leb (b .duration) (a .duration)) parted after-different))
+
+    together-by-number : (t : ℕ) → bothEndNumber J xs a b ≤ t → bothEndNumber J xs a b < none
+        → Together J (tableIn xs) t i j
+    together-by-number t m l =
+        let first = alone-by-number i (a .needs) known (fits-alone-of-together J a b joined-fit) t (omega arith)
+            (omega arith) in
+        let k = finite-of-after (b .duration) (setNumber xs both-needs (J .facts)) (omega arith) in
+        let e = after-finite (b .duration) (setNumber xs both-needs (J .facts)) k in
+        record {
+          known = known;
+          knownToo = known-too;
+          different = eqb-false i j (not-true (eqb i j) (and-left (not (eqb i j)) _ joined));
+          spares = or-left (hinders a b) (hinders b a) no-clash;
+          spared = or-right (hinders a b) (hinders b a) no-clash;
+          fits = joined-fit;
+          longer = leb-true (b .duration) (a .duration) (and-left (leb (b .duration) (a .duration)) parted after-different);
+          from = first .from;
+          ready = first .ready;
+          ends = first .ends;
+          bothFrom = setNumber xs both-needs (J .facts);
+          bothReady = set-by-number J xs able both-needs k;
+          bothEnd = omega arith;
+        }
+
+    both-end-within-finite : bothEndNumber J xs a b < none → bothEndNumber J xs a b ≤ 255 + 255 * finiteIn xs
+    both-end-within-finite l =
+        let m = end-within-finite i (a .needs) known (omega arith) in
+        let n = end-within-finite j both-needs known-too (omega arith) in
+        omega arith
+
+    -- a fact that both add comes about by the longer one alone
+    pub pair-offered : AllOffered J xs (bothEndNumber J xs a b) (a .adds) (b .adds)
+    pair-offered p m hp q n hq l =
+        let t : ℕ = bothEndNumber J xs a b in (
+          ⊎-elim
+              (λ e.
+              let same = eqb-true p q e in
+              both i (alone-by-number i (a .needs) known (fits-alone-of-together J a b joined-fit) t (omega arith) (omega arith))
+              hp (rw same at hp))
+              (λ e. each i j (eqb-false p q e) (together-by-number t (omega arith) l) hp hq)
+              (decided (eqb p q)),
+          both-end-within-finite l,
+        )
+
+    pub number-by-together : (t : ℕ) → Together J (tableIn xs) t i j
+        → (bothEndNumber J xs a b ≤ t) × (bothEndNumber J xs a b < none)
+    number-by-together t c =
+        let m = number-by-alone i (a .needs) known (c .from) t (c .ready) (c .ends) in
+        let n = number-by-alone j both-needs known-too (c .bothFrom) t (c .bothReady) (c .bothEnd) in
+        let m1 = m .0 in
+        let m2 = m .1 in
+        let n1 = n .0 in
+        let n2 = n .1 in
+        (omega arith, omega arith)

@@ -1,0 +1,92 @@
+-- What is computed from an action's value lowers the entries that the choice is about.
+-- Assumes nothing.
+use Prim.Native.Nat.{ℕ, _≤_, _<_, max}
+use mathlib.Core.Path.{_≡_, refl, sym, ap, ap₂, _∙_}
+use mathlib.Core.Bool.{Bool, true, false, true≢false}
+use mathlib.Core.List.{List}
+use Rattle.facts.specs.FactSet.{has, union, single}
+use Rattle.job.specs.declared.Action as value
+use Rattle.job.specs.declared.Counts.{Counts}
+use Rattle.job.specs.Job.{Action, Job, actionIn}
+use Rattle.times.specs.Earliest.{actionOf, fitsAlone}
+use Rattle.earliest.specs.Numbers.{setNumber, afterNumber}
+use Rattle.earliest.specs.Lowering.{LowersRow, LowersAll}
+use Rattle.earliest.specs.Sweep.{endNumber, bothEndNumber, mayJoin, IsAction}
+use Rattle.earliest.specs.Sweep.{BothSettled, CarriedSettled, PairSettled}
+use Rattle.earliest.specs.Sweep.{LowersBoth, LowersCarried, LowersPair}
+use Rattle.earliest.proofs.LoweringLaws.{lowering-none, lowering-weaker}
+use Rattle.earliest.proofs.ChoiceLaws.{both-offered, carried-offered, pair-offered}
+
+row-as : (xs ys : List ℕ) (q : ℕ) (r : Bool) (facts facts′ set set′ t t′ : ℕ) → facts ≡ facts′ → set ≡ set′ → t ≡ t′
+    → LowersRow facts xs ys q set t r → LowersRow facts′ xs ys q set′ t′ r
+row-as xs ys q r facts facts′ set set′ t t′ e f g l = rw (← e, ← f, ← g) l
+
+all-as : (xs ys : List ℕ) (r : Bool) (facts facts′ set set′ other other′ t t′ : ℕ) → facts ≡ facts′ → set ≡ set′
+    → other ≡ other′ → t ≡ t′ → LowersAll facts xs ys set other t r → LowersAll facts′ xs ys set′ other′ t′ r
+all-as xs ys r facts facts′ set set′ other other′ t t′ e f g h l = rw (← e, ← f, ← g, ← h) l
+
+-- the end computed from the value is the end of the action
+end-of-value : (J : Job) (facts i : ℕ) (n : Counts) (action : value.Action) (xs : List ℕ) (set ready time : ℕ)
+    → IsAction J facts i n action → ready ≡ setNumber xs set facts → time ≡ afterNumber (action .duration) ready
+    → time ≡ endNumber J xs (actionOf J i) set
+end-of-value J facts i n action xs set ready time is e f =
+    rw (is .same, is .sameFacts) (f ∙ ap (afterNumber (action .duration)) e)
+
+-- a fact that the action adds or deletes is not carried
+pub carries-nothing : (facts : ℕ) (xs : List ℕ) (action : value.Action) (q : ℕ)
+    → has (union (action .adds) (action .deletes)) q ≡ true → LowersCarried facts action q xs xs false
+carries-nothing facts xs action q touched J i n able is fits here =
+    lowering-none J (CarriedSettled J i q) xs (able .kept)
+    (λ untouched. absurd (true≢false (sym touched ∙ (rw (is .same) at untouched))))
+
+module _ (facts : ℕ) (xs ys : List ℕ) (r : Bool) where
+  -- (i)
+  pub both-lowers : (action : value.Action) (ready time : ℕ) → ready ≡ setNumber xs (action .needs) facts
+      → time ≡ afterNumber (action .duration) ready → LowersAll facts xs ys (action .adds) (action .adds) time r
+      → LowersBoth facts action xs ys r
+  both-lowers action ready time e f lowers J i n able is fits =
+      let needs : action .needs ≡ actionOf J i .needs = ap (λ (a : Action). a .needs) (sym (is .same)) in
+      let adds : action .adds ≡ actionOf J i .adds = ap (λ (a : Action). a .adds) (sym (is .same)) in
+      let ends = end-of-value J facts i n action xs (actionOf J i .needs) ready time is
+          (e ∙ ap (λ (set : ℕ). setNumber xs set facts) needs) f in
+      lowering-weaker J _ (BothSettled J i) xs ys r
+      (all-as xs ys r _ _ _ _ _ _ _ _ (sym (is .sameFacts)) adds adds ends lowers J able refl
+      (both-offered J xs able i (is .known) fits))
+      (λ settled. settled)
+
+  -- (ii)
+  pub carried-lowers : (action : value.Action) (q ready time : ℕ)
+      → has (union (action .adds) (action .deletes)) q ≡ false
+      → ready ≡ setNumber xs (union (action .needs) (single q)) facts → time ≡ afterNumber (action .duration) ready
+      → LowersRow facts xs ys q (action .adds) time r → LowersCarried facts action q xs ys r
+  carried-lowers action q ready time untouched e f lowers J i n able is fits here =
+      let needs : action .needs ≡ actionOf J i .needs = ap (λ (a : Action). a .needs) (sym (is .same)) in
+      let adds : action .adds ≡ actionOf J i .adds = ap (λ (a : Action). a .adds) (sym (is .same)) in
+      let deletes : action .deletes ≡ actionOf J i .deletes = ap (λ (a : Action). a .deletes) (sym (is .same)) in
+      let ends = end-of-value J facts i n action xs (union (actionOf J i .needs) (single q)) ready time is
+          (e ∙ ap (λ (set : ℕ). setNumber xs (union set (single q)) facts) needs) f in
+      lowering-weaker J _ (CarriedSettled J i q) xs ys r
+      (row-as xs ys q r _ _ _ _ _ _ (sym (is .sameFacts)) adds ends lowers J able refl (rw (is .sameFacts) here)
+      (carried-offered J xs able i q (is .known) fits
+      (sym (ap₂ (λ (a d : ℕ). has (union a d) q) adds deletes) ∙ untouched)))
+      (λ settled other. settled)
+
+  -- (iii)
+  pub pair-lowers : (a b : value.Action) (ready bothReady first second time : ℕ)
+      → ready ≡ setNumber xs (a .needs) facts → bothReady ≡ setNumber xs (union (a .needs) (b .needs)) facts
+      → first ≡ afterNumber (a .duration) ready → second ≡ afterNumber (b .duration) bothReady → time ≡ max first second
+      → LowersAll facts xs ys (a .adds) (b .adds) time r → LowersPair facts a b xs ys r
+  pair-lowers a b ready bothReady first second time e f g h k lowers J i j n able is-a is-b joined =
+      let needs-a : a .needs ≡ actionOf J i .needs = ap (λ (a : Action). a .needs) (sym (is-a .same)) in
+      let needs-b : b .needs ≡ actionOf J j .needs = ap (λ (a : Action). a .needs) (sym (is-b .same)) in
+      let adds-a : a .adds ≡ actionOf J i .adds = ap (λ (a : Action). a .adds) (sym (is-a .same)) in
+      let adds-b : b .adds ≡ actionOf J j .adds = ap (λ (a : Action). a .adds) (sym (is-b .same)) in
+      let ends-a = end-of-value J facts i n a xs (actionOf J i .needs) ready first is-a
+          (e ∙ ap (λ (set : ℕ). setNumber xs set facts) needs-a) g in
+      let ends-b = end-of-value J facts j n b xs (union (actionOf J i .needs) (actionOf J j .needs)) bothReady second is-b
+          (f ∙ ap₂ (λ (x y : ℕ). setNumber xs (union x y) facts) needs-a needs-b) h in
+      let ends : time ≡ bothEndNumber J xs (actionOf J i) (actionOf J j) = k ∙ ap₂ max ends-a ends-b in
+      lowering-weaker J _ (PairSettled J i j) xs ys r
+      (all-as xs ys r _ _ _ _ _ _ _ _ (sym (is-a .sameFacts)) adds-a adds-b ends lowers J able refl
+      (pair-offered J xs able i j (is-a .known) (is-b .known) joined))
+      (λ settled. settled)

@@ -1,0 +1,118 @@
+-- A sweep in which no entry fell: the table solves the equations.
+-- Assumes nothing.
+use Prim.Native.Nat.{ℕ, _+_, _≤_, _<_, min, max}
+use mathlib.Core.Path.{_≡_, ap, ap₂, sym, _∙_}
+use mathlib.Core.Bool.{true, false, not}
+use mathlib.Core.Logic.{⊎-elim}
+use mathlib.Core.List.{List}
+use native.Mathlib.Omega.{arith}
+use lib.Dec.{eqb, leb}
+use lib.ListN.{length, getD}
+use borrow.Author.Tests.{ne-eqb, le-leb}
+use Rattle.facts.specs.FactSet.{has, union, single}
+use Rattle.facts.proofs.Membership.{has-union}
+use Rattle.facts.proofs.SetLaws.{in-union-left}
+use Rattle.job.specs.Job.{Job}
+use Rattle.pairs.specs.Pairs.{entryOf}
+use Rattle.timeline.proofs.Tests.{decided, and-both, or-neither}
+use Rattle.times.specs.Earliest.{timeOf, actionOf, Solves}
+use Rattle.times.specs.Numbers.{none, tableIn}
+use Rattle.times.proofs.Times.{By, by-timeOf, timeOf-by}
+use Rattle.times.proofs.Choices.{Alone, Together, Reached, atStart, both, one, other, each, eachOther}
+use Rattle.times.proofs.Choices.{reached-of-right-side}
+use Rattle.times.proofs.Sentinel.{time-in-by}
+use Rattle.times.proofs.Iteration.{solves-when-settled}
+use Rattle.earliest.specs.Lowering.{entryAt, Lowerable}
+use Rattle.earliest.specs.Sweep.{mayJoin, ActionSettled, Settled}
+use Rattle.earliest.proofs.ChoiceLaws.{fits-alone-of-together, number-by-alone, number-by-together}
+
+module _ (J : Job) (xs : List ℕ) (able : Lowerable J xs) (settled : Settled J xs) where
+  entry-swapped : (p q : ℕ) → entryAt xs q p ≡ entryAt xs p q
+  entry-swapped p q =
+      let e : min q p ≡ min p q = omega arith in
+      let f : max q p ≡ max p q = omega arith in
+      ap (λ (k : ℕ). getD xs k none) (ap₂ entryOf e f)
+
+  -- an entry that is at most the number of a choice is at most the minute at which it ends
+  by-entry : (p q ends t : ℕ) → p ≤ q → entryAt xs p q ≤ ends → (ends ≤ t) × (ends < none) → By (tableIn xs p q) t
+  by-entry p q ends t a l m =
+      let e : min p q ≡ p = omega arith in
+      let f : max p q ≡ q = omega arith in
+      let same : entryAt xs p q ≡ getD xs (entryOf p q) none = ap (λ (k : ℕ). getD xs k none) (ap₂ entryOf e f) in
+      let m1 = m .0 in
+      let m2 = m .1 in
+      time-in-by (getD xs (entryOf p q) none) t (omega arith) (omega arith)
+
+  -- the needs are there when they are with one more fact
+  needs-of-carried : (set q from : ℕ) → By (timeOf J (tableIn xs) (union set (single q))) from
+      → By (timeOf J (tableIn xs) set) from
+  needs-of-carried set q from h =
+      timeOf-by J (tableIn xs) set from
+      (λ x y a b hx hy.
+      by-timeOf J (tableIn xs) (union set (single q)) from h x y a b (in-union-left set (single q) x hx)
+      (in-union-left set (single q) y hy))
+
+  -- (ii): action i adds p and carries q; where it adds q too, (i) is no later
+  carried : (p q t i : ℕ) → p < J .facts → q < J .facts → Alone J (tableIn xs) t (union (actionOf J i .needs) (single q)) i
+      → has (actionOf J i .adds) p ≡ true → has (actionOf J i .deletes) q ≡ false
+      → (ends : ℕ) × (entryAt xs q p ≤ ends) × ((ends ≤ t) × (ends < none))
+  carried p q t i a b alone hp hq =
+      let acts = settled .actions i (alone .known) (alone .fits) in
+      ⊎-elim
+      (λ e. (
+        _,
+        acts .both q b e p a hp,
+        number-by-alone J xs able i (actionOf J i .needs) (alone .known) (alone .from) t
+            (needs-of-carried (actionOf J i .needs) q (alone .from) (alone .ready)) (alone .ends),
+      ))
+      (λ e. (
+        _,
+        acts .one q b (has-union (actionOf J i .adds) (actionOf J i .deletes) q ∙ or-neither e hq) p a hp,
+        number-by-alone J xs able i (union (actionOf J i .needs) (single q)) (alone .known) (alone .from) t
+            (alone .ready) (alone .ends),
+      ))
+      (decided (has (actionOf J i .adds) q))
+
+  -- (iii)
+  joined : (i j t : ℕ) → Together J (tableIn xs) t i j → mayJoin J i j ≡ true
+  joined i j t c =
+      and-both (ap not (ne-eqb i j (c .different)))
+      (and-both (le-leb _ _ (c .longer)) (and-both (ap not (or-neither (c .spares) (c .spared))) (c .fits)))
+
+  pair-ends : (p q t i j : ℕ) → p < J .facts → q < J .facts → Together J (tableIn xs) t i j
+      → has (actionOf J i .adds) p ≡ true → has (actionOf J j .adds) q ≡ true
+      → (ends : ℕ) × (entryAt xs p q ≤ ends) × ((ends ≤ t) × (ends < none))
+  pair-ends p q t i j a b c hp hq =
+      let fits = fits-alone-of-together J (actionOf J i) (actionOf J j) (c .fits) in
+      let allowed = joined i j t c in (
+        _,
+        settled .actions i (c .known) fits .each j (c .knownToo) allowed p a hp q b hq,
+        number-by-together J xs able i j (c .known) (c .knownToo) allowed t c,
+      )
+
+  settled-entry : (p q t : ℕ) → p ≤ q → q < J .facts → Reached J (tableIn xs) p q t → By (tableIn xs p q) t
+  settled-entry p q t a b (atStart hp hq) =
+      by-entry p q 0 t a (settled .start p (omega arith) hp q b hq) (omega arith, omega arith)
+  settled-entry p q t a b (both i alone hp hq) =
+      let acts = settled .actions i (alone .known) (alone .fits) in
+      by-entry p q _ t a (acts .both p (omega arith) hp q b hq)
+      (number-by-alone J xs able i (actionOf J i .needs) (alone .known) (alone .from) t (alone .ready) (alone .ends))
+  settled-entry p q t a b (one i apart alone hp hq) =
+      let r = carried p q t i (omega arith) b alone hp hq in
+      let l = r .1 in
+      let e = entry-swapped p q in
+      by-entry p q (r .0) t a (omega arith) (r .2)
+  settled-entry p q t a b (other i apart alone hq hp) =
+      let r = carried q p t i b (omega arith) alone hq hp in by-entry p q (r .0) t a (r .1) (r .2)
+  settled-entry p q t a b (each i j apart c hp hq) =
+      let r = pair-ends p q t i j (omega arith) b c hp hq in by-entry p q (r .0) t a (r .1) (r .2)
+  settled-entry p q t a b (eachOther i j apart c hq hp) =
+      let r = pair-ends q p t i j b (omega arith) c hq hp in
+      let l = r .1 in
+      let e = entry-swapped p q in
+      by-entry p q (r .0) t a (omega arith) (r .2)
+
+  pub solves-when-swept : Solves J (tableIn xs)
+  solves-when-swept =
+      solves-when-settled J (tableIn xs) (able .kept .least)
+      (λ p q t a b h. settled-entry p q t a b (reached-of-right-side J (tableIn xs) p q t h))

@@ -1,0 +1,59 @@
+-- `may_join` meets its contract, test by test.
+-- Assumes nothing.
+use mathlib.Core.Path.{_≡_, sym, ap, ap₂, _∙_}
+use mathlib.Core.Bool.{_||_}
+use borrow.Author.Tests.{eq-eqb, ne-eqb, le-leb, lt-leb}
+use Rattle.timeline.specs.Timeline.{hinders}
+use Rattle.times.specs.Earliest.{fitTogether}
+use Rattle.earliest.proofs.AllowedActions.{fit-together-in, not-joined-same, not-joined-shorter}
+use Rattle.earliest.proofs.AllowedActions.{not-joined-clashing, joined-when-fitting}
+use native.Mathlib.Omega.{arith}
+use borrow.Author.Needs.{needs}
+use Rattle.earliest.proofs.allowed.may_join.Statement.{statement}
+use Rattle.earliest.proofs.allowed.may_join.Tie as tie
+
+returns : tie.Need-returns
+returns c =
+    λ J n has is-a is-b. sym (not-joined-same J (c .before .args .i) (c .before .args .j) (eq-eqb (c .before .args .i) (c .before .args .j) (omega arith)))
+
+returns-2 : tie.Need-returns-2
+returns-2 c =
+    let c-args = c .before .before .before .before .args in
+    λ J n has is-a is-b.
+    sym (not-joined-shorter J (c-args .i) (c-args .j) (rw (is-a, is-b) (lt-leb (c-args .b .duration) (c-args .a .duration) (omega arith))))
+
+hinders-requires : tie.Need-hinders-requires
+hinders-requires c κs = search needs
+
+hinders-requires-2 : tie.Need-hinders-requires-2
+hinders-requires-2 c κs = search needs
+
+returns-3 : tie.Need-returns-3
+returns-3 c =
+    let c-args = c .before .before .before .before .before .before .before .args in
+    λ J n has is-a is-b.
+    sym (not-joined-clashing J (c-args .i) (c-args .j) (rw (is-a, is-b) (sym (ap₂ _||_ (c .before .before .hinders .ensures n) (c .before .hinders2 .ensures n)) ∙ c .if3 .taken)))
+
+fit-together-requires : tie.Need-fit-together-requires
+fit-together-requires c κs = search needs
+
+returns-4 : tie.Need-returns-4
+returns-4 c =
+    let c-args = c .before .before .before .before .before .before .before .before .args in
+    let c-hinders = c .before .before .before .hinders in
+    λ J n has is-a is-b.
+    c .fit-together .ensures ∙ fit-together-in J n _ _ has (c-args .a) (c-args .b)
+    ∙ sym (joined-when-fitting J (c-args .i) (c-args .j) (ne-eqb (c-args .i) (c-args .j) (λ e. omega arith)) (rw (is-a, is-b) (le-leb (c-args .b .duration) (c-args .a .duration) (omega arith)))
+    (rw (is-a, is-b) (sym (ap₂ _||_ (c-hinders .ensures n) (c .before .before .hinders2 .ensures n)) ∙ c .before .if3 .left)) ∙ ap₂ (fitTogether J) is-a is-b)
+
+pub may-join-spec : {M : Type 1} → statement M
+may-join-spec =
+    tie.close
+    (tie.spec
+    returns
+    returns-2
+    hinders-requires
+    hinders-requires-2
+    returns-3
+    fit-together-requires
+    returns-4)

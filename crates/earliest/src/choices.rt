@@ -1,0 +1,70 @@
+// The choices by which two facts come about: one action, or two that run together.
+ghost use mathlib.Core.Path.{_≡_};
+ghost use Prim.Native.Nat.{_≤_, _<_};
+ghost use lib.ListN.{length};
+ghost use Rattle.earliest.specs.Numbers.{afterNumber};
+ghost use Rattle.earliest.specs.Sweep.{LowersBoth, LowersCarried, LowersOne, LowersPair};
+use crate::lower;
+use crate::set_time;
+use job::Action;
+
+// So many minutes after a time.
+fn after(minutes: u8, time: u32) -> u32
+    ensures { λ r. ⌜ r ≡ afterNumber minutes time ⌝ }
+{
+    if set_time::LATEST < time {
+        return set_time::NONE;
+    }
+    minutes as u32 + time
+}
+
+// Choice (i): the action adds both facts.
+pub fn add_both(table: &mut [u32], facts: u8, action: Action) -> bool
+    requires { ⌜ (length (now table) ≡ 2080) × (facts ≤ 64) ⌝ }
+    ensures { λ r. ⌜ (length (now (table .exit)) ≡ 2080)
+        × LowersBoth facts action (now (table .entry)) (now (table .exit)) r ⌝ }
+{
+    let ready = set_time::set_time(table, facts, action.needs);
+    lower::lower_all(table, facts, action.adds, action.adds, after(action.duration, ready))
+}
+
+// Choice (ii): the action adds one fact, and fact q holds from its start on, unless the action adds or deletes it.
+fn carry(table: &mut [u32], facts: u8, action: Action, q: u8) -> bool
+    requires { ⌜ (length (now table) ≡ 2080) × (facts ≤ 64) × (q < 64) ⌝ }
+    ensures { λ r. ⌜ (length (now (table .exit)) ≡ 2080)
+        × LowersCarried facts action q (now (table .entry)) (now (table .exit)) r ⌝ }
+{
+    if facts::has(facts::union(action.adds, action.deletes), q) {
+        return false;
+    }
+    let set = facts::union(action.needs, facts::single(q));
+    let ready = set_time::set_time(table, facts, set);
+    lower::lower_row(table, facts, q, action.adds, after(action.duration, ready))
+}
+
+// Choice (ii) for each fact.
+pub fn add_one(table: &mut [u32], facts: u8, action: Action) -> bool
+    requires { ⌜ (length (now table) ≡ 2080) × (facts ≤ 64) ⌝ }
+    ensures { λ r. ⌜ (length (now (table .exit)) ≡ 2080)
+        × LowersOne facts action (now (table .entry)) (now (table .exit)) r ⌝ }
+{
+    let mut changed = false;
+    let mut q: u8 = 0;
+    while q < facts {
+        changed = carry(table, facts, action, q) | changed;
+        q += 1;
+    }
+    changed
+}
+
+// Choice (iii): the longer action a adds one fact, and b the other.
+pub fn add_each(table: &mut [u32], facts: u8, a: Action, b: Action) -> bool
+    requires { ⌜ (length (now table) ≡ 2080) × (facts ≤ 64) ⌝ }
+    ensures { λ r. ⌜ (length (now (table .exit)) ≡ 2080)
+        × LowersPair facts a b (now (table .entry)) (now (table .exit)) r ⌝ }
+{
+    let ready = set_time::set_time(table, facts, a.needs);
+    let both_ready = set_time::set_time(table, facts, facts::union(a.needs, b.needs));
+    let time = set_time::later(after(a.duration, ready), after(b.duration, both_ready));
+    lower::lower_all(table, facts, a.adds, b.adds, time)
+}
