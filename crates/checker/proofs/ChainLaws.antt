@@ -22,10 +22,6 @@ unfolding first
 check-fails why true rows w h = refl
 check-fails why false rows w h = cc
 
-pub first-none : first [] ≡ Pass
-unfolding first
-first-none = refl
-
 pub passed-test : (why : Refusal) (test : Bool) → first (why when test ∷ []) ≡ Pass → test ≡ false
 unfolding first
 passed-test why true h = cc

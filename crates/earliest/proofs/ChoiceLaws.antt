@@ -38,7 +38,7 @@ fits-alone-of-together J a b h =
     (λ k l.
     let together : ℕ = getD (a .pools) k 0 + getD (b .pools) k 0 in
     let m = ltb-false (available k) together
-        (below-none (length (J .pools)) (λ k. over (available k) (getD (a .pools) k 0 + getD (b .pools) k 0)) (not-true _ h) k l) in
+    (below-none (length (J .pools)) (λ k. over (available k) (getD (a .pools) k 0 + getD (b .pools) k 0)) (not-true _ h) k l) in
     le-ltb (available k) (getD (a .pools) k 0) (omega arith)))
   where
     available : ℕ → ℕ
@@ -67,43 +67,42 @@ module _ (J : Job) (xs : List ℕ) (able : Lowerable J xs) where
           ends = omega arith;
         }
 
-    pub end-within-finite : ends < none → ends ≤ 255 + 255 * finiteIn xs
-    end-within-finite l =
+    pub end-within-finite : actionOf J i .duration ≤ 255 → ends < none → ends ≤ 255 + 255 * finiteIn xs
+    end-within-finite d l =
         let k = finite-of-after (actionOf J i .duration) ready l in
         let e = after-finite (actionOf J i .duration) ready k in
-        let d = able .durations i known in
         let f = number-within-finite J xs able set k in
         omega arith
 
     -- no earlier
-    pub number-by-alone : (from t : ℕ) → By (timeOf J (tableIn xs) set) from → actionOf J i .duration + from ≤ t
-        → (ends ≤ t) × (ends < none)
-    number-by-alone from t h l =
+    pub number-by-alone : actionOf J i .duration ≤ 255 → (from t : ℕ) → By (timeOf J (tableIn xs) set) from
+        → actionOf J i .duration + from ≤ t → (ends ≤ t) × (ends < none)
+    number-by-alone d from t h l =
         let k = number-of-reachable J xs able set from h in
         let e = after-finite (actionOf J i .duration) ready k in
         let n = number-by-set J xs able set from h in
-        let d = able .durations i known in
         (omega arith, omega arith)
 
   -- ---- (i)
   pub both-offered : (i : ℕ) → i < length (J .actions) → fitsAlone J (actionOf J i) ≡ true
-      → AllOffered J xs (endNumber J xs (actionOf J i) (actionOf J i .needs)) (actionOf J i .adds) (actionOf J i .adds)
-  both-offered i known fits p a hp q b hq l = (
+      → actionOf J i .duration ≤ 255 → AllOffered J xs (endNumber J xs (actionOf J i) (actionOf J i .needs)) (actionOf J i .adds) (actionOf J i .adds)
+  both-offered i known fits short p a hp q b hq l = (
     both i (alone-by-number i (actionOf J i .needs) known fits _ (omega arith) l) hp hq,
-    end-within-finite i (actionOf J i .needs) known l,
+    end-within-finite i (actionOf J i .needs) known short l,
   )
 
   -- ---- (ii)
   pub carried-offered : (i q : ℕ) → i < length (J .actions) → fitsAlone J (actionOf J i) ≡ true
+      → actionOf J i .duration ≤ 255
       → has (union (actionOf J i .adds) (actionOf J i .deletes)) q ≡ false
       → RowOffered J xs (endNumber J xs (actionOf J i) (union (actionOf J i .needs) (single q))) q (actionOf J i .adds)
-  carried-offered i q known fits untouched p b hp l =
+  carried-offered i q known fits short untouched p b hp l =
       let apart = sym (has-union (actionOf J i .adds) (actionOf J i .deletes) q) ∙ untouched in
       let set : ℕ = union (actionOf J i .needs) (single q) in
       let added = or-left (has (actionOf J i .adds) q) _ apart in (
         other i (λ e. true≢false (sym (rw (← e) at hp) ∙ added)) (alone-by-number i set known fits _ (omega arith) l) hp
             (or-right (has (actionOf J i .adds) q) _ apart),
-        end-within-finite i set known l,
+        end-within-finite i set known short l,
       )
 
   -- ---- (iii)
@@ -135,11 +134,14 @@ module _ (J : Job) (xs : List ℕ) (able : Lowerable J xs) where
         (and-left (not (hinders a b || hinders b a)) (fitTogether J a b)
         (and-right (leb (b .duration) (a .duration)) parted after-different))
 
+    shorter : b .duration ≤ a .duration
+    shorter = leb-true (b .duration) (a .duration) (and-left (leb (b .duration) (a .duration)) parted after-different)
+
     together-by-number : (t : ℕ) → bothEndNumber J xs a b ≤ t → bothEndNumber J xs a b < none
         → Together J (tableIn xs) t i j
     together-by-number t m l =
         let first = alone-by-number i (a .needs) known (fits-alone-of-together J a b joined-fit) t (omega arith)
-            (omega arith) in
+        (omega arith) in
         let k = finite-of-after (b .duration) (setNumber xs both-needs (J .facts)) (omega arith) in
         let e = after-finite (b .duration) (setNumber xs both-needs (J .facts)) k in
         record {
@@ -149,7 +151,7 @@ module _ (J : Job) (xs : List ℕ) (able : Lowerable J xs) where
           spares = or-left (hinders a b) (hinders b a) no-clash;
           spared = or-right (hinders a b) (hinders b a) no-clash;
           fits = joined-fit;
-          longer = leb-true (b .duration) (a .duration) (and-left (leb (b .duration) (a .duration)) parted after-different);
+          longer = shorter;
           from = first .from;
           ready = first .ready;
           ends = first .ends;
@@ -158,15 +160,17 @@ module _ (J : Job) (xs : List ℕ) (able : Lowerable J xs) where
           bothEnd = omega arith;
         }
 
-    both-end-within-finite : bothEndNumber J xs a b < none → bothEndNumber J xs a b ≤ 255 + 255 * finiteIn xs
-    both-end-within-finite l =
-        let m = end-within-finite i (a .needs) known (omega arith) in
-        let n = end-within-finite j both-needs known-too (omega arith) in
+    both-end-within-finite : a .duration ≤ 255 → bothEndNumber J xs a b < none
+        → bothEndNumber J xs a b ≤ 255 + 255 * finiteIn xs
+    both-end-within-finite short l =
+        let s = shorter in
+        let m = end-within-finite i (a .needs) known short (omega arith) in
+        let n = end-within-finite j both-needs known-too (omega arith) (omega arith) in
         omega arith
 
     -- a fact that both add comes about by the longer one alone
-    pub pair-offered : AllOffered J xs (bothEndNumber J xs a b) (a .adds) (b .adds)
-    pair-offered p m hp q n hq l =
+    pub pair-offered : a .duration ≤ 255 → AllOffered J xs (bothEndNumber J xs a b) (a .adds) (b .adds)
+    pair-offered short p m hp q n hq l =
         let t : ℕ = bothEndNumber J xs a b in (
           ⊎-elim
               (λ e.
@@ -175,14 +179,15 @@ module _ (J : Job) (xs : List ℕ) (able : Lowerable J xs) where
               hp (rw same at hp))
               (λ e. each i j (eqb-false p q e) (together-by-number t (omega arith) l) hp hq)
               (decided (eqb p q)),
-          both-end-within-finite l,
+          both-end-within-finite short l,
         )
 
-    pub number-by-together : (t : ℕ) → Together J (tableIn xs) t i j
+    pub number-by-together : a .duration ≤ 255 → (t : ℕ) → Together J (tableIn xs) t i j
         → (bothEndNumber J xs a b ≤ t) × (bothEndNumber J xs a b < none)
-    number-by-together t c =
-        let m = number-by-alone i (a .needs) known (c .from) t (c .ready) (c .ends) in
-        let n = number-by-alone j both-needs known-too (c .bothFrom) t (c .bothReady) (c .bothEnd) in
+    number-by-together short t c =
+        let s = shorter in
+        let m = number-by-alone i (a .needs) known short (c .from) t (c .ready) (c .ends) in
+        let n = number-by-alone j both-needs known-too (omega arith) (c .bothFrom) t (c .bothReady) (c .bothEnd) in
         let m1 = m .0 in
         let m2 = m .1 in
         let n1 = n .0 in

@@ -68,7 +68,7 @@ module _ (job : held.Job) where
         let able-next = lowerable-on J _ ws xs b able first in
         let second = one J i (job .counts) able-next is fits in
         let both-and-one = lowering-then J (BothSettled J i) (OneSettled J i)
-            (λ xs. BothSettled J i xs × OneSettled J i xs) ws xs ys b c first second (λ x y. (x, y)) in
+        (λ xs. BothSettled J i xs × OneSettled J i xs) ws xs ys b c first second (λ x y. (x, y)) in
         let third = each (lowerable-on J _ ws ys (c || b) able both-and-one) in
         lowering-then J (λ xs. BothSettled J i xs × OneSettled J i xs) (EachSettled J i) (ActionDone J i) ws ys zs (c || b) d
         both-and-one third (λ x y f. record { both = x .0; one = x .1; each = y })

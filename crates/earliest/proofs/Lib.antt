@@ -5,6 +5,7 @@ mod Swept
 mod Lowers
 mod AllowedActions
 mod JobSweep
+mod AnswerLaws
 mod LoweringLaws
 mod Loops
 mod Members

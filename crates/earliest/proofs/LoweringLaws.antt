@@ -2,7 +2,7 @@
 -- Assumes nothing.
 use Prim.Native.Nat.{ℕ, suc, _+_, _*_, _≤_, _<_, min, max}
 use mathlib.Core.Path.{_≡_, refl, sym, ap, _∙_}
-use mathlib.Core.Bool.{Bool, true, false, _||_, true≢false}
+use mathlib.Core.Bool.{Bool, true, false, cond, _||_, true≢false}
 use mathlib.Core.Logic.{_⊎_, inl, inr, ⊎-elim}
 use mathlib.Core.List.{List}
 use native.Mathlib.Nat.{le-refl}
@@ -77,7 +77,7 @@ lowering-weaker J D E xs ys b l f =
 -- what can be lowered can be lowered on
 pub lowerable-on : (J : Job) (D : List ℕ → Type 0) (xs ys : List ℕ) (b : Bool) → Lowerable J xs → Lowering J D xs ys b
     → Lowerable J ys
-lowerable-on J D xs ys b able l = record { few = able .few; durations = able .durations; kept = l .kept }
+lowerable-on J D xs ys b able l = record { few = able .few; kept = l .kept }
 
 -- what a choice brings about at a table it brings about at a lower one
 pub offered-on : (J : Job) (D : List ℕ → Type 0) (xs ys : List ℕ) (b : Bool) (t p q : ℕ) → Lowering J D xs ys b
@@ -97,7 +97,7 @@ module _ (J : Job) (xs : List ℕ) (able : Lowerable J xs) where
   pub entry-at-most-sentinel : (p q : ℕ) → p ≤ q → q < J .facts → getD xs (entryOf p q) none ≤ none
   entry-at-most-sentinel p q a b =
       let few = able .few in
-      entry-at-most-none J (able .durations) (able .few) xs (able .kept) (entryOf p q)
+      entry-at-most-none J (able .few) xs (able .kept) (entryOf p q)
       (entry-before-2080 p q a (omega arith))
 
   -- an entry lowered to the minute by which a choice brings its facts about
@@ -107,13 +107,13 @@ module _ (J : Job) (xs : List ℕ) (able : Lowerable J xs) where
   lowering-written p q t a b reached most less D =
       let right = right-side-of-reached J (tableIn xs) p q t reached in
       let old = entry-at-most-sentinel p q a b in
-      let inside = entry-inside J (able .durations) (able .few) xs (able .kept) p q a b in
+      let inside = entry-inside J (able .few) xs (able .kept) p q a b in
       let lowered = lowered-by-number J xs p q t a inside old (omega arith)
       (λ u h. let l = by-time-in t u h in inr (by-later-minute (rightSide J (tableIn xs) p q) t u l right)) in
       record {
-        kept = kept-when-written J (able .durations) (able .few) xs (able .kept) p q t a b less most lowered;
+        kept = kept-when-written J (able .few) xs (able .kept) p q t a b less most lowered;
         falls = lowered .falls;
-        finite = finite-when-written J (able .durations) (able .few) xs (able .kept) p q t a b less most .0;
+        finite = finite-when-written J (able .few) xs (able .kept) p q t a b less most .0;
         less = λ e. sum-falls xs (entryOf p q) t none inside less;
         settled = λ e. absurd (true≢false e);
       }
@@ -143,3 +143,13 @@ module _ (xs : List ℕ) (p q t k : ℕ) (place : k ≡ entryOf (min p q) (max p
       rw place
       (lowering-written J xs able (min p q) (max p q) t (omega arith) (omega arith)
       (reached-in-order J xs p q t (given .0)) (given .1) (omega arith) (EntryAtMost p q t))
+
+-- ---- lowering again and again
+module _ (J : Job) (D : List ℕ → Type 0) (xs ys : List ℕ) where
+  -- the sum falls, or nothing changed
+  pub sum-or-change-falls : (changed : Bool) → Lowering J D xs ys changed → sum ys + cond changed 1 0 < sum xs + 1
+  sum-or-change-falls true l = let m = l .less refl in omega arith
+  sum-or-change-falls false l = let e : sum ys ≡ sum xs = ap sum (l .settled refl .0) in omega arith
+
+  pub settled-after : (changed : Bool) → Lowering J D xs ys changed → changed ≡ false → D ys
+  settled-after changed l e = let s = l .settled e in rw (s .0) (s .1)

@@ -4,6 +4,7 @@ use Prim.Native.Nat.{ℕ, _≤_, _<_, max}
 use mathlib.Core.Path.{_≡_, refl, sym, ap, ap₂, _∙_}
 use mathlib.Core.Bool.{Bool, true, false, true≢false}
 use mathlib.Core.List.{List}
+use native.Mathlib.Omega.{arith}
 use Rattle.facts.specs.FactSet.{has, union, single}
 use Rattle.job.specs.declared.Action as value
 use Rattle.job.specs.declared.Counts.{Counts}
@@ -32,6 +33,12 @@ end-of-value : (J : Job) (facts i : ℕ) (n : Counts) (action : value.Action) (x
 end-of-value J facts i n action xs set ready time is e f =
     rw (is .same, is .sameFacts) (f ∙ ap (afterNumber (action .duration)) e)
 
+-- the duration of a value is a byte
+byte-duration : (J : Job) (facts i : ℕ) (n : Counts) (action : value.Action) → IsAction J facts i n action
+    → action .duration < 256 → actionOf J i .duration ≤ 255
+byte-duration J facts i n action is byte =
+    let same : actionOf J i .duration ≡ action .duration = ap (λ (a : Action). a .duration) (is .same) in omega arith
+
 -- a fact that the action adds or deletes is not carried
 pub carries-nothing : (facts : ℕ) (xs : List ℕ) (action : value.Action) (q : ℕ)
     → has (union (action .adds) (action .deletes)) q ≡ true → LowersCarried facts action q xs xs false
@@ -42,32 +49,33 @@ carries-nothing facts xs action q touched J i n able is fits here =
 module _ (facts : ℕ) (xs ys : List ℕ) (r : Bool) where
   -- (i)
   pub both-lowers : (action : value.Action) (ready time : ℕ) → ready ≡ setNumber xs (action .needs) facts
-      → time ≡ afterNumber (action .duration) ready → LowersAll facts xs ys (action .adds) (action .adds) time r
-      → LowersBoth facts action xs ys r
-  both-lowers action ready time e f lowers J i n able is fits =
+      → time ≡ afterNumber (action .duration) ready → action .duration < 256
+      → LowersAll facts xs ys (action .adds) (action .adds) time r → LowersBoth facts action xs ys r
+  both-lowers action ready time e f byte lowers J i n able is fits =
+      let short = byte-duration J facts i n action is byte in
       let needs : action .needs ≡ actionOf J i .needs = ap (λ (a : Action). a .needs) (sym (is .same)) in
       let adds : action .adds ≡ actionOf J i .adds = ap (λ (a : Action). a .adds) (sym (is .same)) in
       let ends = end-of-value J facts i n action xs (actionOf J i .needs) ready time is
-          (e ∙ ap (λ (set : ℕ). setNumber xs set facts) needs) f in
+      (e ∙ ap (λ (set : ℕ). setNumber xs set facts) needs) f in
       lowering-weaker J _ (BothSettled J i) xs ys r
       (all-as xs ys r _ _ _ _ _ _ _ _ (sym (is .sameFacts)) adds adds ends lowers J able refl
-      (both-offered J xs able i (is .known) fits))
-      (λ settled. settled)
+      (both-offered J xs able i (is .known) fits short))
+      (λ settled. (short, settled))
 
   -- (ii)
   pub carried-lowers : (action : value.Action) (q ready time : ℕ)
       → has (union (action .adds) (action .deletes)) q ≡ false
       → ready ≡ setNumber xs (union (action .needs) (single q)) facts → time ≡ afterNumber (action .duration) ready
-      → LowersRow facts xs ys q (action .adds) time r → LowersCarried facts action q xs ys r
-  carried-lowers action q ready time untouched e f lowers J i n able is fits here =
+      → action .duration < 256 → LowersRow facts xs ys q (action .adds) time r → LowersCarried facts action q xs ys r
+  carried-lowers action q ready time untouched e f byte lowers J i n able is fits here =
       let needs : action .needs ≡ actionOf J i .needs = ap (λ (a : Action). a .needs) (sym (is .same)) in
       let adds : action .adds ≡ actionOf J i .adds = ap (λ (a : Action). a .adds) (sym (is .same)) in
       let deletes : action .deletes ≡ actionOf J i .deletes = ap (λ (a : Action). a .deletes) (sym (is .same)) in
       let ends = end-of-value J facts i n action xs (union (actionOf J i .needs) (single q)) ready time is
-          (e ∙ ap (λ (set : ℕ). setNumber xs (union set (single q)) facts) needs) f in
+      (e ∙ ap (λ (set : ℕ). setNumber xs (union set (single q)) facts) needs) f in
       lowering-weaker J _ (CarriedSettled J i q) xs ys r
       (row-as xs ys q r _ _ _ _ _ _ (sym (is .sameFacts)) adds ends lowers J able refl (rw (is .sameFacts) here)
-      (carried-offered J xs able i q (is .known) fits
+      (carried-offered J xs able i q (is .known) fits (byte-duration J facts i n action is byte)
       (sym (ap₂ (λ (a d : ℕ). has (union a d) q) adds deletes) ∙ untouched)))
       (λ settled other. settled)
 
@@ -75,18 +83,18 @@ module _ (facts : ℕ) (xs ys : List ℕ) (r : Bool) where
   pub pair-lowers : (a b : value.Action) (ready bothReady first second time : ℕ)
       → ready ≡ setNumber xs (a .needs) facts → bothReady ≡ setNumber xs (union (a .needs) (b .needs)) facts
       → first ≡ afterNumber (a .duration) ready → second ≡ afterNumber (b .duration) bothReady → time ≡ max first second
-      → LowersAll facts xs ys (a .adds) (b .adds) time r → LowersPair facts a b xs ys r
-  pair-lowers a b ready bothReady first second time e f g h k lowers J i j n able is-a is-b joined =
+      → a .duration < 256 → LowersAll facts xs ys (a .adds) (b .adds) time r → LowersPair facts a b xs ys r
+  pair-lowers a b ready bothReady first second time e f g h k byte lowers J i j n able is-a is-b joined =
       let needs-a : a .needs ≡ actionOf J i .needs = ap (λ (a : Action). a .needs) (sym (is-a .same)) in
       let needs-b : b .needs ≡ actionOf J j .needs = ap (λ (a : Action). a .needs) (sym (is-b .same)) in
       let adds-a : a .adds ≡ actionOf J i .adds = ap (λ (a : Action). a .adds) (sym (is-a .same)) in
       let adds-b : b .adds ≡ actionOf J j .adds = ap (λ (a : Action). a .adds) (sym (is-b .same)) in
       let ends-a = end-of-value J facts i n a xs (actionOf J i .needs) ready first is-a
-          (e ∙ ap (λ (set : ℕ). setNumber xs set facts) needs-a) g in
+      (e ∙ ap (λ (set : ℕ). setNumber xs set facts) needs-a) g in
       let ends-b = end-of-value J facts j n b xs (union (actionOf J i .needs) (actionOf J j .needs)) bothReady second is-b
-          (f ∙ ap₂ (λ (x y : ℕ). setNumber xs (union x y) facts) needs-a needs-b) h in
+      (f ∙ ap₂ (λ (x y : ℕ). setNumber xs (union x y) facts) needs-a needs-b) h in
       let ends : time ≡ bothEndNumber J xs (actionOf J i) (actionOf J j) = k ∙ ap₂ max ends-a ends-b in
       lowering-weaker J _ (PairSettled J i j) xs ys r
       (all-as xs ys r _ _ _ _ _ _ _ _ (sym (is-a .sameFacts)) adds-a adds-b ends lowers J able refl
-      (pair-offered J xs able i j (is-a .known) (is-b .known) joined))
+      (pair-offered J xs able i j (is-a .known) (is-b .known) joined (byte-duration J facts i n a is-a byte)))
       (λ settled. settled)

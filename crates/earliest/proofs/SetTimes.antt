@@ -65,7 +65,7 @@ module _ (J : Job) (xs : List ℕ) (able : Lowerable J xs) (set : ℕ) where
   number-of-reachable t h =
       number-by-set 530400
       (capped 530400 (timeOf J (tableIn xs) set) t
-      (set-at-most J (able .durations) (able .few) xs (able .kept) set) h)
+      (set-at-most J (able .few) xs (able .kept) set) h)
 
   pub number-within-finite : number ≤ 530400 → number ≤ 255 * finiteIn xs
   number-within-finite l =

@@ -61,14 +61,14 @@ module _ (J : Job) (xs : List ℕ) (able : Lowerable J xs) (settled : Settled J 
       ⊎-elim
       (λ e. (
         _,
-        acts .both q b e p a hp,
-        number-by-alone J xs able i (actionOf J i .needs) (alone .known) (alone .from) t
+        acts .both .1 q b e p a hp,
+        number-by-alone J xs able i (actionOf J i .needs) (alone .known) (acts .both .0) (alone .from) t
             (needs-of-carried (actionOf J i .needs) q (alone .from) (alone .ready)) (alone .ends),
       ))
       (λ e. (
         _,
         acts .one q b (has-union (actionOf J i .adds) (actionOf J i .deletes) q ∙ or-neither e hq) p a hp,
-        number-by-alone J xs able i (union (actionOf J i .needs) (single q)) (alone .known) (alone .from) t
+        number-by-alone J xs able i (union (actionOf J i .needs) (single q)) (alone .known) (acts .both .0) (alone .from) t
             (alone .ready) (alone .ends),
       ))
       (decided (has (actionOf J i .adds) q))
@@ -87,7 +87,8 @@ module _ (J : Job) (xs : List ℕ) (able : Lowerable J xs) (settled : Settled J 
       let allowed = joined i j t c in (
         _,
         settled .actions i (c .known) fits .each j (c .knownToo) allowed p a hp q b hq,
-        number-by-together J xs able i j (c .known) (c .knownToo) allowed t c,
+        number-by-together J xs able i j (c .known) (c .knownToo) allowed
+            (settled .actions i (c .known) fits .both .0) t c,
       )
 
   settled-entry : (p q t : ℕ) → p ≤ q → q < J .facts → Reached J (tableIn xs) p q t → By (tableIn xs p q) t
@@ -95,8 +96,9 @@ module _ (J : Job) (xs : List ℕ) (able : Lowerable J xs) (settled : Settled J 
       by-entry p q 0 t a (settled .start p (omega arith) hp q b hq) (omega arith, omega arith)
   settled-entry p q t a b (both i alone hp hq) =
       let acts = settled .actions i (alone .known) (alone .fits) in
-      by-entry p q _ t a (acts .both p (omega arith) hp q b hq)
-      (number-by-alone J xs able i (actionOf J i .needs) (alone .known) (alone .from) t (alone .ready) (alone .ends))
+      by-entry p q _ t a (acts .both .1 p (omega arith) hp q b hq)
+      (number-by-alone J xs able i (actionOf J i .needs) (alone .known) (acts .both .0) (alone .from) t (alone .ready)
+      (alone .ends))
   settled-entry p q t a b (one i apart alone hp hq) =
       let r = carried p q t i (omega arith) b alone hp hq in
       let l = r .1 in

@@ -1,3 +1,4 @@
 pub mod Numbers
 pub mod Lowering
 pub mod Sweep
+pub mod Answer

@@ -12,7 +12,6 @@ use Rattle.times.specs.Numbers.{none, tableIn}
 use Rattle.times.proofs.Times.{By}
 use Rattle.times.proofs.Choices.{Reached}
 use Rattle.times.proofs.Falling.{sum}
-use Rattle.times.proofs.Finite.{LongestDuration}
 use Rattle.times.proofs.Kept.{Kept, finiteIn}
 
 -- the entry of two facts, in either order
@@ -22,7 +21,6 @@ entryAt xs p q = getD xs (entryOf (min p q) (max p q)) none
 -- a table of the job's earliest times on the way down to them
 pub record Lowerable (J : Job) (xs : List ℕ) : Type 0 where
   pub few : J .facts ≤ 64
-  pub durations : LongestDuration J 255
   pub kept : Kept J xs
 
 -- ys is xs with some entries lowered, or with none: then D holds of xs

@@ -1,6 +1,6 @@
 -- One sweep over all choices: what is settled where no entry fell.
 -- Assumes nothing.
-use Prim.Native.Nat.{ℕ, _+_, _<_, max}
+use Prim.Native.Nat.{ℕ, _+_, _≤_, _<_, max}
 use mathlib.Core.Path.{_≡_}
 use mathlib.Core.Bool.{Bool, true, false, not, _&&_, _||_}
 use mathlib.Core.List.{List}
@@ -15,7 +15,8 @@ use Rattle.job.specs.Job.{Action, Job, actionIn, jobIn}
 use Rattle.job.specs.Valid.{over}
 use Rattle.timeline.specs.Timeline.{hinders}
 use Rattle.timeline.specs.Accepted.{anyBelow}
-use Rattle.times.specs.Earliest.{actionOf, fitsAlone, fitTogether}
+use Rattle.times.specs.Earliest.{actionOf, fitsAlone, fitTogether, Solves}
+use Rattle.times.specs.Numbers.{tableIn}
 use Rattle.earliest.specs.Numbers.{setNumber, afterNumber}
 use Rattle.earliest.specs.Lowering.{Lowerable, Lowering, RowAtMost, AllAtMost}
 
@@ -23,11 +24,11 @@ use Rattle.earliest.specs.Lowering.{Lowerable, Lowering, RowAtMost, AllA
 abbrev pub endNumber : Job → List ℕ → Action → ℕ → ℕ
 endNumber J xs a set = afterNumber (a .duration) (setNumber xs set (J .facts))
 
--- choice (i): the entries of what action i adds
+-- choice (i): the entries of what action i adds; its duration is that of a value, one byte
 abbrev pub BothSettled : Job → ℕ → List ℕ → Type 0
 BothSettled J i xs =
     let a = actionOf J i in
-    AllAtMost (J .facts) (a .adds) (a .adds) (endNumber J xs a (a .needs)) (J .facts) xs
+    (a .duration ≤ 255) × AllAtMost (J .facts) (a .adds) (a .adds) (endNumber J xs a (a .needs)) (J .facts) xs
 
 -- choice (ii): the entries of what action i adds with a fact q, where it neither adds nor deletes q
 abbrev pub CarriedSettled : Job → ℕ → ℕ → List ℕ → Type 0
@@ -149,3 +150,8 @@ LowersActions job xs ys changed = Lowerable (jobIn job) xs → Lowering (jobIn j
 
 abbrev pub Sweeps : held.Job → List ℕ → List ℕ → Bool → Type 0
 Sweeps job xs ys changed = Lowerable (jobIn job) xs → Lowering (jobIn job) (Settled (jobIn job)) xs ys changed
+
+-- the table holds the job's earliest times
+pub record Filled (J : Job) (xs : List ℕ) : Type 0 where
+  pub able : Lowerable J xs
+  pub solves : Solves J (tableIn xs)

@@ -44,7 +44,14 @@ fn fit_together(pools: usize, available: [u32; Job::POOLS], a: Action, b: Action
 }
 
 // Whether actions i and j are a choice, i the longer one.
-pub fn may_join(pools: usize, available: [u32; Job::POOLS], i: usize, j: usize, a: Action, b: Action) -> bool
+pub fn may_join(
+    pools: usize,
+    available: [u32; Job::POOLS],
+    i: usize,
+    j: usize,
+    a: Action,
+    b: Action,
+) -> bool
     requires { ⌜ pools ≤ 4 ⌝ }
     ensures { λ r. ⌜ MayJoin pools available i j a b r ⌝ }
 {

@@ -10,7 +10,7 @@ use job::Action;
 
 // So many minutes after a time.
 fn after(minutes: u8, time: u32) -> u32
-    ensures { λ r. ⌜ r ≡ afterNumber minutes time ⌝ }
+    ensures { λ r. ⌜ (r ≡ afterNumber minutes time) × (minutes < 256) ⌝ }
 {
     if set_time::LATEST < time {
         return set_time::NONE;
@@ -25,7 +25,13 @@ pub fn add_both(table: &mut [u32], facts: u8, action: Action) -> bool
         × LowersBoth facts action (now (table .entry)) (now (table .exit)) r ⌝ }
 {
     let ready = set_time::set_time(table, facts, action.needs);
-    lower::lower_all(table, facts, action.adds, action.adds, after(action.duration, ready))
+    lower::lower_all(
+        table,
+        facts,
+        action.adds,
+        action.adds,
+        after(action.duration, ready),
+    )
 }
 
 // Choice (ii): the action adds one fact, and fact q holds from its start on, unless the action adds or deletes it.

@@ -1,9 +1,10 @@
 // Sweeps over all choices, until no entry falls.
 ghost use mathlib.Core.Path.{_≡_};
 ghost use Prim.Native.Nat.{_≤_, _<_};
-ghost use lib.ListN.{length};
-ghost use Rattle.job.specs.Job.{Fits};
-ghost use Rattle.earliest.specs.Sweep.{LowersJoined, LowersEach, LowersAction, LowersActions, Sweeps};
+ghost use lib.ListN.{length, replicate};
+ghost use Rattle.job.specs.Job.{jobIn, Fits};
+ghost use Rattle.times.specs.Numbers.{none};
+ghost use Rattle.earliest.specs.Sweep.{LowersJoined, LowersEach, LowersAction, LowersActions, Sweeps, Filled};
 use crate::allowed;
 use crate::choices;
 use crate::lower;
@@ -92,4 +93,15 @@ fn sweep(table: &mut [u32], job: Job) -> bool
     let start = lower::lower_all(table, job.facts, job.start, job.start, 0);
     let actions = by_actions(table, job);
     actions | start
+}
+
+// Turns a table in which all is unreachable into the job's earliest times.
+pub fn fill(table: &mut [u32], job: Job)
+    requires { ⌜ (now table ≡ replicate 2080 none) × (job .facts ≤ 64) × Fits (job .counts) ⌝ }
+    ensures { λ r. ⌜ Filled (jobIn job) (now (table .exit)) ⌝ }
+{
+    let mut changed = true;
+    while changed {
+        changed = sweep(table, job);
+    }
 }

@@ -43,3 +43,7 @@ unfolding first
 pass-of-append [] more h = (refl, h)
 pass-of-append (why when true ∷ rows) more h = (h, cc)
 pass-of-append (why when false ∷ rows) more h = pass-of-append rows more h
+
+pub first-none : first [] ≡ Pass
+unfolding first
+first-none = refl

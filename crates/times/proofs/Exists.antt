@@ -27,18 +27,18 @@ module _ (J : Job) (durations : LongestDuration J 255) (few : J .facts ≤ 64) (
   module _ (p q : ℕ) (a : p ≤ q) (b : q < J .facts)
       (less : numberOf (rightSide J (tableIn xs) p q) < getD xs (entryOf p q) none) where
     old : getD xs (entryOf p q) none ≤ none
-    old = entry-at-most-none J durations few xs kept (entryOf p q) (entry-before-2080 p q a (omega arith))
+    old = entry-at-most-none J few xs kept (entryOf p q) (entry-before-2080 p q a (omega arith))
 
     pub kept-at-right-side : Kept J (set xs (entryOf p q) (numberOf (rightSide J (tableIn xs) p q)))
     kept-at-right-side =
         let o = old in
         let l = less in
         let v : ℕ = numberOf (rightSide J (tableIn xs) p q) in
-        kept-when-written J durations few xs kept p q v a b less
+        kept-when-written J few xs kept p q v a b less
         (⊎-elim (λ e. absurd (omega arith)) (λ m. m)
         (number-of-at-most (255 + 255 * finiteIn xs) (rightSide J (tableIn xs) p q)
         (right-side-at-most J durations few xs kept p q)))
-        (lowered-to-right-side J xs p q v a (entry-inside J durations few xs kept p q a b) old (omega arith)
+        (lowered-to-right-side J xs p q v a (entry-inside J few xs kept p q a b) old (omega arith)
         (time-of-number (rightSide J (tableIn xs) p q) (right-side-small J durations few xs kept p q)))
 
   -- no entry can fall: the table solves the equations
@@ -107,7 +107,7 @@ module _ (J : Job) (durations : LongestDuration J 255) (few : J .facts ≤ 64) w
       let a : p ≤ q = omega arith in
       let less : CanFall xs q p = r .2 .2 in
       let v : ℕ = numberOf (rightSide J (tableIn xs) p q) in
-      let s = sum-falls xs (entryOf p q) v none (entry-inside J durations few xs kept p q a b) less in
+      let s = sum-falls xs (entryOf p q) v none (entry-inside J few xs kept p q a b) less in
       lowered-until-settled fuel (set xs (entryOf p q) v) (omega arith)
       (kept-at-right-side J durations few xs kept p q a b less))
       (λ all.

@@ -69,7 +69,7 @@ kept-at-first J few =
       bounded = λ k l. inl (getD-replicate 2080 k none none l);
     }
 
-module _ (J : Job) (durations : LongestDuration J 255) (few : J .facts ≤ 64) (xs : List ℕ) (kept : Kept J xs) where
+module _ (J : Job) (few : J .facts ≤ 64) (xs : List ℕ) (kept : Kept J xs) where
   cap : 255 * finiteIn xs ≤ 530400
   cap = let l = finite-at-most-length xs in let n = kept .whole in omega arith
 
@@ -98,16 +98,6 @@ module _ (J : Job) (durations : LongestDuration J 255) (few : J .facts ≤ 64) (
       (λ t h.
       timeOf-by J (tableIn xs) facts (255 * finiteIn xs)
       (λ p q a b hp hq. capped p q t a b (by-timeOf J (tableIn xs) facts t h p q a b hp hq))))
-
-  pub right-side-at-most : (p q : ℕ) → AtMost (255 + 255 * finiteIn xs) (rightSide J (tableIn xs) p q)
-  right-side-at-most p q =
-      at-most-of-by (255 + 255 * finiteIn xs) (rightSide J (tableIn xs) p q)
-      (λ t. right-side-capped J (tableIn xs) (255 * finiteIn xs) 255 durations capped p q t)
-
-  pub right-side-small : (p q : ℕ) → Small (rightSide J (tableIn xs) p q)
-  right-side-small p q =
-      let c = cap in
-      small-at-most (255 + 255 * finiteIn xs) (rightSide J (tableIn xs) p q) (omega arith) (right-side-at-most p q)
 
   -- ---- an entry written
   module _ (p q v : ℕ) (a : p ≤ q) (b : q < J .facts) (less : v < getD xs (entryOf p q) none)
@@ -153,3 +143,15 @@ module _ (J : Job) (durations : LongestDuration J 255) (few : J .facts ≤ 64) (
               ⊎-elim (λ y. inl (w ∙ y)) (λ y. inr (omega arith)) (kept .bounded k l))
               (decided (eqb k (entryOf p q)));
         }
+
+-- ---- where no action lasts longer than 255 minutes
+module _ (J : Job) (durations : LongestDuration J 255) (few : J .facts ≤ 64) (xs : List ℕ) (kept : Kept J xs) where
+  pub right-side-at-most : (p q : ℕ) → AtMost (255 + 255 * finiteIn xs) (rightSide J (tableIn xs) p q)
+  right-side-at-most p q =
+      at-most-of-by (255 + 255 * finiteIn xs) (rightSide J (tableIn xs) p q)
+      (λ t. right-side-capped J (tableIn xs) (255 * finiteIn xs) 255 durations (capped J few xs kept) p q t)
+
+  pub right-side-small : (p q : ℕ) → Small (rightSide J (tableIn xs) p q)
+  right-side-small p q =
+      let c = cap J few xs kept in
+      small-at-most (255 + 255 * finiteIn xs) (rightSide J (tableIn xs) p q) (omega arith) (right-side-at-most p q)

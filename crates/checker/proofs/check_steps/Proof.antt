@@ -16,7 +16,8 @@ use Rattle.checker.specs.declared.clock.Clock.{Clock}
 use Rattle.checker.specs.declared.Checked.the-variants.{Ends}
 use Rattle.checker.specs.Check.{checkedOf}
 use Rattle.checker.proofs.ChainLaws.{check-passes, check-fails}
-use Rattle.checker.proofs.ChainLaws.{first-none, watched-missing, watched-done}
+use Rattle.job.proofs.Table.{first-none}
+use Rattle.checker.proofs.ChainLaws.{watched-missing, watched-done}
 use borrow.Author.Needs.{needs}
 use Rattle.checker.proofs.check_steps.Statement.{statement}
 use Rattle.checker.proofs.check_steps.Tie as tie

@@ -25,7 +25,7 @@ returns c =
     let c-set-time = c .before .before .before .before .before .set-time in
     let c-after = c .before .before .before .after in
     let lowers = c .before .before .lower-all .ensures in
-    (lowers .0, both-lowers (c-args .facts) _ _ _ (c-args .action) _ _ (c-set-time .ensures) (c-after .ensures) (lowers .1))
+    (lowers .0, both-lowers (c-args .facts) _ _ _ (c-args .action) _ _ (c-set-time .ensures) (c-after .ensures .0) (c-after .ensures .1) (lowers .1))
 
 pub add-both-spec : {M : Type 1} → statement M
 add-both-spec =

@@ -50,7 +50,7 @@ returns c =
     let lowers = c .before .before .lower-all .ensures in
     let at = c-args in
     let both = c-set-time2 .ensures ∙ ap (λ (s : ℕ). setNumber (at .table .now) s (at .facts)) (c-union .ensures .0) in
-    (lowers .0, pair-lowers (at .facts) _ _ _ (at .a) (at .b) _ _ _ _ _ (c-set-time .ensures) both (c-after .ensures) (c-after2 .ensures) (c-later .ensures) (lowers .1))
+    (lowers .0, pair-lowers (at .facts) _ _ _ (at .a) (at .b) _ _ _ _ _ (c-set-time .ensures) both (c-after .ensures .0) (c-after2 .ensures .0) (c-later .ensures) (c-after .ensures .1) (lowers .1))
 
 pub add-each-spec : {M : Type 1} → statement M
 add-each-spec =

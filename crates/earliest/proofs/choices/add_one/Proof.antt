@@ -44,10 +44,13 @@ loop-again c =
     let c-loop = c .before .before .before .before .before .loop in
     let inv = c-loop .inv in
     let lowers = c .before .before .carry .ensures in
-    let xs = c-loop .table in
-    (omega arith, lowers .0, λ J i n able is fits.
-    let before = inv .2 J i n able is fits in
-    below-next J (CarriedSettled J i) (c-loop .q) _ xs _ _ _ before (lowers .1 J i n (lowerable-on J _ _ xs _ able before) is fits (omega arith)))
+    let xs = c-loop .table in (
+      omega arith,
+      lowers .0,
+      λ J i n able is fits.
+          let before = inv .2 J i n able is fits in
+          below-next J (CarriedSettled J i) (c-loop .q) _ xs _ _ _ before (lowers .1 J i n (lowerable-on J _ _ xs _ able before) is fits (omega arith)),
+    )
 
 same-length : tie.Need-same-length Inv-loop μ-loop
 same-length c =
@@ -56,10 +59,12 @@ same-length c =
 returns : tie.Need-returns Inv-loop μ-loop
 returns c =
     let c-loop = c .before .loop in
-    let inv = c-loop .inv in
-    (inv .1, λ J i n able is fits.
-    let all : c-loop .q ≡ J .facts = let e = is .sameFacts in omega arith in
-    rw all at (inv .2 J i n able is fits))
+    let inv = c-loop .inv in (
+      inv .1,
+      λ J i n able is fits.
+          let all : c-loop .q ≡ J .facts = let e = is .sameFacts in omega arith in
+          rw all at (inv .2 J i n able is fits),
+    )
 
 pub add-one-spec : {M : Type 1} → statement M
 add-one-spec =

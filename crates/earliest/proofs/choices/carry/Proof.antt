@@ -62,7 +62,7 @@ returns-2 c =
     let untouched = ap (λ (s : ℕ). has s (at .q)) (sym (c-union .ensures .0)) ∙ sym (c-has .ensures) ∙ c-if1 .left in
     let set : c-union2 .result ≡ union (at .action .needs) (single (at .q)) = c-union2 .ensures .0 ∙ ap (union (at .action .needs)) (c-single .ensures) in
     let ready = c-set-time .ensures ∙ ap (λ (s : ℕ). setNumber (at .table .now) s (at .facts)) set in
-    (lowers .0, carried-lowers (at .facts) _ _ _ (at .action) (at .q) _ _ untouched ready (c-after .ensures) (lowers .1))
+    (lowers .0, carried-lowers (at .facts) _ _ _ (at .action) (at .q) _ _ untouched ready (c-after .ensures .0) (c-after .ensures .1) (lowers .1))
 
 pub carry-spec : {M : Type 1} → statement M
 carry-spec =

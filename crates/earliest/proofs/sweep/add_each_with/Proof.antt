@@ -68,11 +68,14 @@ loop-again c =
     let i = c-args .i in
     let j = c-loop .j in
     let lowers = c .before .before .add-pair .ensures in
-    let xs = c-loop .table in
-    (omega arith, lowers .0, λ able.
-    let before = inv .2 able in
-    below-next (jobIn job) (JoinedSettled (jobIn job) i) j _ xs _ _ _ before
-    (lowers .1 (jobIn job) (job .counts) (lowerable-on (jobIn job) _ _ xs _ able before) (has-pools job) (is-action job i (h .3)) (is-action job j (c-if1 .taken))))
+    let xs = c-loop .table in (
+      omega arith,
+      lowers .0,
+      λ able.
+          let before = inv .2 able in
+          below-next (jobIn job) (JoinedSettled (jobIn job) i) j _ xs _ _ _ before
+          (lowers .1 (jobIn job) (job .counts) (lowerable-on (jobIn job) _ _ xs _ able before) (has-pools job) (is-action job i (h .3)) (is-action job j (c-if1 .taken))),
+    )
 
 same-length : tie.Need-same-length Inv-loop μ-loop
 same-length c =

@@ -32,8 +32,8 @@ returns c =
     let job = c-args .t2 in
     let i = c-args .i in
     let misfit = ap (fitsAlone (jobIn job)) (is-action job i (h .3) .same)
-        ∙ sym (fits-alone-in (jobIn job) (job .counts) _ _ (has-pools job) (getD (job .actions) i beyond))
-        ∙ sym (c-fits-alone .ensures) ∙ not-true (c-fits-alone .result) (c .if1 .taken) in
+    ∙ sym (fits-alone-in (jobIn job) (job .counts) _ _ (has-pools job) (getD (job .actions) i beyond))
+    ∙ sym (c-fits-alone .ensures) ∙ not-true (c-fits-alone .result) (c .if1 .taken) in
     (h .0, misfit-lowers job i (h .3) _ misfit)
 
 add-both-requires : tie.Need-add-both-requires
@@ -76,8 +76,8 @@ returns-2 c =
     let job = c-args .t2 in
     let i = c-args .i in
     let fits = ap (fitsAlone (jobIn job)) (is-action job i (h .3) .same)
-        ∙ sym (fits-alone-in (jobIn job) (job .counts) _ _ (has-pools job) (getD (job .actions) i beyond))
-        ∙ sym (c-fits-alone .ensures) ∙ not-false (c-fits-alone .result) (c-if1 .left) in
+    ∙ sym (fits-alone-in (jobIn job) (job .counts) _ _ (has-pools job) (getD (job .actions) i beyond))
+    ∙ sym (c-fits-alone .ensures) ∙ not-false (c-fits-alone .result) (c-if1 .left) in
     let lowers = c .before .before .add-each-with .ensures in
     (lowers .0, action-lowers job i (h .3) _ _ _ _ _ _ _ fits (c-add-both .ensures .1) (c-add-one .ensures .1) (lowers .1))
 

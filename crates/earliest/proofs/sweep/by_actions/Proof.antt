@@ -45,10 +45,13 @@ loop-again c =
     let inv = c-loop .inv in
     let job = c-args .job in
     let lowers = c .before .before .by-action .ensures in
-    let xs = c-loop .table in
-    (omega arith, lowers .0, λ able.
-    let before = inv .2 able in
-    below-next (jobIn job) (ActionDone (jobIn job)) (c-loop .i) _ xs _ _ _ before (lowers .1 (lowerable-on (jobIn job) _ _ xs _ able before)))
+    let xs = c-loop .table in (
+      omega arith,
+      lowers .0,
+      λ able.
+          let before = inv .2 able in
+          below-next (jobIn job) (ActionDone (jobIn job)) (c-loop .i) _ xs _ _ _ before (lowers .1 (lowerable-on (jobIn job) _ _ xs _ able before)),
+    )
 
 same-length : tie.Need-same-length Inv-loop μ-loop
 same-length c =

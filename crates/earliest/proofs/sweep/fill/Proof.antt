@@ -1,0 +1,65 @@
+-- `fill` meets its contract: the entries fall until none does.
+-- Assumes nothing.
+use Prim.Native.Nat.{ℕ, _+_}
+use mathlib.Core.Path.{_≡_, sym, ap, _∙_}
+use mathlib.Core.Bool.{Bool, false, cond, true≢false}
+use lib.ListN.{length, length-replicate}
+use Rattle.job.specs.Job.{jobIn}
+use Rattle.times.specs.Numbers.{none}
+use Rattle.times.proofs.Falling.{sum}
+use Rattle.times.proofs.Kept.{kept-at-first}
+use Rattle.earliest.specs.Lowering.{Lowerable}
+use Rattle.earliest.specs.Sweep.{Settled}
+use Rattle.earliest.proofs.LoweringLaws.{lowerable-on, sum-or-change-falls, settled-after}
+use Rattle.earliest.proofs.Swept.{solves-when-swept}
+use native.Mathlib.Omega.{arith}
+use Rattle.earliest.proofs.sweep.fill.Statement.{statement}
+use Rattle.earliest.proofs.sweep.fill.Tie as tie
+
+abbrev Inv-loop : tie.InvT-loop
+Inv-loop table₀ job changed₀ table changed =
+    (length table ≡ 2080) × Lowerable (jobIn job) table × (changed ≡ false → Settled (jobIn job) table)
+
+abbrev μ-loop : tie.MeasureT-loop
+μ-loop table₀ job changed₀ table changed = sum table + cond changed 1 0
+
+loop-holds : tie.Need-loop-holds Inv-loop μ-loop
+loop-holds c =
+    let h = c .before .pre in
+    let J = jobIn (c .before .args .job) in
+    let e = ap length (h .0) ∙ length-replicate 2080 none in
+    (e, record { few = h .1; kept = rw (h .0) (kept-at-first J (h .1)) }, λ never. absurd (true≢false never))
+
+sweep-requires : tie.Need-sweep-requires Inv-loop μ-loop
+sweep-requires c κs =
+    let c-pre = c .before .before .before .before .pre in
+    let h = c-pre in (c .before .before .loop .inv .0, h .1, h .2)
+
+loop-less : tie.Need-loop-less Inv-loop μ-loop
+loop-less c =
+    let c-loop = c .before .before .before .before .before .loop in
+    let c-loop-test = c .before .before .before .before .loop-test in
+    let falls = sum-or-change-falls _ _ (c-loop .table) _ _ (c .before .before .sweep .ensures .1 (c-loop .inv .1)) in
+    let before = ap (λ (b : Bool). cond {A = ℕ} b 1 0) (c-loop-test .taken) in
+    omega arith
+
+loop-again : tie.Need-loop-again Inv-loop μ-loop
+loop-again c =
+    let c-loop = c .before .before .before .before .before .loop in
+    let sweeps = c .before .before .sweep .ensures in
+    let lowering = sweeps .1 (c-loop .inv .1) in
+    (sweeps .0, lowerable-on _ _ (c-loop .table) _ _ (c-loop .inv .1) lowering, settled-after _ _ (c-loop .table) _ _ lowering)
+
+same-length : tie.Need-same-length Inv-loop μ-loop
+same-length c =
+    let h = c .before .before .before .pre in c .before .loop .inv .0 ∙ sym (ap length (h .0) ∙ length-replicate 2080 none)
+
+returns : tie.Need-returns Inv-loop μ-loop
+returns c =
+    let inv = c .before .loop .inv in
+    record { able = inv .1; solves = solves-when-swept _ _ (inv .1) (inv .2 (c .loop-test .left)) }
+
+pub fill-spec : {M : Type 1} → statement M
+fill-spec =
+    tie.close
+    (tie.spec Inv-loop μ-loop loop-holds sweep-requires loop-less loop-again same-length returns)
