@@ -1,0 +1,52 @@
+// A job in tables of numbers, for the search to borrow; the steps that it has chosen.
+ghost use mathlib.Core.Path.{_≡_};
+ghost use Prim.Native.Nat.{_<_};
+ghost use Rattle.tables.specs.Tables.{noSteps, pushed};
+use job::Job;
+use timeline::Plan;
+
+// What of the job is no table. The search is for the goal, from the first free minute up to the horizon.
+pub struct Frame {
+    pub facts: u8,
+    pub actions: usize,
+    pub pools: usize,
+    pub stores: usize,
+    pub available: [u32; Job::POOLS],
+    pub stocks: [u32; Job::STORES],
+    pub goal: u64,
+    pub first: u16,
+    pub horizon: u16,
+}
+
+// The chosen steps, in the order in which they were chosen: each an action and its start.
+pub struct Steps {
+    pub count: usize,
+    pub numbers: [u8; Plan::STEPS],
+    pub starts: [u16; Plan::STEPS],
+}
+
+impl Steps {
+    // No steps.
+    pub fn none() -> Steps
+        ensures { λ r. ⌜ r ≡ noSteps ⌝ }
+    {
+        Steps {
+            count: 0,
+            numbers: [0u8; Plan::STEPS],
+            starts: [0u16; Plan::STEPS],
+        }
+    }
+
+    // The steps with one more.
+    pub fn push(self, number: u8, start: u16) -> Steps
+        requires { ⌜ self .count < 32 ⌝ }
+        ensures { λ r. ⌜ r ≡ pushed self number start ⌝ }
+    {
+        let mut more = self;
+        let at = self.count;
+        more.numbers[at] = number;
+        more.starts[at] = start;
+        more.count = at + 1;
+        more
+    }
+}
