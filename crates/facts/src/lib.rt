@@ -1,6 +1,6 @@
 // Sets of facts in a 64-bit word. A promise names the set that is returned and says which facts are in it.
 ghost use mathlib.Core.Path.{_≡_};
-ghost use mathlib.Core.Bool.{not, _&&_, _||_};
+ghost use mathlib.Core.Bool.{not, cond, _&&_, _||_};
 ghost use Rattle.lists.specs.Answer.{Decides};
 ghost use Rattle.facts.specs.FactSet.{has, Members, union, difference};
 ghost use Rattle.facts.specs.FactSet.{subset, Subset, meets, Disjoint, foreign, Within};
@@ -29,6 +29,23 @@ pub fn difference(a: u64, b: u64) -> u64
     ensures { λ r. ⌜ (r ≡ difference a b) × Members r (λ n. has a n && not (has b n)) ⌝ }
 {
     a - (a & b)
+}
+
+// The facts in a and in b.
+pub fn common(a: u64, b: u64) -> u64
+    ensures { λ r. ⌜ Members r (λ n. has a n && has b n) ⌝ }
+{
+    a & b
+}
+
+// The set where the test is true, and no fact where it is false.
+pub fn when(test: bool, set: u64) -> u64
+    ensures { λ r. ⌜ r ≡ cond test set 0 ⌝ }
+{
+    if test {
+        return set;
+    }
+    0
 }
 
 // Whether every fact in a is in b.

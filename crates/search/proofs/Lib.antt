@@ -1,0 +1,2 @@
+mod Looks
+mod AmountLaws
