@@ -1,7 +1,10 @@
 // A job in tables of numbers, for the search to borrow; the steps that it has chosen.
+pub mod fill; // the tables of a job
+
 ghost use mathlib.Core.Path.{_≡_};
 ghost use Prim.Native.Nat.{_<_};
 ghost use Rattle.tables.specs.Tables.{noSteps, pushed};
+ghost use Rattle.tables.specs.Filled.{frameOf};
 use job::Job;
 use timeline::Plan;
 
@@ -16,6 +19,28 @@ pub struct Frame {
     pub goal: u64,
     pub first: u16,
     pub horizon: u16,
+}
+
+impl Frame {
+    // The frame of a job.
+    pub fn of(job: Job, goal: u64, first: u16, horizon: u16) -> Frame
+        ensures { λ r. ⌜ r ≡ frameOf job goal first horizon ⌝ }
+    {
+        let counts = job.counts;
+        let available = job.pools;
+        let stocks = job.stores;
+        Frame {
+            facts: job.facts,
+            actions: counts.actions,
+            pools: counts.pools,
+            stores: counts.stores,
+            available: available,
+            stocks: stocks,
+            goal: goal,
+            first: first,
+            horizon: horizon,
+        }
+    }
 }
 
 // The chosen steps, in the order in which they were chosen: each an action and its start.

@@ -1,0 +1,2 @@
+-- The filled tables and the frame describe the job.
+-- Assumes nothing.

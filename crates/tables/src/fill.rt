@@ -1,0 +1,128 @@
+// Fills the tables of a job: four sets and nine numbers for each action.
+ghost use mathlib.Core.Path.{_≡_};
+ghost use mathlib.Core.Bool.{cond};
+ghost use Prim.Native.Nat.{_+_, _*_, _≤_, _<_};
+ghost use lib.ListN.{length};
+ghost use Rattle.job.specs.Job.{jobIn, Fits};
+ghost use Rattle.tables.specs.Filled.{SetsFilled, NumbersFilled, EachFilled, Filled};
+ghost use Rattle.tables.specs.Filled.{Clash, ClashSet, SameBefore, ValuesPut};
+use job::Action;
+use job::Job;
+
+// A duration as a number of 32 bits.
+fn minutes(duration: u8) -> u32
+    ensures { λ r. ⌜ (r ≡ duration) × (r < 256) ⌝ }
+{
+    duration as u32
+}
+
+// The set where the test passes, else the empty set.
+fn when(test: bool, set: u64) -> u64
+    ensures { λ r. ⌜ r ≡ cond test set 0 ⌝ }
+{
+    if test { set } else { 0 }
+}
+
+// Whether actions i and j clash, which are a and b.
+fn clash(i: usize, j: usize, a: Action, b: Action) -> bool
+    ensures { λ r. ⌜ Clash i j a b r ⌝ }
+{
+    (i == j) | (timeline::hinders(a, b) | timeline::hinders(b, a))
+}
+
+// The set of the actions that clash with action i.
+fn clash_set(job: Job, i: usize) -> u64
+    requires { ⌜ Fits (job .counts) × (i < job .counts .actions) ⌝ }
+    ensures { λ r. ⌜ ClashSet (jobIn job) i (job .counts .actions) r ⌝ }
+{
+    let counts = job.counts;
+    let a = job.actions[i];
+    let mut set = 0;
+    let mut j = 0;
+    while j < counts.actions {
+        let b = job.actions[j];
+        let member = when(clash(i, j, a, b), facts::single(j as u8));
+        set = facts::union(set, member);
+        j += 1;
+    }
+    set
+}
+
+// The sets of action i.
+fn put_sets(sets: &mut [u64], job: Job, i: usize)
+    requires { ⌜ (length (now sets) ≡ 256) × Fits (job .counts) × (i < job .counts .actions) ⌝ }
+    ensures { λ r. ⌜ (length (now (sets .exit)) ≡ 256) × SetsFilled (jobIn job) (now (sets .exit)) i
+        × SameBefore (i * 4) (now (sets .entry)) (now (sets .exit)) ⌝ }
+{
+    let action = job.actions[i];
+    let clashing = clash_set(job, i);
+    let at = i * 4;
+    sets[at] = action.needs;
+    sets[at + 1] = action.adds;
+    sets[at + 2] = action.deletes;
+    sets[at + 3] = clashing;
+}
+
+// The sets of all actions.
+fn fill_sets(sets: &mut [u64], job: Job)
+    requires { ⌜ (length (now sets) ≡ 256) × Fits (job .counts) ⌝ }
+    ensures { λ r. ⌜ (length (now (sets .exit)) ≡ 256)
+        × EachFilled SetsFilled job (now (sets .exit)) ⌝ }
+{
+    let counts = job.counts;
+    let mut i = 0;
+    while i < counts.actions {
+        put_sets(sets, job, i);
+        i += 1;
+    }
+}
+
+// The four amounts, from place `at` on.
+fn put_amounts(numbers: &mut [u32], at: usize, amounts: [u32; Job::POOLS])
+    requires { ⌜ at + 4 ≤ length (now numbers) ⌝ }
+    ensures { λ r. ⌜ ValuesPut (now (numbers .entry)) at 4 amounts (now (numbers .exit)) ⌝ }
+{
+    let mut k = 0;
+    while k < 4 {
+        numbers[at + k] = amounts[k];
+        k += 1;
+    }
+}
+
+// The numbers of action i.
+fn put_numbers(numbers: &mut [u32], job: Job, i: usize)
+    requires { ⌜ (length (now numbers) ≡ 576) × Fits (job .counts) × (i < job .counts .actions) ⌝ }
+    ensures { λ r. ⌜ (length (now (numbers .exit)) ≡ 576) × NumbersFilled (jobIn job) (now (numbers .exit)) i
+        × SameBefore (i * 9) (now (numbers .entry)) (now (numbers .exit)) ⌝ }
+{
+    let action = job.actions[i];
+    let pools = action.pools;
+    let stores = action.stores;
+    let at = i * 9;
+    numbers[at] = minutes(action.duration);
+    put_amounts(numbers, at + 1, pools);
+    put_amounts(numbers, at + 5, stores);
+}
+
+// The numbers of all actions.
+fn fill_numbers(numbers: &mut [u32], job: Job)
+    requires { ⌜ (length (now numbers) ≡ 576) × Fits (job .counts) ⌝ }
+    ensures { λ r. ⌜ (length (now (numbers .exit)) ≡ 576)
+        × EachFilled NumbersFilled job (now (numbers .exit)) ⌝ }
+{
+    let counts = job.counts;
+    let mut i = 0;
+    while i < counts.actions {
+        put_numbers(numbers, job, i);
+        i += 1;
+    }
+}
+
+// The sets and numbers of all actions. What is behind them stays as it is.
+pub fn fill(sets: &mut [u64], numbers: &mut [u32], job: Job)
+    requires { ⌜ (length (now sets) ≡ 256) × (length (now numbers) ≡ 576) × Fits (job .counts) ⌝ }
+    ensures { λ r. ⌜ Filled job (now (sets .exit)) (now (numbers .exit)) ⌝ }
+{
+    fill_sets(sets, job);
+    fill_numbers(numbers, job);
+}
