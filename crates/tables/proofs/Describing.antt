@@ -1,2 +1,80 @@
--- The filled tables and the frame describe the job.
+-- The filled tables of a job that passes tests 3 to 11, and its frame, describe it.
 -- Assumes nothing.
+use Prim.Native.Nat.{ℕ, _≤_, _<_}
+use mathlib.Core.Path.{_≡_, refl, sym, ap, _∙_}
+use mathlib.Core.List.{List}
+use native.Mathlib.Omega.{arith}
+use lib.ListN.{length, getD}
+use Rattle.lists.proofs.Tabulate.{length-tabulate, getD-tabulate, each-at}
+use Rattle.job.specs.declared.Job as held
+use Rattle.job.specs.declared.refusal.Verdict.the-variants.{Pass}
+use Rattle.job.specs.Job.{Action, jobIn, actionAt, beyond}
+use Rattle.job.specs.Refusal.{first}
+use Rattle.job.specs.Valid.{jobRows}
+use Rattle.job.proofs.Passed.{PassedAction, passed}
+use Rattle.job.proofs.Rows.{fits-of-pass}
+use Rattle.timeline.specs.Step.{noAction}
+use Rattle.tables.specs.Tables.{Describes, DescribesAction, Sized}
+use Rattle.tables.specs.Filled.{Filled, frameOf}
+use Rattle.tables.proofs.FillLaws.{action-of-value}
+
+-- the durations within the counts are bytes
+abbrev pub ByteDurations : held.Job → Type 0
+ByteDurations j = (i : ℕ) → i < j .counts .actions → getD (j .actions) i beyond .duration < 256
+
+module _ (job : held.Job) (sets numbers : List ℕ) (filled : Filled job sets numbers) where
+  pub byte-durations : ByteDurations job
+  byte-durations i l =
+      let byte = filled .eachNumbers i l .byte in
+      let same = ap (λ (x : Action). x .duration) (action-of-value job i l) in
+      omega arith
+
+  module _ (passes : first (jobRows (jobIn job)) ≡ Pass) where
+    describes-action : (i : ℕ) → i < job .counts .actions → DescribesAction (jobIn job) sets numbers i
+    describes-action i l =
+        let s = filled .eachSets i l in
+        let n = filled .eachNumbers i l in
+        let known = length-tabulate (job .counts .actions) (actionAt job) in
+        let all = passed (jobIn job) passes .actions in
+        let tested = each-at (PassedAction (job .facts)) (jobIn job .actions) noAction all i (omega arith) in
+        record {
+          needs = s .needs;
+          adds = s .adds;
+          deletes = s .deletes;
+          clash = s .clash;
+          duration = n .duration;
+          positive = tested .duration;
+          byte = n .byte;
+          pools = n .pools;
+          stores = n .stores;
+        }
+
+    module _ (goal from horizon : ℕ) (inTime : horizon ≤ job .deadline) where
+      pub describes : Describes (jobIn job) sets numbers (frameOf job goal from horizon)
+      describes =
+          record {
+            facts = refl;
+            actions = length-tabulate (job .counts .actions) (actionAt job);
+            pools = length-tabulate (job .counts .pools) (λ k. getD (job .pools) k 0);
+            stores = length-tabulate (job .counts .stores) (λ k. getD (job .stores) k 0);
+            available = λ k l. sym (getD-tabulate (job .counts .pools) (λ m. getD (job .pools) m 0) k 0 l);
+            stocks = λ k l. sym (getD-tabulate (job .counts .stores) (λ m. getD (job .stores) m 0) k 0 l);
+            inTime = inTime;
+            each = describes-action;
+          }
+
+      pub sized : from ≤ 1440 → Sized sets numbers (frameOf job goal from horizon)
+      sized early =
+          let within = passed (jobIn job) passes in
+          let counts = fits-of-pass job passes in
+          let deadline : job .deadline ≤ 1440 = within .deadline in
+          record {
+            setCount = filled .setCount;
+            numberCount = filled .numberCount;
+            facts = within .facts;
+            actions = counts .2;
+            pools = counts .0;
+            stores = counts .1;
+            horizon = omega arith;
+            first = early;
+          }

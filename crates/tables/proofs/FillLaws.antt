@@ -57,13 +57,13 @@ module _ (J : Job) (i : ℕ) where
       → ClashesBelow (n + 1) more
   clashes-next n set member more test below same is-member is-more =
       let at : (k : ℕ) → has more k ≡ (has set k || (test && eqb k n)) =
-          λ k. is-more k ∙ ap (λ b. has set k || b) (ap (λ m. has m k) is-member ∙ has-when test n k) in
+      λ k. is-more k ∙ ap (λ b. has set k || b) (ap (λ m. has m k) is-member ∙ has-when test n k) in
       let other : (k : ℕ) → (k ≡ n → ⊥) → has more k ≡ has set k =
-          λ k ne.
-          at k ∙ ap (λ b. has set k || (test && b)) (ne-eqb k n ne) ∙ ap (λ b. has set k || b) (and-false test)
-          ∙ or-false (has set k) in
+      λ k ne.
+      at k ∙ ap (λ b. has set k || (test && b)) (ne-eqb k n ne) ∙ ap (λ b. has set k || b) (and-false test)
+      ∙ or-false (has set k) in
       let here : has more n ≡ test =
-          at n ∙ ap₂ (λ a b. a || (test && b)) (below .1 n (omega arith)) (eq-eqb n n refl) ∙ and-true test in (
+      at n ∙ ap₂ (λ a b. a || (test && b)) (below .1 n (omega arith)) (eq-eqb n n refl) ∙ and-true test in (
         λ k l.
             ⊎-elim (λ a. let e : k ≡ n = omega arith in rw e (here ∙ same))
             (λ a. other k (λ e. omega arith) ∙ below .0 k a) (le-or-lt n k),
@@ -81,7 +81,7 @@ values-next xs at n values ys put l =
     let whole = put .size in
     let x = getD values n 0 in
     let other : (k : ℕ) → (k ≡ at + n → ⊥) → getD (set ys (at + n) x) k 0 ≡ getD ys k 0 =
-        λ k ne. getD-set-other ys (at + n) k x 0 ne in
+    λ k ne. getD-set-other ys (at + n) k x 0 ne in
     record {
       size = length-set ys (at + n) x ∙ whole;
       put =
@@ -101,7 +101,7 @@ pub four-values : (xs : List ℕ) (at a b c d : ℕ) → at + 4 ≤ length xs
 four-values xs at a b c d l =
     let values : List ℕ = a ∷ b ∷ c ∷ d ∷ [] in
     let one : ValuesPut xs at 1 values (set xs at a) =
-        rw (add-zero at) at (values-next xs at 0 values xs (values-at-first xs at values) (omega arith)) in
+    rw (add-zero at) at (values-next xs at 0 values xs (values-at-first xs at values) (omega arith)) in
     let two = values-next xs at 1 values (set xs at a) one (omega arith) in
     let three = values-next xs at 2 values _ two (omega arith) in
     values-next xs at 3 values _ three (omega arith)

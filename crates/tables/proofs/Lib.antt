@@ -1,2 +1,2 @@
-pub mod FillLaws
+mod FillLaws
 pub mod Describing

@@ -28,7 +28,8 @@ pub record NumbersFilled (J : Job) (numbers : List ℕ) (i : ℕ) : Type 0 where
   pub duration : durationAt numbers i ≡ actionOf J i .duration
   pub byte : actionOf J i .duration ≤ 255
   pub pools : (pool : ℕ) → pool < length (J .pools) → poolUseAt numbers i pool ≡ getD (actionOf J i .pools) pool 0
-  pub stores : (store : ℕ) → store < length (J .stores) → storeUseAt numbers i store ≡ getD (actionOf J i .stores) store 0
+  pub stores : (store : ℕ) → store < length (J .stores)
+      → storeUseAt numbers i store ≡ getD (actionOf J i .stores) store 0
 
 -- each action of the job value is in the table
 abbrev pub EachFilled : (Job → List ℕ → ℕ → Type 0) → held.Job → List ℕ → Type 0

@@ -48,7 +48,7 @@ fn clash_set(job: Job, i: usize) -> u64
     set
 }
 
-// The sets of action i.
+// Puts the sets of action i into the table, and leaves the entries before them.
 fn put_sets(sets: &mut [u64], job: Job, i: usize)
     requires { ⌜ (length (now sets) ≡ 256) × Fits (job .counts) × (i < job .counts .actions) ⌝ }
     ensures { λ r. ⌜ (length (now (sets .exit)) ≡ 256) × SetsFilled (jobIn job) (now (sets .exit)) i
@@ -63,7 +63,7 @@ fn put_sets(sets: &mut [u64], job: Job, i: usize)
     sets[at + 3] = clashing;
 }
 
-// The sets of all actions.
+// Puts the sets of all actions into the table.
 fn fill_sets(sets: &mut [u64], job: Job)
     requires { ⌜ (length (now sets) ≡ 256) × Fits (job .counts) ⌝ }
     ensures { λ r. ⌜ (length (now (sets .exit)) ≡ 256)
@@ -77,7 +77,7 @@ fn fill_sets(sets: &mut [u64], job: Job)
     }
 }
 
-// The four amounts, from place `at` on.
+// Puts four amounts into the table, from place `at` on, and leaves the entries before them.
 fn put_amounts(numbers: &mut [u32], at: usize, amounts: [u32; Job::POOLS])
     requires { ⌜ at + 4 ≤ length (now numbers) ⌝ }
     ensures { λ r. ⌜ ValuesPut (now (numbers .entry)) at 4 amounts (now (numbers .exit)) ⌝ }
@@ -89,7 +89,7 @@ fn put_amounts(numbers: &mut [u32], at: usize, amounts: [u32; Job::POOLS])
     }
 }
 
-// The numbers of action i.
+// Puts the numbers of action i into the table, and leaves the entries before them.
 fn put_numbers(numbers: &mut [u32], job: Job, i: usize)
     requires { ⌜ (length (now numbers) ≡ 576) × Fits (job .counts) × (i < job .counts .actions) ⌝ }
     ensures { λ r. ⌜ (length (now (numbers .exit)) ≡ 576) × NumbersFilled (jobIn job) (now (numbers .exit)) i
@@ -104,7 +104,7 @@ fn put_numbers(numbers: &mut [u32], job: Job, i: usize)
     put_amounts(numbers, at + 5, stores);
 }
 
-// The numbers of all actions.
+// Puts the numbers of all actions into the table.
 fn fill_numbers(numbers: &mut [u32], job: Job)
     requires { ⌜ (length (now numbers) ≡ 576) × Fits (job .counts) ⌝ }
     ensures { λ r. ⌜ (length (now (numbers .exit)) ≡ 576)
@@ -118,7 +118,7 @@ fn fill_numbers(numbers: &mut [u32], job: Job)
     }
 }
 
-// The sets and numbers of all actions. What is behind them stays as it is.
+// Puts the sets and numbers of all actions into the tables. What the entries behind them hold is not promised.
 pub fn fill(sets: &mut [u64], numbers: &mut [u32], job: Job)
     requires { ⌜ (length (now sets) ≡ 256) × (length (now numbers) ≡ 576) × Fits (job .counts) ⌝ }
     ensures { λ r. ⌜ Filled job (now (sets .exit)) (now (numbers .exit)) ⌝ }

@@ -15,7 +15,8 @@ hinders-requires-2 c κs = search needs
 
 returns : tie.Need-returns
 returns c =
-    λ n. ap (λ (b : Bool). eqb (c .before .before .args .i) (c .before .before .args .j) || b) (ap₂ _||_ (c .before .hinders .ensures n) (c .hinders2 .ensures n))
+    let at = c .before .before .args in
+    λ n. ap (λ (b : Bool). eqb (at .i) (at .j) || b) (ap₂ _||_ (c .before .hinders .ensures n) (c .hinders2 .ensures n))
 
 pub clash-spec : {M : Type 1} → statement M
 clash-spec = tie.close (tie.spec hinders-requires hinders-requires-2 returns)

@@ -73,8 +73,8 @@ loop-again c =
     let same = clash-of-values job i j (c-clash .result) (c-pre .1) (c-if1 .taken) (c-clash .ensures) in (
       omega arith,
       clashes-next (jobIn job) i j (c-loop .set) (c-when .result) _ (c-clash .result) (c-loop .inv .1) same
-      (c-when .ensures ∙ ap (λ m. cond (c-clash .result) m 0) (c .before .before .single .ensures))
-      (c .union .ensures .1),
+          (c-when .ensures ∙ ap (λ m. cond (c-clash .result) m 0) (c .before .before .single .ensures))
+          (c .union .ensures .1),
     )
 
 returns : tie.Need-returns Inv-loop μ-loop

@@ -43,8 +43,12 @@ loop-again c =
     let job = c-args .job in
     let put = c .before .before .put-numbers .ensures in
     let pools = length-tabulate (job .counts .pools) (λ k. getD (job .pools) k 0) in
-    let stores = length-tabulate (job .counts .stores) (λ k. getD (job .stores) k 0) in
-    (omega arith, put .0, numbers-next (jobIn job) (c-loop .i) (c-loop .numbers) _ (omega arith) (omega arith) (c-loop .inv .2) (put .2) (put .1))
+    let stores = length-tabulate (job .counts .stores) (λ k. getD (job .stores) k 0) in (
+      omega arith,
+      put .0,
+      numbers-next (jobIn job) (c-loop .i) (c-loop .numbers) _ (omega arith) (omega arith) (c-loop .inv .2) (put .2)
+          (put .1),
+    )
 
 same-length : tie.Need-same-length Inv-loop μ-loop
 same-length c =

@@ -38,7 +38,8 @@ loop-again c =
     let c-args = at8 .before .args in
     let c-loop = c .before .before .before .before .before .before .loop in
     let put = c .before .before .put-sets .ensures in
-    (omega arith, put .0, sets-next (jobIn (c-args .job)) (c-loop .i) (c-loop .sets) _ (c-loop .inv .2) (put .2) (put .1))
+    let J = jobIn (c-args .job) in
+    (omega arith, put .0, sets-next J (c-loop .i) (c-loop .sets) _ (c-loop .inv .2) (put .2) (put .1))
 
 same-length : tie.Need-same-length Inv-loop μ-loop
 same-length c =

@@ -50,8 +50,12 @@ put-amounts-requires-2 c κs =
 
 same-length : tie.Need-same-length
 same-length c =
+    let at8 = c .before .before .before .before .before .before .before .before in
+    let c-args = at8 .before .before .before .before .before .args in
+    let c-minutes = c .before .before .before .before .before .before .before .before .minutes in
     let c-put-amounts = c .before .before .before .before .before .before .put-amounts in
-    c .before .before .put-amounts2 .ensures .size ∙ c-put-amounts .ensures .size ∙ length-set _ _ _
+    c .before .before .put-amounts2 .ensures .size ∙ c-put-amounts .ensures .size
+    ∙ length-set (c-args .numbers .now) (c-args .i * 9) (c-minutes .result)
 
 returns : tie.Need-returns
 returns c =
@@ -63,12 +67,16 @@ returns c =
     let h = c-pre in
     let at = c-args in
     let i = at .i in
+    let xs = at .numbers .now in
     let d = c-minutes .result in
+    let byte = c-minutes .ensures in
     let pools = c-put-amounts .ensures in
     let stores = c .before .before .put-amounts2 .ensures in (
-      stores .size ∙ pools .size ∙ length-set (at .numbers .now) (i * 9) d ∙ h .0,
-      numbers-put (at .t2) i (h .2) (at .numbers .now) _ _ d (h .1) (omega arith) (c-minutes .ensures .0) (c-minutes .ensures .1) pools stores,
-      λ k l. stores .before k (omega arith) ∙ pools .before k (omega arith) ∙ getD-set-other (at .numbers .now) (i * 9) k d 0 (λ e. omega arith),
+      stores .size ∙ pools .size ∙ length-set xs (i * 9) d ∙ h .0,
+      numbers-put (at .t2) i (h .2) xs _ _ d (h .1) (omega arith) (byte .0) (byte .1) pools stores,
+      λ k l.
+          stores .before k (omega arith) ∙ pools .before k (omega arith)
+          ∙ getD-set-other xs (i * 9) k d 0 (λ e. omega arith),
     )
 
 pub put-numbers-spec : {M : Type 1} → statement M
