@@ -1,6 +1,6 @@
 -- `put_numbers` meets its contract: the duration, then the uses of the pools, then those of the stores.
 -- Assumes nothing.
-use Prim.Native.Nat.{_+_, _*_}
+use Prim.Native.Nat.{_*_}
 use mathlib.Core.Path.{_∙_}
 use lib.ListN.{length-set}
 use lib.Seq.{getD-set-other}

@@ -1,6 +1,6 @@
 -- `put_sets` meets its contract: four values, one after the other.
 -- Assumes nothing.
-use Prim.Native.Nat.{_+_, _*_}
+use Prim.Native.Nat.{_*_}
 use mathlib.Core.Path.{_∙_}
 use lib.ListN.{length-set}
 use Rattle.tables.proofs.FillLaws.{four-values, sets-put}
