@@ -1,4 +1,4 @@
-mod Gathered
+pub mod Gathered
 pub mod WantedFacts
 pub mod WantedBetween
 pub mod CriticalFacts

@@ -1,3 +1,4 @@
 // The regression search: from the horizon back, from event minute to event minute.
 pub mod minute; // what the chosen steps mean for a minute
 mod amounts; // pools and stores
+pub mod state; // a state of the search

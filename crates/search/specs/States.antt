@@ -1,0 +1,73 @@
+-- A state of the search: the chosen steps, the minute that it stands at, and what is wanted then.
+-- Assumes nothing.
+use Prim.Native.Nat.{ℕ, _+_, _≤_, _<_}
+use mathlib.Core.Path.{_≡_}
+use mathlib.Core.Bool.{Bool, true, false}
+use mathlib.Core.List.{List, _∷_}
+use lib.Dec.{ltb}
+use lib.ListN.{getD}
+use Rattle.facts.specs.FactSet.{has}
+use Rattle.job.specs.Job.{Job}
+use Rattle.timeline.specs.Step.{Step}
+use Rattle.timeline.proofs.Places.{Member}
+use Rattle.times.specs.Earliest.{actionOf}
+use Rattle.regression.specs.Wanted.{wantedAt}
+use Rattle.regression.specs.DeadEnd.{Until, Open, Dead, stepStopping}
+use Rattle.tables.specs.Tables.{Describes, Known, chosen}
+use Rattle.tables.specs.declared.Frame.{Frame}
+use Rattle.search.specs.declared.state.State.{State}
+use Rattle.search.specs.Minutes.{MinuteOf, Lent}
+
+-- two steps of different actions stop at minute t and add fact n
+pub record AddedTwice (t n : ℕ) (L : List Step) : Type 0 where
+  pub one : Step
+  pub other : Step
+  pub oneIn : Member one L
+  pub otherIn : Member other L
+  pub different : one .number ≡ other .number → ⊥
+  pub oneStops : one .stop ≡ t
+  pub otherStops : other .stop ≡ t
+  pub oneAdds : has (one .action .adds) n ≡ true
+  pub otherAdds : has (other .action .adds) n ≡ true
+
+-- what the state says of the chosen steps is so
+pub record Stands (J : Job) (frame : Frame) (st : State) : Type 0 where
+  pub inTime : st .minute ≤ frame .horizon
+  pub wants : st .wanted ≡ wantedAt (frame .goal) (chosen J (st .steps)) (frame .horizon) (st .minute)
+  pub at : MinuteOf (st .minute) (chosen J (st .steps)) (st .at)
+  pub twice : (n : ℕ) → has (st .twice) n ≡ true → AddedTwice (st .minute) n (chosen J (st .steps))
+  pub enders : (k : ℕ) → st .since ≤ k → k < st .steps .count
+      → (frame .first ≤ getD (st .steps .starts) k 0)
+      × (getD (st .steps .starts) k 0 + actionOf J (getD (st .steps .numbers) k 0) .duration ≡ st .minute)
+
+-- no normal plan has the chosen steps and else only steps that are X
+abbrev pub DeadFor : Job → Frame → (Step → Type 0) → List Step → Type 0
+DeadFor J frame X L = Dead J (frame .first) (frame .goal) (frame .horizon) X L
+
+-- the step of action i that stops at the state's minute
+abbrev pub nextStep : Job → State → ℕ → Step
+nextStep J st i = stepStopping J i (st .minute)
+
+-- action i does not stop at the state's minute in any normal plan with the chosen steps
+abbrev pub Barred : Job → Frame → State → ℕ → Type 0
+Barred J frame st i =
+    frame .first + actionOf J i .duration ≤ st .minute
+    → DeadFor J frame (Until (frame .first) (st .minute)) (nextStep J st i ∷ chosen J (st .steps))
+
+-- the same for each job that the tables describe
+abbrev pub BarredBy : List ℕ → List ℕ → Frame → State → ℕ → Type 0
+BarredBy sets numbers frame st i = (J : Job) → Describes J sets numbers frame → Stands J frame st → Barred J frame st i
+
+-- no normal plan has the chosen steps, and else new steps that stop by the state's minute
+abbrev pub DeadBy : List ℕ → List ℕ → Frame → State → Type 0
+DeadBy sets numbers frame st =
+    (J : Job) → Describes J sets numbers frame → Stands J frame st
+    → DeadFor J frame (Until (frame .first) (st .minute)) (chosen J (st .steps))
+
+-- the tables and the state are safe to read
+pub record Safe (sets numbers : List ℕ) (frame : Frame) (st : State) : Type 0 where
+  pub lent : Lent sets numbers (frame .actions)
+  pub known : Known (frame .actions) (st .steps)
+  pub pools : frame .pools ≤ 4
+  pub stores : frame .stores ≤ 4
+  pub since : st .since ≤ st .steps .count

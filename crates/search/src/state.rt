@@ -1,0 +1,14 @@
+// A state of the search.
+use crate::minute::Minute;
+use tables::Steps;
+
+// The chosen steps, the minute that the search stands at and the facts wanted then; the steps from `since` on stop at
+// that minute, and what more than one of them adds is `twice`.
+pub struct State {
+    pub steps: Steps,
+    pub minute: u16,
+    pub wanted: u64,
+    pub at: Minute,
+    pub twice: u64,
+    pub since: usize,
+}
