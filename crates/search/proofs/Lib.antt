@@ -1,4 +1,4 @@
 mod Looks
 mod AmountLaws
 pub mod Chosen
-mod Rules
+mod BarredActions

@@ -6,14 +6,14 @@ use mathlib.Core.Bool.{Bool, true, false}
 use mathlib.Core.List.{List, _∷_}
 use lib.Dec.{ltb}
 use lib.ListN.{getD}
-use Rattle.facts.specs.FactSet.{has}
+use Rattle.facts.specs.FactSet.{has, meets}
 use Rattle.job.specs.Job.{Job}
 use Rattle.timeline.specs.Step.{Step}
 use Rattle.timeline.proofs.Places.{Member}
 use Rattle.times.specs.Earliest.{actionOf}
 use Rattle.regression.specs.Wanted.{wantedAt}
 use Rattle.regression.specs.DeadEnd.{Until, Open, Dead, stepStopping}
-use Rattle.tables.specs.Tables.{Describes, Known, chosen}
+use Rattle.tables.specs.Tables.{Describes, Known, chosen, durationAt, clashesAt}
 use Rattle.tables.specs.declared.Frame.{Frame}
 use Rattle.search.specs.declared.state.State.{State}
 use Rattle.search.specs.Minutes.{MinuteOf, Lent}
@@ -71,3 +71,26 @@ pub record Safe (sets numbers : List ℕ) (frame : Frame) (st : State) : Type 0 
   pub pools : frame .pools ≤ 4
   pub stores : frame .stores ≤ 4
   pub since : st .since ≤ st .steps .count
+
+-- ---- what inner functions promise
+
+-- what the sets of action i say of it
+pub record SetsAllow (sets : List ℕ) (st : State) (i : ℕ) (allow : Bool) : Type 0 where
+  pub apart : allow ≡ true → meets (clashesAt sets i) (st .at .running) ≡ false
+  pub barred : allow ≡ false → (numbers : List ℕ) (frame : Frame) → i < frame .actions → Known (frame .actions) (st .steps)
+      → BarredBy sets numbers frame st i
+
+-- an action that may stop at the state's minute has room, fits and does not run in the minute before; one that may not
+-- is barred
+pub record MayStop (sets numbers : List ℕ) (frame : Frame) (st : State) (i : ℕ) (may : Bool) : Type 0 where
+  pub room : may ≡ true → st .steps .count < 32
+  pub fits : may ≡ true → frame .first + durationAt numbers i ≤ st .minute
+  pub apart : may ≡ true → meets (clashesAt sets i) (st .at .running) ≡ false
+  pub barred : may ≡ false → BarredBy sets numbers frame st i
+
+-- the first action from i on that may stop at the state's minute, or the number of actions
+pub record NextAction (sets numbers : List ℕ) (frame : Frame) (st : State) (i next : ℕ) : Type 0 where
+  pub onward : i ≤ next
+  pub within : next ≤ frame .actions
+  pub barred : (k : ℕ) → i ≤ k → k < next → BarredBy sets numbers frame st k
+  pub may : next < frame .actions → MayStop sets numbers frame st next true

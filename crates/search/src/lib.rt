@@ -2,3 +2,4 @@
 pub mod minute; // what the chosen steps mean for a minute
 mod amounts; // pools and stores
 pub mod state; // a state of the search
+mod rules; // which actions may stop at a minute

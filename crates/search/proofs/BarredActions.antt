@@ -138,12 +138,31 @@ module _ (J : Job) (sets numbers : List ℕ) (frame : Frame) (described : Descri
       dead-when-clashing J (frame .first) (frame .goal) (frame .horizon) _ (x ∷ L)
       (rw (any-at (clashing x) (r .2) both))
 
+  -- ---- it adds nothing that is wanted
+  pub barred-when-adding-nothing-wanted : meets (addsAt sets i) (st .wanted) ≡ false → Result
+  unfolding solelyProvides
+  barred-when-adding-nothing-wanted h =
+      let s = stops in
+      dead-when-not-sole-provider J (frame .first) (frame .goal) (frame .horizon) t (x ∷ L) first-place (omega arith) new
+      (no-common-member _ _
+      (λ n a w.
+      let parts = in-difference-parts (x .action .adds) (unionOf (provided x) (x ∷ L)) n a in
+      not-in-both (addsAt sets i) (st .wanted) n h (rw (described .each i known .adds) (parts .0)) (rw (← wanted-still) w)))
+
   -- ---- another step provides what it adds
-  pub barred-when-provided : has (st .at .running) i ≡ false
+  pub not-running : meets (clashesAt sets i) (st .at .running) ≡ false → has (st .at .running) i ≡ false
+  not-running h =
+      let count = described .actions in
+      let own : has (clashesAt sets i) i ≡ true =
+          described .each i known .clash i (omega arith) ∙ rw (eq-eqb i i refl) in
+      ⊎-elim (λ e. absurd (not-in-both (clashesAt sets i) (st .at .running) i h own e)) (λ e. e)
+      (decided (has (st .at .running) i))
+
+  pub barred-when-provided : meets (clashesAt sets i) (st .at .running) ≡ false
       → meets (difference (addsAt sets i) (union (union (st .at .held) (st .at .added)) (needsAt sets i))) (st .wanted)
       ≡ false → Result
   unfolding solelyProvides
-  barred-when-provided alone h =
+  barred-when-provided apart h =
       let s = stops in
       dead-when-not-sole-provider J (frame .first) (frame .goal) (frame .horizon) t (x ∷ L) first-place (omega arith) new
       (no-common-member _ _
@@ -159,7 +178,7 @@ module _ (J : Job) (sets numbers : List ℕ) (frame : Frame) (described : Descri
           true≢false
           (sym (ap (λ (set : ℕ). has set i) (stands .at .running)
           ∙ in-unionOf (λ y. cond (runsInto t y) (single (y .number)) 0) i p (rw (runs, e) (in-single i)))
-          ∙ alone)
+          ∙ not-running apart)
 
       in-held : (n : ℕ) → has (st .at .held) n ≡ true → has (unionOf (provided x) (x ∷ L)) n ≡ true
       in-held n k =

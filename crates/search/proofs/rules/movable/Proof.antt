@@ -1,0 +1,98 @@
+-- `movable` meets its contract: what is true of it is that nothing blocks the action.
+-- Assumes nothing.
+use mathlib.Core.Path.{_≡_, sym, ap, _∙_}
+use mathlib.Core.Bool.{true≢false}
+use borrow.Author.Tests.{not-true}
+use Rattle.tables.specs.Tables.{chosen}
+use Rattle.search.specs.Amounts.{exceedsPools}
+use Rattle.search.proofs.BarredActions.{barred-when-free}
+use native.Mathlib.Omega.{arith}
+use borrow.Author.Needs.{needs}
+use Rattle.search.proofs.rules.movable.Statement.{statement}
+use Rattle.search.proofs.rules.movable.Tie as tie
+
+mul-at : tie.Need-mul-at
+mul-at c = let h = c .before .before .pre in let f = h .0 .lent .amounts .few in omega arith
+
+returns : tie.Need-returns
+returns c = λ e. absurd (true≢false (sym e))
+
+add-meets : tie.Need-add-meets
+add-meets c = search needs
+
+mul-meets : tie.Need-mul-meets
+mul-meets c = search needs
+
+shared-slice-read-meets : tie.Need-shared-slice-read-meets
+shared-slice-read-meets c =
+    let c-pre = c .before .before .before .before .before .before .pre in
+    let h = c-pre in let l = h .0 .lent in let n = l .setCount in let f = l .amounts .few in omega arith
+
+meets-requires : tie.Need-meets-requires
+meets-requires c κs = tt
+
+returns-2 : tie.Need-returns-2
+returns-2 c = λ e. absurd (true≢false (sym e))
+
+add-meets-2 : tie.Need-add-meets-2
+add-meets-2 c = search needs
+
+mul-meets-2 : tie.Need-mul-meets-2
+mul-meets-2 c = search needs
+
+shared-slice-read-meets-2 : tie.Need-shared-slice-read-meets-2
+shared-slice-read-meets-2 c =
+    let at8 = c .before .before .before .before .before .before .before .before in
+    let c-pre = at8 .before .pre in
+    let h = c-pre in let l = h .0 .lent in let n = l .setCount in let f = l .amounts .few in omega arith
+
+meets-requires-2 : tie.Need-meets-requires-2
+meets-requires-2 c κs = tt
+
+returns-3 : tie.Need-returns-3
+returns-3 c = λ e. absurd (true≢false (sym e))
+
+wide-requires : tie.Need-wide-requires
+wide-requires c κs = tt
+
+exceeds-pools-requires : tie.Need-exceeds-pools-requires
+exceeds-pools-requires c κs =
+    let at8 = c .before .before .before .before .before .before .before .before in
+    let c-pre = at8 .before .before .before .before .pre in
+    let h = c-pre in (h .0 .lent .amounts, h .0 .known, h .1, h .0 .pools)
+
+returns-4 : tie.Need-returns-4
+returns-4 c =
+    let at8 = c .before .before .before .before .before .before .before .before in
+    let c-pre = at8 .before .before .before .before .before .pre in
+    let c-args = at8 .before .before .before .before .before .args in
+    let c-meets = c .before .before .before .before .before .before .meets in
+    let c-if2 = c .before .before .before .before .before .if2 in
+    let c-meets2 = c .before .before .before .meets2 in
+    λ e J described stands fits.
+    let h = c-pre in
+    let at = c-args in
+    let room = ap (exceedsPools J (chosen J (at .st .steps)) (at .i)) (sym (c .before .wide .ensures .0))
+        ∙ sym (c .exceeds-pools .ensures (at .sets .now) J described) ∙ not-true (c .exceeds-pools .result) e in
+    barred-when-free J (at .sets .now) _ (at .frame) described (at .st) (h .0 .known) stands (at .i) (h .1) fits
+    (sym (c-meets .ensures .0) ∙ c-if2 .left) (sym (c-meets2 .ensures .0) ∙ c .before .before .if3 .left) (omega arith) room
+
+pub movable-spec : {M : Type 1} → statement M
+movable-spec =
+    tie.close
+    (tie.spec
+    mul-at
+    returns
+    add-meets
+    mul-meets
+    shared-slice-read-meets
+    meets-requires
+    returns-2
+    add-meets-2
+    mul-meets-2
+    shared-slice-read-meets-2
+    meets-requires-2
+    returns-3
+    wide-requires
+    exceeds-pools-requires
+    returns-4)

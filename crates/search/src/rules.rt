@@ -1,0 +1,96 @@
+// Which actions may stop at the state's minute.
+ghost use mathlib.Core.Path.{_≡_};
+ghost use mathlib.Core.Bool.{true, false};
+ghost use Prim.Native.Nat.{_+_, _≤_, _<_};
+ghost use lib.ListN.{length};
+ghost use Rattle.facts.specs.FactSet.{has};
+ghost use Rattle.tables.specs.Tables.{durationAt};
+ghost use Rattle.search.specs.States.{Safe, BarredBy, SetsAllow, MayStop, NextAction};
+use crate::amounts;
+use crate::minute;
+use crate::state::State;
+use tables::Frame;
+
+// Whether the sets of action i allow it to stop now: it adds a wanted fact that no other step provides, deletes none,
+// and clashes with no step that runs in the minute before.
+fn sets_allow(sets: &[u64], st: State, i: u8) -> bool
+    requires { ⌜ (length (now sets) ≡ 256) × (i < 64) ⌝ }
+    ensures { λ r. ⌜ SetsAllow (now (sets .entry)) st i r ⌝ }
+{
+    let at = i as usize * 4;
+    if !facts::meets(sets[at + 1], st.wanted) {
+        return false;
+    }
+    if facts::meets(sets[at + 3], st.at.running) {
+        return false;
+    }
+    let provided = facts::union(facts::union(st.at.held, st.at.added), sets[at]);
+    if !facts::meets(facts::difference(sets[at + 1], provided), st.wanted) {
+        return false;
+    }
+    !facts::meets(sets[at + 2], st.wanted)
+}
+
+// Whether nothing keeps action i from stopping a minute later.
+fn movable(sets: &[u64], numbers: &[u32], frame: Frame, st: State, i: u8) -> bool
+    requires { ⌜ Safe (now sets) (now numbers) frame st × (i < frame .actions) ⌝ }
+    ensures { λ r. ⌜ (r ≡ true → BarredBy (now (sets .entry)) (now (numbers .entry)) frame st i) ⌝ }
+{
+    let at = i as usize * 4;
+    if frame.horizon <= st.minute {
+        return false;
+    }
+    if facts::meets(sets[at + 1], st.at.needed) {
+        return false;
+    }
+    if facts::meets(sets[at + 3], st.at.starting) {
+        return false;
+    }
+    !amounts::exceeds_pools(numbers, frame, st.steps, i, minute::wide(st.minute))
+}
+
+// Whether action i leaves the pools and stores enough.
+fn affordable(sets: &[u64], numbers: &[u32], frame: Frame, st: State, i: u8) -> bool
+    requires { ⌜ Safe (now sets) (now numbers) frame st × (i < frame .actions) × (0 < st .minute) ⌝ }
+    ensures { λ r. ⌜ (r ≡ false → BarredBy (now (sets .entry)) (now (numbers .entry)) frame st i) ⌝ }
+{
+    if amounts::exceeds_pools(numbers, frame, st.steps, i, minute::wide(st.minute) - 1) {
+        return false;
+    }
+    !amounts::exceeds_stores(numbers, frame, st.steps, i)
+}
+
+// Whether action i may stop at the state's minute.
+fn may_stop(sets: &[u64], numbers: &[u32], frame: Frame, st: State, i: u8) -> bool
+    requires { ⌜ Safe (now sets) (now numbers) frame st × (i < frame .actions) × (0 < st .minute) ⌝ }
+    ensures { λ r. ⌜ MayStop (now (sets .entry)) (now (numbers .entry)) frame st i r ⌝ }
+{
+    if !sets_allow(sets, st, i) {
+        return false;
+    }
+    if 32 <= st.steps.count {
+        return false;
+    }
+    if minute::wide(st.minute) < minute::stop(numbers, i, frame.first) {
+        return false;
+    }
+    if movable(sets, numbers, frame, st, i) {
+        return false;
+    }
+    affordable(sets, numbers, frame, st, i)
+}
+
+// The first action from i on that may stop at the state's minute; the number of actions where there is none.
+pub fn next_action(sets: &[u64], numbers: &[u32], frame: Frame, st: State, i: u8) -> u8
+    requires { ⌜ Safe (now sets) (now numbers) frame st × (i ≤ frame .actions) × (0 < st .minute) ⌝ }
+    ensures { λ r. ⌜ NextAction (now (sets .entry)) (now (numbers .entry)) frame st i r ⌝ }
+{
+    let mut k = i;
+    while (k as usize) < frame.actions {
+        if may_stop(sets, numbers, frame, st, k) {
+            return k;
+        }
+        k += 1;
+    }
+    k
+}
