@@ -1,0 +1,144 @@
+// Small random jobs for tests: the same seed gives the same job, and every job passes tests 3 to 11. What stands beyond
+// the counts is drawn as well, since it is to be ignored.
+mod actions; // the actions of a job
+mod draw; // random numbers and sets of facts
+
+ghost use Prim.Native.Nat.{_≤_, _<_};
+use job::Counts;
+use job::Job;
+
+// What is peculiar to a job.
+pub enum Kind {
+    Plain, // nothing
+    Short, // no pools or stores, and an early deadline
+    Token, // each action but the first takes fact 0 away, so that the first may be wanted several times
+    Chain, // each action needs what the one before it adds, and the deadline is just met or just missed
+    Ties, // all actions have the same length
+}
+
+fn kind_of(seed: u64) -> Kind {
+    match seed % 6 {
+        0 => Kind::Short,
+        1 => Kind::Token,
+        2 => Kind::Chain,
+        3 => Kind::Ties,
+        _ => Kind::Plain,
+    }
+}
+
+// A chain has all 5 facts, any other job 2 to 5.
+fn facts_of(seed: u64, kind: Kind) -> u8
+    ensures { λ r. ⌜ (0 < r) × (r ≤ 5) ⌝ }
+{
+    match kind {
+        Kind::Chain => 5,
+        _ => 2 + draw::number(seed, 0, 4),
+    }
+}
+
+// Up to 2 pools and 2 stores, and 2 to 5 actions. A short job has no pools and stores, and may have one action.
+fn counts_of(seed: u64, kind: Kind) -> Counts {
+    match kind {
+        Kind::Short => Counts {
+            pools: 0,
+            stores: 0,
+            actions: 1 + draw::number(seed, 1, 5) as usize,
+        },
+        Kind::Chain => Counts {
+            pools: draw::number(seed, 3, 3) as usize,
+            stores: draw::number(seed, 4, 3) as usize,
+            actions: 4 + draw::number(seed, 1, 2) as usize,
+        },
+        _ => Counts {
+            pools: draw::number(seed, 3, 3) as usize,
+            stores: draw::number(seed, 4, 3) as usize,
+            actions: 2 + draw::number(seed, 1, 4) as usize,
+        },
+    }
+}
+
+// Three availabilities from `least` on, and one of 0.
+fn availabilities(seed: u64, least: u8) -> [u32; Job::POOLS]
+    requires { ⌜ least < 100 ⌝ }
+{
+    let first = (least + draw::number(seed, 0, 4)) as u32;
+    let second = (least + draw::number(seed, 1, 4)) as u32;
+    let third = (least + draw::number(seed, 2, 4)) as u32;
+    [first, second, third, 0]
+}
+
+// A job with five actions and nothing else.
+fn with_actions(seed: u64, kind: Kind, facts: u8) -> Job
+    requires { ⌜ (0 < facts) × (facts ≤ 5) ⌝ }
+{
+    let mut job = Job::zero();
+    let mut i: usize = 0;
+    while i < 5 {
+        job.actions[i] = actions::action(draw::part(seed, 10 + i as u64), kind, facts, i);
+        i += 1;
+    }
+    job
+}
+
+// The minutes of the first four actions, one after the other.
+fn minutes(job: Job) -> u16 {
+    let mut sum: u16 = 0;
+    let mut i = 0;
+    while i < 4 {
+        let action = job.actions[i];
+        sum += action.duration as u16;
+        i += 1;
+    }
+    sum
+}
+
+// The deadline: 0 to 9, early for a short job. A chain meets it, or misses it by a minute.
+fn deadline_of(seed: u64, kind: Kind, job: Job) -> u16 {
+    match kind {
+        Kind::Short => draw::number(seed, 2, 6) as u16,
+        Kind::Chain => {
+            let early = draw::number(seed, 2, 2) as u16;
+            let sum = minutes(job);
+            if sum < early {
+                return 0;
+            }
+            sum - early
+        }
+        _ => 3 + draw::number(seed, 2, 7) as u16,
+    }
+}
+
+// The start set. In three draws of four no fact that is wanted holds at the start.
+fn start_of(seed: u64, facts: u8, wanted: u64) -> u64
+    requires { ⌜ (0 < facts) × (facts ≤ 5) ⌝ }
+{
+    let start = draw::set(draw::part(seed, 7), facts, 0);
+    if draw::number(seed, 8, 4) == 0 {
+        return start;
+    }
+    draw::without(start, wanted)
+}
+
+// The job of a seed: 2 to 5 facts, 1 to 5 actions of 1 to 4 minutes, up to 2 pools and 2 stores, deadline 0 to 9. The
+// goal is what action 1 and another action add, so that most goals can be reached.
+pub fn random_job(seed: u64) -> Job {
+    let kind = kind_of(seed);
+    let facts = facts_of(seed, kind);
+    let pools = availabilities(draw::part(seed, 5), 2);
+    let stores = availabilities(draw::part(seed, 6), 5);
+    let mut job = with_actions(seed, kind, facts);
+    let action = job.actions[1];
+    let other = job.actions[draw::number(seed, 9, 2) as usize * 2];
+    job.facts = facts;
+    job.deadline = deadline_of(seed, kind, job);
+    job.start = start_of(seed, facts, action.adds);
+    job.goal = action.adds | other.adds;
+    job.counts = counts_of(seed, kind);
+    job.pools = pools;
+    job.stores = stores;
+    if let Kind::Chain = kind {
+        job.start = 1;
+        job.goal = job.goal | 16;
+    }
+    job
+}

@@ -1,0 +1,119 @@
+// A plain second planner, for comparison in tests: the least end of the accepted plans of a small job, by trying every
+// plan forward from minute 0. It shares no code with the planner, and knows no earliest times and no normal form.
+mod day; // the rules, minute by minute
+
+ghost use Prim.Native.Nat.{_≤_};
+use day::Day;
+use day::State;
+use job::Action;
+use job::Job;
+
+// The latest deadline, since the search calls itself once for each action and minute.
+const DEADLINE: u16 = 60;
+
+// The most decisions whether to start an action, over all horizons.
+const DECISIONS: u32 = 1_000_000;
+
+// The least end of the accepted plans, that there is none, or that there is too much to try.
+pub enum Makespan {
+    Ends(u32),
+    NoPlan,
+    TooLarge,
+}
+
+// Whether a plan was found, and how many decisions are left.
+struct Tried {
+    found: bool,
+    decisions: u32,
+}
+
+// Whether the goal can hold `left` minutes later, with all steps stopped by then. Of the actions, the first `undecided`
+// may still start in this minute.
+fn search(day: Day, state: State, left: u32, undecided: usize, decisions: u32) -> Tried
+    requires { ⌜ (undecided ≤ 8) × (day .counts .actions ≤ 8) ⌝ }
+{
+    if undecided == 0 {
+        if left == 0 {
+            let found = day::within(day.goal, state.facts);
+            return Tried { found, decisions };
+        }
+        let next = day::tick(day, state);
+        return search(day, next, left - 1, day.counts.actions, decisions);
+    }
+    if decisions == 0 {
+        return Tried {
+            found: false,
+            decisions,
+        };
+    }
+    let number = undecided - 1;
+    let mut rest = decisions - 1;
+    if day::may_start(day, state, number, left) {
+        let next = day::started(day, state, number);
+        let tried = search(day, next, left, number, rest);
+        if tried.found {
+            return tried;
+        }
+        rest = tried.decisions;
+    }
+    search(day, state, left, number, rest)
+}
+
+// The first actions of the job.
+fn actions(job: Job) -> [Action; Day::ACTIONS] {
+    let mut actions = [Action::unused(); Day::ACTIONS];
+    let mut i = 0;
+    while i < Day::ACTIONS {
+        actions[i] = job.actions[i];
+        i += 1;
+    }
+    actions
+}
+
+// The least horizon at which the search finds a plan. A plan that ends before a horizon was found at an earlier one.
+fn least_horizon(day: Day, state: State, deadline: u16) -> Makespan
+    requires { ⌜ day .counts .actions ≤ 8 ⌝ }
+{
+    let last = deadline as u32;
+    let mut decisions = DECISIONS;
+    let mut horizon: u32 = 0;
+    while horizon <= last {
+        let tried = search(day, state, horizon, day.counts.actions, decisions);
+        if tried.found {
+            return Makespan::Ends(horizon);
+        }
+        decisions = tried.decisions;
+        horizon += 1;
+    }
+    if decisions == 0 {
+        return Makespan::TooLarge;
+    }
+    Makespan::NoPlan
+}
+
+// The least end of the accepted plans of a job that passes tests 3 to 11. A job with over 8 actions, a deadline over 60
+// or too many plans is too large.
+pub fn shortest(job: Job) -> Makespan {
+    let counts = job.counts;
+    let pools = job.pools;
+    let stores = job.stores;
+    if Day::ACTIONS < counts.actions {
+        return Makespan::TooLarge;
+    }
+    if DEADLINE < job.deadline {
+        return Makespan::TooLarge;
+    }
+    let day = Day {
+        goal: job.goal,
+        counts,
+        pools,
+        actions: actions(job),
+    };
+    let state = State {
+        facts: job.start,
+        minutes: [0u32; Day::ACTIONS],
+        stores,
+        steps: Day::STEPS,
+    };
+    least_horizon(day, state, job.deadline)
+}

@@ -1,0 +1,40 @@
+// "Days to try it on": document 01's cases that are small enough.
+use crate::jobs;
+use crate::show;
+use job::Job;
+
+pub fn starred() {
+    show::heading(b"Days to try it on: cases 1 to 7, and 13.");
+    show::ends(b"case 1", Job::zero(), 0);
+    show::ends(b"case 2, deadline 7", jobs::case_2(7), 7);
+    show::no_plan(b"case 3, deadline 6", jobs::case_2(6));
+    show::ends(b"case 4, deadline 4", jobs::case_4(4, 1), 4);
+    show::no_plan(b"case 4, deadline 3", jobs::case_4(3, 1));
+    show::ends(b"case 5, pool of 2", jobs::case_4(4, 2), 2);
+    show::ends(b"case 6, deadline 3", jobs::case_6(3), 3);
+    show::no_plan(b"case 6, deadline 2", jobs::case_6(2));
+    show::ends(b"case 7, store of 4", jobs::case_7(4), 2);
+    show::no_plan(b"case 7, store of 3", jobs::case_7(3));
+    show::no_plan(b"case 13, deadline 9", jobs::case_13(9));
+}
+
+// So many equal actions of length 1 with these needs. Fact 1, which is wanted, never holds.
+fn equal_actions(actions: usize, deadline: u16, needs: u64) -> Job {
+    let mut job = jobs::empty(2, deadline, 0b00, 0b10);
+    let mut i = 0;
+    while i < actions {
+        job = jobs::with_action(job, jobs::action(1, needs, 0b01, 0));
+        i += 1;
+    }
+    job
+}
+
+// The actions that need fact 1 never start; those that need nothing may start at any minute.
+pub fn too_large() {
+    show::heading(b"What is too large for the second planner.");
+    show::no_plan(b"8 actions, deadline 60", equal_actions(8, 60, 0b10));
+    show::too_large(b"9 actions", equal_actions(9, 60, 0b10));
+    show::too_large(b"deadline 61", equal_actions(8, 61, 0b10));
+    show::no_plan(b"512 plans", equal_actions(1, 9, 0));
+    show::too_large(b"many more plans", equal_actions(8, 9, 0));
+}
