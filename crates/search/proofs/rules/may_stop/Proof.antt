@@ -1,53 +1,109 @@
-use borrow.Author.Needs.{needs}
+-- `may_stop` meets its contract, test by test.
+-- Assumes nothing.
+use Prim.Native.Nat.{_+_, _≤_}
+use mathlib.Core.Path.{_≡_, sym, ap, _∙_}
+use mathlib.Core.Bool.{true≢false}
+use borrow.Author.Tests.{not-true, not-false}
+use Rattle.times.specs.Earliest.{actionOf}
+use Rattle.search.proofs.BarredActions.{barred-when-full}
+use native.Mathlib.Omega.{arith}
 use Rattle.search.proofs.rules.may_stop.Statement.{statement}
 use Rattle.search.proofs.rules.may_stop.Tie as tie
-use Rattle.search.proofs.rules.may_stop.Reads as reads
-use Rattle.search.proofs.rules.may_stop.Lts as lts
-use Rattle.search.proofs.minute.stop.Reads as stop-reads
-use Rattle.search.proofs.minute.wide.Reads as wide-reads
-use Rattle.search.proofs.rules.affordable.Reads as affordable-reads
-use Rattle.search.proofs.rules.movable.Reads as movable-reads
-use Rattle.search.proofs.rules.sets_allow.Reads as sets-allow-reads
 
--- src/rules.rt:68:9
 sets-allow-requires : tie.Need-sets-allow-requires
-sets-allow-requires c κs = search needs
+sets-allow-requires c κs =
+    let h = c .before .before .pre in let l = h .0 .lent in let f = l .amounts .few in (l .setCount, omega arith)
 
--- src/rules.rt:69:9
 returns : tie.Need-returns
-returns c = ?
+returns c =
+    let c-pre = c .before .before .before .before .pre in
+    let c-args = c .before .before .before .before .args in
+    let c-sets-allow = c .before .sets-allow in
+    let h = c-pre in
+    let at = c-args in
+    record {
+      room = λ e. absurd (true≢false (sym e));
+      fits = λ e. absurd (true≢false (sym e));
+      apart = λ e. absurd (true≢false (sym e));
+      barred = λ e. c-sets-allow .ensures .barred (not-true (c-sets-allow .result) (c .if1 .taken)) (at .numbers .now) (at .frame) (h .1) (h .0 .known);
+    }
 
--- src/rules.rt:72:9
 returns-2 : tie.Need-returns-2
-returns-2 c = ?
+returns-2 c =
+    let c-pre = c .before .before .before .before .before .before .pre in
+    let c-args = c .before .before .before .before .before .before .args in
+    let h = c-pre in
+    let at = c-args in
+    record {
+      room = λ e. absurd (true≢false (sym e));
+      fits = λ e. absurd (true≢false (sym e));
+      apart = λ e. absurd (true≢false (sym e));
+      barred = λ e J described stands fits. barred-when-full J (at .sets .now) (at .numbers .now) (at .frame) described (at .st) (h .0 .known) stands (at .i) (h .1) fits (omega arith);
+    }
 
--- src/rules.rt:74:8
 wide-requires : tie.Need-wide-requires
-wide-requires c κs = search needs
+wide-requires c κs = tt
 
--- src/rules.rt:74:34
 stop-requires : tie.Need-stop-requires
-stop-requires c κs = ?
+stop-requires c κs =
+    let c-pre = c .before .before .before .before .before .before .before .pre in
+    let h = c-pre in
+    let n = h .0 .lent .amounts .numberCount in
+    let f = h .0 .lent .amounts .few in
+    (omega arith, h .0 .lent .amounts .short _ (h .1))
 
--- src/rules.rt:75:9
 returns-3 : tie.Need-returns-3
-returns-3 c = ?
+returns-3 c =
+    let at8 = c .before .before .before .before .before .before .before .before in
+    let c-pre = at8 .before .pre in
+    let c-args = at8 .before .args in
+    let h = c-pre in
+    let at = c-args in
+    let w = c .before .before .wide .ensures .0 in
+    let s = c .before .stop .ensures .0 in
+    record {
+      room = λ e. absurd (true≢false (sym e));
+      fits = λ e. absurd (true≢false (sym e));
+      apart = λ e. absurd (true≢false (sym e));
+      barred = λ e J described stands fits. let d = described .each (at .i) (h .1) .duration in absurd (omega arith);
+    }
 
--- src/rules.rt:77:8
 movable-requires : tie.Need-movable-requires
-movable-requires c κs = search needs
+movable-requires c κs =
+    let at8 = c .before .before .before .before .before .before .before .before in
+    let c-pre = at8 .before .pre in
+    let h = c-pre in (h .0, h .1)
 
--- src/rules.rt:78:9
 returns-4 : tie.Need-returns-4
-returns-4 c = ?
+returns-4 c =
+    record {
+      room = λ e. absurd (true≢false (sym e));
+      fits = λ e. absurd (true≢false (sym e));
+      apart = λ e. absurd (true≢false (sym e));
+      barred = λ e. c .before .movable .ensures (c .if4 .taken);
+    }
 
--- src/rules.rt:80:5
 affordable-requires : tie.Need-affordable-requires
-affordable-requires c κs = search needs
+affordable-requires c κs =
+    let at8 = c .before .before .before .before .before .before .before .before in
+    let c-pre = at8 .before .before .before .pre in
+    c-pre
 
--- src/rules.rt:64:1
 returns-5 : tie.Need-returns-5
-returns-5 c = ?
+returns-5 c =
+    let at8 = c .before .before .before .before .before .before .before .before in
+    let c-sets-allow = at8 .before .sets-allow in
+    let c-if1 = c .before .before .before .before .before .before .before .before .if1 in
+    let c-wide = c .before .before .before .before .before .wide in
+    let c-stop = c .before .before .before .before .stop in
+    let w = c-wide .ensures .0 in
+    let s = c-stop .ensures .0 in
+    record {
+      room = λ e. omega arith;
+      fits = λ e. omega arith;
+      apart = λ e. c-sets-allow .ensures .apart (not-false (c-sets-allow .result) (c-if1 .left));
+      barred = c .affordable .ensures;
+    }
 
 pub may-stop-spec : {M : Type 1} → statement M
 may-stop-spec =
