@@ -1,3 +1,4 @@
 pub mod Minutes
 pub mod Amounts
 pub mod States
+pub mod Moves

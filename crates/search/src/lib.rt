@@ -3,3 +3,4 @@ pub mod minute; // what the chosen steps mean for a minute
 mod amounts; // pools and stores
 pub mod state; // a state of the search
 mod rules; // which actions may stop at a minute
+mod moves; // from one state to the next
