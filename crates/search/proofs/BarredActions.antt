@@ -63,7 +63,7 @@ module _ (J : Job) (sets numbers : List ℕ) (frame : Frame) (described : Descri
   first-place : Place x L (x ∷ L)
   first-place = here
 
-  stops : x .stop ≡ t
+  pub stops : x .stop ≡ t
   stops = let d = described .each i known .positive in omega arith
 
   lasts : x .start < x .stop
@@ -76,14 +76,14 @@ module _ (J : Job) (sets numbers : List ℕ) (frame : Frame) (described : Descri
   new = omega arith
 
   -- what is wanted does not change with a step that stops now
-  wanted-still : wantedAt (frame .goal) (x ∷ L) (frame .horizon) (x .stop) ≡ st .wanted
+  pub wanted-still : wantedAt (frame .goal) (x ∷ L) (frame .horizon) (x .stop) ≡ st .wanted
   wanted-still =
       let s = stops in
       ap (wantedAt (frame .goal) (x ∷ L) (frame .horizon)) stops
       ∙ wanted-from-stop-on (frame .goal) (frame .horizon) first-place lasts t (omega arith) (stands .inTime)
       ∙ sym (stands .wants)
 
-  lasting : EachStep (λ y. y .start < y .stop) L
+  pub lasting : EachStep (λ y. y .start < y .stop) L
   lasting y Q p =
       let own = chosen-of-job J (st .steps) (st .steps .count) y Q p in
       let small = chosen-known J (st .steps) (frame .actions) (st .steps .count) known-steps (le-refl _) y Q p in

@@ -2,3 +2,4 @@ mod Looks
 mod AmountLaws
 pub mod Chosen
 mod BarredActions
+mod StateLaws
