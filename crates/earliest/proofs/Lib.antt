@@ -1,5 +1,5 @@
 mod Latest
-mod SetTimes
+pub mod SetTimes
 mod ChoiceLaws
 mod Swept
 mod Lowers

@@ -2,3 +2,4 @@ pub mod Minutes
 pub mod Amounts
 pub mod States
 pub mod Moves
+pub mod Timed

@@ -4,3 +4,4 @@ mod amounts; // pools and stores
 pub mod state; // a state of the search
 mod rules; // which actions may stop at a minute
 mod moves; // from one state to the next
+mod tests; // tests of a state
