@@ -35,24 +35,27 @@ module _ (J : Job) (b goal T : ℕ) where
   dead-when-none-left t l L none (x ∷ E) h p =
       let u = h x E here in let a = u .0 in let c = u .1 in let d = u .2 in omega arith
 
-  -- R is L in rising order, and it is refused
+  -- R is L in rising order, and it is refused or ends after T
   pub dead-when-refused : T ≤ J .deadline → (t : ℕ) → t ≤ b → (L R : List Step) → Permutation R L
-      → (AllApart L → strictlyRising R ≡ true) → (first (stepRows J goal R) ≡ Pass → ⊥)
+      → (AllApart L → strictlyRising R ≡ true) → (first (stepRows J goal R) ≡ Pass → end R ≤ T → ⊥)
       → Dead J b goal T (Until b t) L
   dead-when-refused d t l L R o rising refused =
       dead-when-none-left t l L
-      (λ p. refused (normal-plan-accepted J b goal T d o (rising (normal-plan-apart J b goal T p)) p .0))
+      (λ p.
+      let accepted = normal-plan-accepted J b goal T d o (rising (normal-plan-apart J b goal T p)) p in
+      refused (accepted .0) (accepted .1))
 
   -- R is rising, and has the steps of L
   pub dead-when-refused-by-members : T ≤ J .deadline → (t : ℕ) → t ≤ b → (L R : List Step)
       → EachStep (λ x. Member x L) R → EachStep (λ x. Member x R) L → strictlyRising R ≡ true
-      → (first (stepRows J goal R) ≡ Pass → ⊥) → Dead J b goal T (Until b t) L
+      → (first (stepRows J goal R) ≡ Pass → end R ≤ T → ⊥) → Dead J b goal T (Until b t) L
   dead-when-refused-by-members d t l L R into back rising refused =
       dead-when-none-left t l L
       (λ p.
       let apart = apart-distinct L (normal-plan-apart J b goal T p) in
       let o = permutation-of-members R L (apart-distinct R (rising-apart R rising)) apart into back in
-      refused (normal-plan-accepted J b goal T d o rising p .0))
+      let accepted = normal-plan-accepted J b goal T d o rising p in
+      refused (accepted .0) (accepted .1))
 
   -- ---- no plan
   -- R is an accepted plan of the new steps P and the kept steps K

@@ -1,0 +1,73 @@
+-- What the search answers at the first minute: a plan that is accepted, or nothing, and then a dead end.
+-- Assumes nothing.
+use Prim.Native.Nat.{ℕ, _*_, _≤_}
+use mathlib.Core.Path.{_≡_}
+use mathlib.Core.Bool.{true, false, cond}
+use mathlib.Core.List.{List}
+use lib.Dec.{ltb}
+use lib.ListN.{length, take, replicate}
+use Rattle.encoding.specs.Bytes.{overwrite}
+use Rattle.facts.specs.FactSet.{foreign}
+use Rattle.job.specs.declared.Job as held
+use Rattle.job.specs.declared.refusal.Verdict.the-variants.{Pass}
+use Rattle.job.specs.Job.{Job, jobIn}
+use Rattle.jobfile.specs.Answers.{readFile}
+use Rattle.timeline.specs.Step.{stepsIn, planBytes}
+use Rattle.timeline.specs.Timeline.{end}
+use Rattle.timeline.specs.Accepted.{Accepted}
+use Rattle.checker.specs.Check.{checkFor}
+use Rattle.checker.specs.declared.Checked.{Checked}
+use Rattle.checker.specs.declared.Checked.the-variants as checked
+use Rattle.regression.specs.DeadEnd.{Until, Dead}
+use Rattle.tables.specs.Tables.{chosen, Known}
+use Rattle.tables.specs.declared.Frame.{Frame}
+use Rattle.tables.specs.declared.Steps.{Steps}
+use Rattle.leaf.specs.declared.Answer.{Answer}
+use Rattle.leaf.specs.Order.{inOrder}
+
+-- no plan
+abbrev pub noAnswer : Answer
+noAnswer = record { found = false; end = 0; count = 0; plan = replicate 96 0 }
+
+-- the plan, where it is accepted and ends by the horizon T
+abbrev pub answerOf : Checked → ℕ → ℕ → List ℕ → Answer
+answerOf (checked.Ends e) T count plan =
+    cond (ltb T e) noAnswer (record { found = true; end = e; count = count; plan = plan })
+answerOf (checked.Refused why) T count plan = noAnswer
+
+-- the bytes of the steps, zeros behind them
+abbrev pub planOf : Job → Steps → List ℕ
+planOf J steps = overwrite (replicate 96 0) 0 (planBytes (inOrder J steps))
+
+-- what the checker says of the steps as they stand
+abbrev pub Answers : Job → ℕ → ℕ → Steps → Answer → Type 0
+Answers J goal T steps r =
+    r ≡ answerOf (checkFor J goal (planBytes (inOrder J steps))) T (steps .count) (planOf J steps)
+
+-- the file has the job J
+abbrev pub FileOf : Job → List ℕ → Type 0
+FileOf J file = (j : held.Job) × (readFile file ≡ record { verdict = Pass; job = j }) × (jobIn j ≡ J)
+
+-- the bytes of the answer's plan
+abbrev pub bytesIn : Answer → List ℕ
+bytesIn r = take (3 * r .count) (r .plan)
+
+-- the answer is a plan that is accepted for the goal and ends by T, with its end
+pub record Found (J : Job) (goal T : ℕ) (r : Answer) : Type 0 where
+  pub few : r .count ≤ 32
+  pub whole : length (bytesIn r) ≡ 3 * r .count
+  pub accepted : Accepted J goal (bytesIn r)
+  pub end : end (stepsIn J (bytesIn r)) ≡ r .end
+  pub inTime : r .end ≤ T
+
+-- the frame's goal and horizon are such as the job may be asked for, and the steps are the job's
+pub record Asked (J : Job) (frame : Frame) (steps : Steps) : Type 0 where
+  pub goal : foreign (J .facts) (frame .goal) ≡ false
+  pub inTime : frame .horizon ≤ J .deadline
+  pub known : Known (length (J .actions)) steps
+
+-- a plan that is found is accepted; where none is, the chosen steps are a dead end
+pub record Finishes (file : List ℕ) (frame : Frame) (steps : Steps) (r : Answer) : Type 0 where
+  pub found : r .found ≡ true → (J : Job) → FileOf J file → Found J (frame .goal) (frame .horizon) r
+  pub dead : r .found ≡ false → (J : Job) → FileOf J file → Asked J frame steps → (b t : ℕ) → t ≤ b
+      → Dead J b (frame .goal) (frame .horizon) (Until b t) (chosen J steps)
