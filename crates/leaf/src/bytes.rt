@@ -25,7 +25,9 @@ pub fn write_plan(out: &mut [u8], steps: Steps)
 {
     let mut k = 0;
     while k < steps.count {
-        write_step(out, k * Plan::STEP, steps.numbers[k], steps.starts[k]);
+        let number = steps.numbers[k];
+        let start = steps.starts[k];
+        write_step(out, k * Plan::STEP, number, start);
         k += 1;
     }
 }

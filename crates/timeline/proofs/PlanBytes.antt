@@ -27,7 +27,7 @@ use Rattle.timeline.proofs.Places.{EachStep, here, each-rest}
 use Rattle.timeline.proofs.AcceptedSteps.{accepted-steps}
 use Rattle.timeline.proofs.JobSteps.{OfJob, lasting-of-known}
 
-length-step-bytes : (x : Step) → length (stepBytes x) ≡ 3
+pub length-step-bytes : (x : Step) → length (stepBytes x) ≡ 3
 length-step-bytes x =
     let a = length-bytes 1 (x .number) in
     let b = length-bytes 2 (x .start) in
