@@ -41,21 +41,31 @@ read-after-write j d passes =
     let r = write-read (jobIn j) (job-in-shape j) (each-tabulate _ (j .counts .actions) (actionAt j) d) passes in
     ap (λ (v : Verdict). readingOf v (decoded file)) (r .0) ∙ ap (readingOf Pass) (r .1)
 
+passed-reading : (v : Verdict) (J : Job) (j : held.Job) → readingOf v J ≡ record { verdict = Pass; job = j }
+    → (v ≡ Pass) × (j ≡ jobValue J)
+passed-reading Pass J j h = (refl, sym (ap (λ (r : Reading). r .job) h))
+passed-reading (Refused why) J j h = let e = ap (λ (r : Reading). r .verdict) h in (e, cc)
+
+-- a file that is accepted passes tests 1 to 11, and has the job that is read
+accepted-file : (file : List ℕ) (j : held.Job) → readFile file ≡ record { verdict = Pass; job = j }
+    → (first (readRows file) ≡ Pass) × (jobIn j ≡ decoded file)
+unfolding readFile
+accepted-file file j h =
+    let r = passed-reading (first (readRows file)) (decoded file) j h in (r .0, value-holds-decoded file j (r .1))
+
+-- the job that is read passes its tests
+pub read-job-passes : (file : List ℕ) (j : held.Job) → readFile file ≡ record { verdict = Pass; job = j }
+    → first (jobRows (jobIn j)) ≡ Pass
+read-job-passes file j h =
+    let r = accepted-file file j h in
+    ap (λ (J : Job). first (jobRows J)) (r .1) ∙ passes-laid file (r .0) .1
+
 -- "An accepted file read and written is the same file."
 pub write-after-read : (file : List ℕ) (j : held.Job) → Bytes file → readFile file ≡ record { verdict = Pass; job = j }
     → (first (jobRows (jobIn j)) ≡ Pass) × (fileOf (jobIn j) ≡ file)
-unfolding readFile
 write-after-read file j b h =
-    let r = passed-reading (first (readRows file)) (decoded file) j h in
-    let same = value-holds-decoded file j (r .1) in (
-      ap (λ (J : Job). first (jobRows J)) same ∙ passes-laid file (r .0) .1,
-      ap fileOf same ∙ read-write file b (r .0),
-    )
-  where
-    passed-reading : (v : Verdict) (J : Job) (j : held.Job) → readingOf v J ≡ record { verdict = Pass; job = j }
-        → (v ≡ Pass) × (j ≡ jobValue J)
-    passed-reading Pass J j h = (refl, sym (ap (λ (r : Reading). r .job) h))
-    passed-reading (Refused why) J j h = let e = ap (λ (r : Reading). r .verdict) h in (e, cc)
+    let r = accepted-file file j h in
+    (read-job-passes file j h, ap fileOf (r .1) ∙ read-write file b (r .0))
 
 -- ── the same over the slices that the writer leaves ──
 

@@ -1,2 +1,5 @@
 mod Exchanges
 mod Writing
+mod InOrder
+mod Checks
+mod Finishing

@@ -1,63 +1,76 @@
+-- `as_plan` meets its contract: the answer is made of what the checker says of the bytes.
+-- Assumes nothing.
+use mathlib.Core.Path.{sym, subst}
+use Rattle.job.specs.Job.{jobIn}
+use Rattle.leaf.specs.declared.Answer.{Answer}
+use Rattle.leaf.specs.Answer.{Answers}
+use Rattle.leaf.proofs.Checks.{answers-refused, answers-late, answers-plan, front-whole}
 use borrow.Author.Needs.{needs}
 use Rattle.leaf.proofs.as_plan.Statement.{statement}
 use Rattle.leaf.proofs.as_plan.Tie as tie
-use Rattle.leaf.proofs.as_plan.Reads as reads
-use Rattle.leaf.proofs.as_plan.Lts as lts
-use Rattle.checker.proofs.check_for.Reads as check-for-reads
-use Rattle.leaf.proofs.bytes.write_plan.Reads as write-plan-reads
-use Rattle.leaf.proofs.nothing.Reads as nothing-reads
 
--- src/lib.rt:42:23
 slice-aggregate-write-plan : tie.Need-slice-aggregate-write-plan
 slice-aggregate-write-plan c = search needs
 
--- src/lib.rt:42:5
 write-plan-requires : tie.Need-write-plan-requires
 write-plan-requires c κs = search needs
 
--- src/lib.rt:44:16
 mul-size : tie.Need-mul-size
 mul-size c = search needs
 
--- src/lib.rt:45:49
 array-share-prefix-plan : tie.Need-array-share-prefix-plan
 array-share-prefix-plan c = search needs
 
--- src/lib.rt:45:49
 slice-aggregate-check-for : tie.Need-slice-aggregate-check-for
-slice-aggregate-check-for c = ?
+slice-aggregate-check-for c =
+    let c-args = c .before .before .before .before .args in
+    front-whole (jobIn (c-args .job)) (c-args .steps) _ (c .before .before .write-plan .ensures)
 
--- src/lib.rt:45:9
 check-for-requires : tie.Need-check-for-requires
 check-for-requires c κs = search needs
 
--- src/lib.rt:46:23
 enum-known-checked : tie.Need-enum-known-checked
 enum-known-checked c = search needs
 
--- src/lib.rt:47:9
 enum-told : tie.Need-enum-told
 enum-told c = search needs
 
--- src/lib.rt:47:9
 nothing-requires : tie.Need-nothing-requires
 nothing-requires c κs = search needs
 
--- src/lib.rt:47:9
 returns : tie.Need-returns
-returns c = ?
+returns c =
+    let c-args = c .before .before .before .before .before .before .before .before .args in
+    let c-write-plan = c .before .before .before .before .before .before .write-plan in
+    let c-check-for = c .before .before .before .check-for in
+    let J = jobIn (c-args .job) in
+    subst (λ (r : Answer). Answers J (c-args .goal) (c-args .horizon) (c-args .steps) r) (sym (c .nothing .ensures))
+    (answers-refused J (c-args .goal) (c-args .horizon) (c-args .steps) _ _ (c-write-plan .ensures)
+    (c-check-for .ensures) _ (c .before .enum-told .given .1))
 
--- src/lib.rt:50:9
 nothing-requires-2 : tie.Need-nothing-requires-2
 nothing-requires-2 c κs = search needs
 
--- src/lib.rt:50:9
 returns-2 : tie.Need-returns-2
-returns-2 c = ?
+returns-2 c =
+    let at8 = c .before .before .before .before .before .before .before .before in
+    let c-args = at8 .before .before .args in
+    let c-write-plan = c .before .before .before .before .before .before .before .before .write-plan in
+    let c-check-for = c .before .before .before .before .before .check-for in
+    let c-checked = c .before .before .before .checked in
+    let J = jobIn (c-args .job) in
+    subst (λ (r : Answer). Answers J (c-args .goal) (c-args .horizon) (c-args .steps) r) (sym (c .nothing2 .ensures))
+    (answers-late J (c-args .goal) (c-args .horizon) (c-args .steps) _ _ (c-write-plan .ensures)
+    (c-check-for .ensures) _ (c-checked .given .1) (c .before .if1 .taken))
 
--- src/lib.rt:37:1
 returns-3 : tie.Need-returns-3
-returns-3 c = ?
+returns-3 c =
+    let at8 = c .before .before .before .before .before .before .before .before in
+    let c-args = at8 .before .args in
+    let c-write-plan = c .before .before .before .before .before .before .before .write-plan in
+    let c-check-for = c .before .before .before .before .check-for in
+    answers-plan (jobIn (c-args .job)) (c-args .goal) (c-args .horizon) (c-args .steps) _ _ (c-write-plan .ensures)
+    (c-check-for .ensures) _ (c .before .before .checked .given .1) (c .if1 .left)
 
 pub as-plan-spec : {M : Type 1} → statement M
 as-plan-spec =

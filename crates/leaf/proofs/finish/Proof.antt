@@ -1,43 +1,41 @@
+-- `finish` meets its contract: the file is read, the steps put in order and held to the checker.
+-- Assumes nothing.
+use Rattle.leaf.proofs.Finishing.{finishes-unread, finishes-read}
 use borrow.Author.Needs.{needs}
 use Rattle.leaf.proofs.finish.Statement.{statement}
 use Rattle.leaf.proofs.finish.Tie as tie
-use Rattle.leaf.proofs.finish.Reads as reads
-use Rattle.leaf.proofs.finish.Lts as lts
-use Rattle.leaf.proofs.as_plan.Reads as as-plan-reads
-use Rattle.leaf.proofs.nothing.Reads as nothing-reads
-use Rattle.leaf.proofs.order.in_order.Reads as in-order-reads
-use Rattle.reader.proofs.read.Reads as read-reads
 
--- src/lib.rt:65:9
 read-requires : tie.Need-read-requires
 read-requires c κs = search needs
 
 enum-told : tie.Need-enum-told
 enum-told c = search needs
 
--- src/lib.rt:68:9
 enum-told-2 : tie.Need-enum-told-2
 enum-told-2 c = search needs
 
--- src/lib.rt:68:9
 nothing-requires : tie.Need-nothing-requires
 nothing-requires c κs = search needs
 
--- src/lib.rt:68:9
 returns : tie.Need-returns
-returns c = ?
+returns c =
+    let c-args = c .before .before .before .before .before .args in
+    let c-read = c .before .before .before .read in
+    finishes-unread _ (c-args .frame) (c-args .steps) _ _ _ (c-read .ensures) (c .before .enum-told2 .given .1)
 
--- src/lib.rt:70:53
 in-order-requires : tie.Need-in-order-requires
 in-order-requires c κs = search needs
 
--- src/lib.rt:70:5
 as-plan-requires : tie.Need-as-plan-requires
 as-plan-requires c κs = search needs
 
--- src/lib.rt:61:1
 returns-2 : tie.Need-returns-2
-returns-2 c = ?
+returns-2 c =
+    let c-args = c .before .before .before .before .before .before .args in
+    let c-pre = c .before .before .before .before .before .before .pre in
+    let c-read = c .before .before .before .before .read in
+    let c-in-order = c .before .in-order in
+    finishes-read _ (c-args .frame) (c-args .steps) _ _ _ (c-read .ensures) (c-pre) (c-in-order .ensures .0) (c-in-order .ensures .1) (c .as-plan .ensures)
 
 pub finish-spec : {M : Type 1} → statement M
 finish-spec =

@@ -1,0 +1,110 @@
+-- The end of the search at the first minute: a plan that is found is accepted, and otherwise the steps are a dead end.
+-- Assumes nothing.
+use Prim.Native.Nat.{ℕ, _≤_, _<_}
+use mathlib.Core.Path.{_≡_, refl, sym, ap, subst, _∙_}
+use mathlib.Core.Bool.{Bool, true, false}
+use mathlib.Core.List.{List}
+use native.Mathlib.Omega.{arith}
+use lib.ListN.{length}
+use Rattle.lists.proofs.Tabulate.{length-tabulate}
+use Rattle.job.specs.declared.Job as held
+use Rattle.job.specs.declared.refusal.Refusal.{Refusal}
+use Rattle.job.specs.declared.refusal.Verdict.{Verdict}
+use Rattle.job.specs.declared.refusal.Verdict.the-variants.{Pass, Refused}
+use Rattle.job.specs.Job.{Job, jobIn}
+use Rattle.job.specs.Refusal.{first}
+use Rattle.job.specs.Valid.{jobRows}
+use Rattle.job.proofs.Passed.{passed}
+use Rattle.jobfile.specs.declared.Reading.{Reading}
+use Rattle.jobfile.specs.Answers.{readFile}
+use Rattle.jobfile.proofs.RoundTrips.{read-job-passes}
+use Rattle.timeline.specs.Step.{Step, stepsIn, planBytes, strictlyRising}
+use Rattle.timeline.specs.Timeline.{end}
+use Rattle.timeline.specs.Accepted.{stepRows}
+use Rattle.timeline.proofs.Tests.{not-both}
+use Rattle.timeline.proofs.Places.{EachStep}
+use Rattle.timeline.proofs.Permutations.{Permutation, permutation-trans, permutation-each}
+use Rattle.timeline.proofs.Rising.{AllApart}
+use Rattle.timeline.proofs.PlanBytes.{accepted-bytes-of-steps}
+use Rattle.regression.specs.DeadEnd.{Until, Dead}
+use Rattle.regression.proofs.NoPlan.{dead-when-refused}
+use Rattle.tables.specs.Tables.{chosen}
+use Rattle.tables.specs.declared.Frame.{Frame}
+use Rattle.tables.specs.declared.Steps.{Steps}
+use Rattle.leaf.specs.declared.Answer.{Answer}
+use Rattle.leaf.specs.Order.{placed, inOrder, Reordered, Ordered}
+use Rattle.leaf.specs.Answer.{noAnswer, Answers, FileOf, Asked, Found, Finishes}
+use Rattle.leaf.proofs.InOrder.{in-order-permutes, in-order-own, in-order-rising, each-chosen, permutation-apart}
+use Rattle.leaf.proofs.Checks.{accepted-ends, answer-found, answer-not-found}
+
+abbrev passes : Verdict → Bool
+passes Pass = true
+passes (Refused why) = false
+
+-- the file has no job
+pub finishes-unread : (file : List ℕ) (frame : Frame) (steps : Steps) (reading : Reading) (why : Refusal) (r : Answer)
+    → reading ≡ readFile file → reading .verdict ≡ Refused why → Finishes file frame steps r
+finishes-unread file frame steps reading why r e h =
+    record {
+      found = λ f J have. unread (ap (λ (x : Reading). x .verdict) (e ∙ have .1));
+      dead = λ f J have asked b t l. unread (ap (λ (x : Reading). x .verdict) (e ∙ have .1));
+    }
+  where
+    unread : {A : Type 0} → reading .verdict ≡ Pass → A
+    unread p = not-both (ap passes p) (ap passes h)
+
+-- s is the chosen steps in order
+module _ (J : Job) (frame : Frame) (steps s : Steps) (same : Reordered steps s) (ordered : Ordered s (s .count)) where
+  order : Permutation (inOrder J s) (chosen J steps)
+  order = permutation-trans (in-order-permutes J s) (same .order J)
+
+  dead : first (jobRows J) ≡ Pass → Asked J frame steps → (r : Answer)
+      → Answers J (frame .goal) (frame .horizon) s r → r .found ≡ false → (b t : ℕ) → t ≤ b
+      → Dead J b (frame .goal) (frame .horizon) (Until b t) (chosen J steps)
+  dead pass asked r a h b t l =
+      dead-when-refused J b (frame .goal) (frame .horizon) (asked .inTime) t l (chosen J steps) (inOrder J s) order
+      (λ apart. in-order-rising J s ordered small (permutation-apart order apart)) refused
+    where
+      fewActions : length (J .actions) ≤ 64
+      fewActions = passed J pass .fewActions
+
+      small : EachStep (λ x. x .number < 256) (inOrder J s)
+      small =
+          permutation-each (λ x. x .number < 256) order
+          (each-chosen (λ x. x .number < 256) J steps (steps .count)
+          (λ k l. let m = asked .known .known k l in let n = fewActions in omega arith))
+
+      few : length (inOrder J s) ≤ 32
+      few =
+          let n = length-tabulate (s .count) (placed J s) in
+          let m = same .count in
+          let q = asked .known .few in
+          omega arith
+
+      refused : first (stepRows J (frame .goal) (inOrder J s)) ≡ Pass → end (inOrder J s) ≤ frame .horizon → ⊥
+      refused p inTime =
+          let plan = accepted-bytes-of-steps J (frame .goal) (inOrder J s) (passed J pass) (in-order-own J s) few p in
+          let ends = accepted-ends J (frame .goal) (planBytes (inOrder J s)) pass (asked .goal) (plan .0) in
+          let same-end = ap end (plan .1) in
+          answer-not-found J (frame .goal) (frame .horizon) s r a h (end (stepsIn J (planBytes (inOrder J s)))) ends
+          (omega arith)
+
+-- the file has a job
+pub finishes-read : (file : List ℕ) (frame : Frame) (steps s : Steps) (reading : Reading) (r : Answer)
+    → reading ≡ readFile file → steps .count ≤ 32 → Reordered steps s → Ordered s (s .count)
+    → Answers (jobIn (reading .job)) (frame .goal) (frame .horizon) s r → Finishes file frame steps r
+finishes-read file frame steps s reading r e few same ordered a =
+    record {
+      found = λ f J have.
+          let n = same .count in
+          answer-found J (frame .goal) (frame .horizon) s (omega arith) r (answers J have) f;
+      dead = λ f J have asked b t l.
+          let pass : first (jobRows J) ≡ Pass
+          = subst (λ (K : Job). first (jobRows K) ≡ Pass) (have .2) (read-job-passes file (have .0) (have .1)) in
+          dead J frame steps s same ordered pass asked r (answers J have) f b t l;
+    }
+  where
+    answers : (J : Job) → FileOf J file → Answers J (frame .goal) (frame .horizon) s r
+    answers J have =
+        let q : jobIn (reading .job) ≡ J = ap (λ (x : Reading). jobIn (x .job)) (e ∙ have .1) ∙ have .2 in
+        subst (λ (K : Job). Answers K (frame .goal) (frame .horizon) s r) q a
