@@ -3,7 +3,7 @@
 use Prim.Native.Nat.{ℕ, _+_, _*_, _≤_, _<_}
 use mathlib.Core.Path.{_≡_, refl, sym, ap, subst, _∙_}
 use mathlib.Core.Bool.{Bool, true, false, cond}
-use mathlib.Core.List.{List, _∷_, _++_}
+use mathlib.Core.List.{List}
 use native.Mathlib.Omega.{arith}
 use lib.Dec.{ltb}
 use lib.ListN.{length, take, drop, replicate}
@@ -17,7 +17,7 @@ use Rattle.job.specs.declared.refusal.Refusal.the-variants.{ForeignAskedFact}
 use Rattle.job.specs.declared.refusal.Verdict.{Verdict}
 use Rattle.job.specs.declared.refusal.Verdict.the-variants.{Pass, Refused}
 use Rattle.job.specs.Job.{Job}
-use Rattle.job.specs.Refusal.{Row, _when_, first}
+use Rattle.job.specs.Refusal.{first}
 use Rattle.job.specs.Valid.{jobRows}
 use Rattle.job.proofs.Table.{first-next, first-pass, first-append-pass, pass-of-append}
 use Rattle.timeline.specs.Step.{Step, stepsIn, planBytes}
@@ -31,7 +31,7 @@ use Rattle.checker.specs.declared.Checked.the-variants as checked
 use Rattle.tables.specs.declared.Steps.{Steps}
 use Rattle.leaf.specs.declared.Answer.{Answer}
 use Rattle.leaf.specs.Order.{placed, inOrder, WritesPlan}
-use Rattle.leaf.specs.Answer.{noAnswer, answerOf, planOf, Answers, bytesIn, Found}
+use Rattle.leaf.specs.Answer.{noAnswer, answerOf, planOf, Answers, Found}
 
 -- ---- the bytes of the steps stand in front
 pub length-bytes-in-order : (J : Job) (steps : Steps) → length (planBytes (inOrder J steps)) ≡ 3 * steps .count
@@ -86,60 +86,57 @@ module _ (J : Job) (goal T : ℕ) (steps : Steps) where
       sym (e ∙ ap (λ (bytes : List ℕ). checkFor J goal (take (steps .count * 3) bytes)) (w J)
       ∙ ap (checkFor J goal) (plan-in-front J steps (steps .count * 3) (omega arith)))
 
-  -- the steps as a plan that ends at minute e
+  -- the answer to what the checker says, and the steps as a plan that ends at minute e
+  abbrev answerTo : Checked → Answer
+  answerTo c = answerOf c T (steps .count) (planOf J steps)
+
   abbrev asPlan : ℕ → List ℕ → Answer
   asPlan e plan = record { found = true; end = e; count = steps .count; plan = plan }
 
-  answered : (c : Checked) → checks ≡ c → (r : Answer) → answerOf c T (steps .count) (planOf J steps) ≡ r
-      → Answers J goal T steps r
-  answered c e r h =
-      sym (ap (λ (v : Checked). answerOf v T (steps .count) (planOf J steps)) e ∙ h)
-
-  plan-answered : (e : ℕ) → e ≤ T → answerOf (checked.Ends e) T (steps .count) (planOf J steps) ≡ asPlan e (planOf J steps)
+  plan-answered : (e : ℕ) → e ≤ T → answerTo (checked.Ends e) ≡ asPlan e (planOf J steps)
   plan-answered e l = ap (λ (b : Bool). cond b noAnswer (asPlan e (planOf J steps))) (le-ltb T e l)
 
+  nothing-answered : (e : ℕ) → T < e → answerTo (checked.Ends e) ≡ noAnswer
+  nothing-answered e l = ap (λ (b : Bool). cond b noAnswer (asPlan e (planOf J steps))) (lt-ltb T e l)
+
+  -- o is the bytes that were written, and c what the checker says of them
   module _ (o : List ℕ) (c : Checked) (w : WritesPlan steps (replicate 96 0) o)
       (e : c ≡ checkFor J goal (take (steps .count * 3) o)) where
     pub answers-refused : (why : Refusal) → c ≡ checked.Refused why → Answers J goal T steps noAnswer
-    answers-refused why h = answered (checked.Refused why) (same-checked o c w e ∙ h) noAnswer refl
+    answers-refused why h = sym (ap answerTo (same-checked o c w e ∙ h))
 
     pub answers-late : (last : ℕ) → c ≡ checked.Ends last → T < last → Answers J goal T steps noAnswer
-    answers-late last h l =
-        answered (checked.Ends last) (same-checked o c w e ∙ h) noAnswer
-        (ap (λ (b : Bool). cond b noAnswer (asPlan last (planOf J steps))) (lt-ltb T last l))
+    answers-late last h l = sym (ap answerTo (same-checked o c w e ∙ h) ∙ nothing-answered last l)
 
     pub answers-plan : (last : ℕ) → c ≡ checked.Ends last → last ≤ T → Answers J goal T steps (asPlan last o)
     answers-plan last h l =
-        ap (asPlan last) (w J)
-        ∙ answered (checked.Ends last) (same-checked o c w e ∙ h) (asPlan last (planOf J steps)) (plan-answered last l)
+        ap (asPlan last) (w J) ∙ sym (ap answerTo (same-checked o c w e ∙ h) ∙ plan-answered last l)
 
   -- a plan that is found is accepted
   pub answer-found : steps .count ≤ 32 → (r : Answer) → Answers J goal T steps r → r .found ≡ true → Found J goal T r
-  answer-found few r a h = go checks refl a h
+  answer-found few r a h = by-checks checks refl a
     where
-      late : (e : ℕ) (b : Bool) → ltb T e ≡ b → checks ≡ checked.Ends e → r ≡ cond b noAnswer (asPlan e (planOf J steps)) → Found J goal T r
-      late e true l c q = not-both h (ap (λ (x : Answer). x .found) q)
-      late e false l c q =
+      by-end : (e : ℕ) (b : Bool) → ltb T e ≡ b → checks ≡ checked.Ends e
+          → r ≡ cond b noAnswer (asPlan e (planOf J steps)) → Found J goal T r
+      by-end e true l c q = not-both h (ap (λ (x : Answer). x .found) q)
+      by-end e false l c q =
           let front = plan-in-front J steps (3 * steps .count) refl in
           let same = ends-accepted J goal (planBytes (inOrder J steps)) e c in
-          let size = length-bytes-in-order J steps in
           subst (λ (x : Answer). Found J goal T x) (sym q)
           (record {
             few = few;
-            whole = ap length front ∙ size;
+            whole = ap length front ∙ length-bytes-in-order J steps;
             accepted = subst (λ (bytes : List ℕ). Accepted J goal bytes) (sym front) (same .0);
             end = ap (λ (bytes : List ℕ). end (stepsIn J bytes)) front ∙ same .1;
             inTime = ltb-false T e l;
           })
 
-      go : (c : Checked) → checks ≡ c → r ≡ answerOf c T (steps .count) (planOf J steps) → r .found ≡ true
-          → Found J goal T r
-      go (checked.Ends e) c q h = late e (ltb T e) refl c q
-      go (checked.Refused why) c q h = not-both h (ap (λ (x : Answer). x .found) q)
+      by-checks : (c : Checked) → checks ≡ c → r ≡ answerTo c → Found J goal T r
+      by-checks (checked.Ends e) c q = by-end e (ltb T e) refl c q
+      by-checks (checked.Refused why) c q = not-both h (ap (λ (x : Answer). x .found) q)
 
   -- where nothing is found, the steps as they stand are no accepted plan that ends by T
   pub answer-not-found : (r : Answer) → Answers J goal T steps r → r .found ≡ false → (e : ℕ) → checks ≡ checked.Ends e
       → e ≤ T → ⊥
   answer-not-found r a h e c l =
-      let q = a ∙ ap (λ (v : Checked). answerOf v T (steps .count) (planOf J steps)) c ∙ plan-answered e l in
-      not-both (ap (λ (x : Answer). x .found) q) h
+      not-both (ap (λ (x : Answer). x .found) (a ∙ ap answerTo c ∙ plan-answered e l)) h

@@ -1,7 +1,7 @@
 -- The end of the search at the first minute: a plan that is found is accepted, and otherwise the steps are a dead end.
 -- Assumes nothing.
 use Prim.Native.Nat.{ℕ, _≤_, _<_}
-use mathlib.Core.Path.{_≡_, refl, sym, ap, subst, _∙_}
+use mathlib.Core.Path.{_≡_, ap, subst, _∙_}
 use mathlib.Core.Bool.{Bool, true, false}
 use mathlib.Core.List.{List}
 use native.Mathlib.Omega.{arith}
@@ -18,13 +18,12 @@ use Rattle.job.proofs.Passed.{passed}
 use Rattle.jobfile.specs.declared.Reading.{Reading}
 use Rattle.jobfile.specs.Answers.{readFile}
 use Rattle.jobfile.proofs.RoundTrips.{read-job-passes}
-use Rattle.timeline.specs.Step.{Step, stepsIn, planBytes, strictlyRising}
+use Rattle.timeline.specs.Step.{stepsIn, planBytes}
 use Rattle.timeline.specs.Timeline.{end}
 use Rattle.timeline.specs.Accepted.{stepRows}
 use Rattle.timeline.proofs.Tests.{not-both}
 use Rattle.timeline.proofs.Places.{EachStep}
 use Rattle.timeline.proofs.Permutations.{Permutation, permutation-trans, permutation-each}
-use Rattle.timeline.proofs.Rising.{AllApart}
 use Rattle.timeline.proofs.PlanBytes.{accepted-bytes-of-steps}
 use Rattle.regression.specs.DeadEnd.{Until, Dead}
 use Rattle.regression.proofs.NoPlan.{dead-when-refused}
@@ -33,7 +32,7 @@ use Rattle.tables.specs.declared.Frame.{Frame}
 use Rattle.tables.specs.declared.Steps.{Steps}
 use Rattle.leaf.specs.declared.Answer.{Answer}
 use Rattle.leaf.specs.Order.{placed, inOrder, Reordered, Ordered}
-use Rattle.leaf.specs.Answer.{noAnswer, Answers, FileOf, Asked, Found, Finishes}
+use Rattle.leaf.specs.Answer.{Answers, FileOf, Asked, Finishes}
 use Rattle.leaf.proofs.InOrder.{in-order-permutes, in-order-own, in-order-rising, each-chosen, permutation-apart}
 use Rattle.leaf.proofs.Checks.{accepted-ends, answer-found, answer-not-found}
 

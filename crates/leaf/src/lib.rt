@@ -67,5 +67,10 @@ pub fn finish(file: &[u8], frame: Frame, steps: Steps) -> Answer
     let Verdict::Pass = verdict else {
         return nothing();
     };
-    as_plan(reading.job, frame.goal, frame.horizon, order::in_order(steps))
+    as_plan(
+        reading.job,
+        frame.goal,
+        frame.horizon,
+        order::in_order(steps),
+    )
 }

@@ -42,11 +42,11 @@ loop-again : tie.Need-loop-again Inv-loop μ-loop
 loop-again c =
     let at8 = c .before .before .before .before .before .before .before .before in
     let c-args = at8 .before .args in
-    let c-loop = c .before .before .before .before .before .before .before .loop in
-    (
+    let c-loop = c .before .before .before .before .before .before .before .loop in (
       omega arith,
       omega arith,
-      wrote-more (c-args .t2) _ _ (c-loop .k) (c-loop .inv .2) (omega arith) _ (λ J. c .before .before .write-step .ensures),
+      wrote-more (c-args .t2) _ _ (c-loop .k) (c-loop .inv .2) (omega arith) _
+          (λ J. c .before .before .write-step .ensures),
     )
 
 same-length : tie.Need-same-length Inv-loop μ-loop
