@@ -1,0 +1,51 @@
+-- `chain::of` is safe and ends. The measure is the number of actions left; nothing else is kept from turn to turn.
+-- Assumes nothing.
+use Prim.Native.Nat.{_-_}
+use borrow.Author.Needs.{needs}
+use Rattle.earliest_cases.proofs.chain.of.Statement.{statement}
+use Rattle.earliest_cases.proofs.chain.of.Tie as tie
+
+abbrev Inv-loop : tie.InvT-loop
+Inv-loop chain job₀ fact₀ job fact = Unit {0}
+
+abbrev μ-loop : tie.MeasureT-loop
+μ-loop chain job₀ fact₀ job fact = 64 - fact
+
+empty-requires : tie.Need-empty-requires Inv-loop μ-loop
+empty-requires c κs = search needs
+
+loop-holds : tie.Need-loop-holds Inv-loop μ-loop
+loop-holds c = search needs
+
+link-requires : tie.Need-link-requires Inv-loop μ-loop
+link-requires c κs = search needs
+
+with-action-requires : tie.Need-with-action-requires Inv-loop μ-loop
+with-action-requires c κs = search needs
+
+add-fact : tie.Need-add-fact Inv-loop μ-loop
+add-fact c = search needs
+
+loop-less : tie.Need-loop-less Inv-loop μ-loop
+loop-less c = search needs
+
+loop-again : tie.Need-loop-again Inv-loop μ-loop
+loop-again c = search needs
+
+returns : tie.Need-returns Inv-loop μ-loop
+returns c = search needs
+
+pub of-spec : {M : Type 1} → statement M
+of-spec =
+    tie.close
+    (tie.spec
+    Inv-loop
+    μ-loop
+    empty-requires
+    loop-holds
+    link-requires
+    with-action-requires
+    add-fact
+    loop-less
+    loop-again
+    returns)

@@ -1,0 +1,68 @@
+// Jobs made by hand. A set of facts is written with fact 0 as its last digit: 0b011 is {0, 1}.
+use job::Action;
+use job::Counts;
+use job::Job;
+
+// A job without pools, stores and actions.
+pub fn empty(facts: u8, start: u64) -> Job {
+    let mut job = Job::zero();
+    job.facts = facts;
+    job.start = start;
+    job
+}
+
+// An action that uses nothing.
+pub fn action(length: u8, needs: u64, adds: u64, deletes: u64) -> Action {
+    let mut action = Action::unused();
+    action.duration = length;
+    action.needs = needs;
+    action.adds = adds;
+    action.deletes = deletes;
+    action
+}
+
+// The action with a use of the first pool.
+pub fn using(mut action: Action, pool: u32) -> Action {
+    action.pools[0] = pool;
+    action
+}
+
+// The job with one action more.
+pub fn with_action(mut job: Job, action: Action) -> Job {
+    let mut counts = job.counts;
+    let at = counts.actions;
+    if at < Job::ACTIONS {
+        job.actions[at] = action;
+        counts.actions = at + 1;
+        job.counts = counts;
+    }
+    job
+}
+
+// The job with two actions more.
+pub fn with_two(job: Job, first: Action, second: Action) -> Job {
+    with_action(with_action(job, first), second)
+}
+
+// The job with one pool more.
+pub fn with_pool(mut job: Job, availability: u32) -> Job {
+    let mut counts = job.counts;
+    let at = counts.pools;
+    if at < Job::POOLS {
+        job.pools[at] = availability;
+        counts.pools = at + 1;
+        job.counts = counts;
+    }
+    job
+}
+
+// The job with other counts; its arrays stay.
+pub fn with_counts(mut job: Job, pools: usize, stores: usize, actions: usize) -> Job {
+    let counts = Counts {
+        pools,
+        stores,
+        actions,
+    };
+    job.counts = counts;
+    job
+}
