@@ -1,4 +1,5 @@
 //! Times the proved calls beside the plain ones, on the same inputs in one run, and compares their answers.
+mod days;
 mod plain;
 use std::hint::black_box;
 use std::time::Instant;
@@ -7,6 +8,7 @@ extern "C" {
     fn ruhkevois_bench_read(file: *const u8, length: usize) -> u64;
     fn ruhkevois_bench_rewrite(file: *const u8, length: usize, out: *mut u8, room: usize) -> u64;
     fn ruhkevois_bench_check(file: *const u8, length: usize, plan: *const u8, bytes: usize) -> u64;
+    fn ruhkevois_bench_earliest(file: *const u8, length: usize, set: u64) -> u64;
 }
 
 /// The largest job: 64 facts, 4 pools, 4 stores, 64 actions; action i adds fact i and needs fact i - 1.
@@ -53,6 +55,65 @@ fn nanos<F: FnMut() -> u64>(rounds: u32, mut f: F) -> f64 {
     best
 }
 
+fn earliest(file: &[u8], set: u64) -> u64 {
+    unsafe { ruhkevois_bench_earliest(file.as_ptr(), file.len(), set) }
+}
+
+/// The plain answer as the proved call tells it.
+fn plain_earliest(job: &plain::Job, set: u64) -> u64 {
+    match plain::earliest(job, set) {
+        Ok(Some(time)) => time as u64,
+        Ok(None) => 1_000_000,
+        Err(number) => 2_000_000 + number,
+    }
+}
+
+/// The proved and the plain answer for sets of each of the job's facts, two facts, and any facts.
+fn compare(job: &plain::Job, r: &mut days::Random) {
+    let file = days::file(job);
+    let mut sets = vec![0, job.goal, u64::MAX];
+    sets.extend((0..job.facts).map(|q| 1 << q));
+    sets.extend((0..8).map(|_| r.next() >> (64 - job.facts.max(1))));
+    for set in sets {
+        assert_eq!(earliest(&file, set), plain_earliest(job, set));
+    }
+}
+
+/// Times the earliest time of a job's goal.
+fn time_goal(what: &str, rounds: u32, job: &plain::Job) {
+    let file = days::file(job);
+    assert_eq!(earliest(&file, job.goal), plain_earliest(job, job.goal));
+    let proved = nanos(rounds, || earliest(black_box(&file), job.goal));
+    let plain = nanos(rounds, || plain_earliest(black_box(job), job.goal));
+    row(what, proved, plain);
+}
+
+/// Compares the proved and the plain answers on jobs made by code, and times four.
+fn earliest_times() {
+    let mut r = days::Random(1);
+    for _ in 0..3000 {
+        compare(&days::any(&mut r), &mut r);
+    }
+    for _ in 0..3 {
+        compare(&days::project(&mut r), &mut r);
+    }
+    compare(&days::dense(&mut r), &mut r);
+    time_goal("earliest time in a project of 20 tasks", 20, &days::project(&mut r));
+    time_goal("earliest time in a chain of 64", 5, &plain::read(&largest()).ok().unwrap());
+    time_goal("earliest time with sets of half the facts", 1, &days::dense(&mut r));
+    time_goal("earliest time, most sweeps over large sets", 1, &days::worst());
+}
+
+/// Times the earliest time of the goal for each job file in a folder.
+fn earliest_times_of(folder: &str) {
+    let mut paths: Vec<_> = std::fs::read_dir(folder).unwrap().map(|f| f.unwrap().path()).collect();
+    paths.sort();
+    for path in paths {
+        let job = plain::read(&std::fs::read(&path).unwrap()).ok().unwrap();
+        time_goal(&path.file_stem().unwrap().to_string_lossy(), 3, &job);
+    }
+}
+
 fn row(what: &str, proved: f64, plain: f64) {
     println!("| {what} | {:.2} | {:.2} | {:.1} |", proved / 1000.0, plain / 1000.0, proved / plain);
 }
@@ -81,4 +142,8 @@ fn main() {
     let c = nanos(500, || check(black_box(&file), black_box(&plan)));
     let c0 = nanos(500, || plain::check(black_box(&job), black_box(&plan)).unwrap());
     row("check a plan of 32 steps over 1,440 minutes", c - r, c0);
+    earliest_times();
+    if let Some(folder) = std::env::args().nth(1) {
+        earliest_times_of(&folder);
+    }
 }

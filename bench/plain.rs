@@ -1,5 +1,5 @@
-//! Plain Rust versions of the reader, the writer and the checker, written for speed and from the document alone. The
-//! benchmark compares the proved calls with these, and their answers with each other.
+//! Plain Rust versions of the reader, the writer, the checker and the earliest times, written for speed and from the
+//! document alone. The benchmark compares the proved calls with these, and their answers with each other.
 
 #[derive(Clone, Copy, Default)]
 pub struct Action {
@@ -147,7 +147,7 @@ pub fn write(j: &Job, out: &mut [u8]) -> Result<usize, u64> {
     out[19..27].copy_from_slice(&j.start.to_le_bytes());
     out[27..35].copy_from_slice(&j.goal.to_le_bytes());
     let mut at = 35;
-    let mut amounts = |out: &mut [u8], at: &mut usize, xs: &[u32]| {
+    let amounts = |out: &mut [u8], at: &mut usize, xs: &[u32]| {
         for x in xs {
             out[*at..*at + 4].copy_from_slice(&x.to_le_bytes());
             *at += 4;
@@ -227,4 +227,103 @@ pub fn check(j: &Job, plan: &[u8]) -> Result<u64, u64> {
         return Err(20);
     }
     Ok(end as u64)
+}
+
+const NONE: u32 = u32::MAX;
+
+fn entry(p: u32, q: u32) -> usize {
+    let (p, q) = (p.min(q), p.max(q));
+    (q * (q + 1) / 2 + p) as usize
+}
+
+/// The facts of a set.
+fn facts_of(mut set: u64) -> impl Iterator<Item = u32> {
+    std::iter::from_fn(move || {
+        if set == 0 {
+            return None;
+        }
+        let n = set.trailing_zeros();
+        set &= set - 1;
+        Some(n)
+    })
+}
+
+/// The table of earliest times: entry q(q+1)/2 + p for facts p and q.
+pub struct Times([u32; 2080]);
+
+impl Times {
+    fn of(&self, set: u64) -> u32 {
+        let mut latest = 0;
+        for q in facts_of(set) {
+            let row = entry(0, q);
+            for p in facts_of(set & (u64::MAX >> (63 - q))) {
+                latest = latest.max(self.0[row + p as usize]);
+            }
+        }
+        latest
+    }
+
+    fn lower(&mut self, first: u64, second: u64, time: u32) -> bool {
+        let mut changed = false;
+        for p in facts_of(first) {
+            for q in facts_of(second) {
+                let at = &mut self.0[entry(p, q)];
+                if time < *at {
+                    *at = time;
+                    changed = true;
+                }
+            }
+        }
+        changed
+    }
+
+    /// All choices with this action, as the longer one of two.
+    fn by_action(&mut self, j: &Job, i: usize) -> bool {
+        let a = &j.actions[i];
+        let after = |b: &Action, time: u32| if time == NONE { NONE } else { time + b.duration as u32 };
+        let fits = |uses: &dyn Fn(usize) -> u32| (0..j.pools).all(|k| uses(k) <= j.pool[k]);
+        let hinders = |a: &Action, b: &Action| a.deletes & (b.needs | b.adds) != 0;
+        if !fits(&|k| a.pools[k]) {
+            return false;
+        }
+        let mut changed = self.lower(a.adds, a.adds, after(a, self.of(a.needs)));
+        for q in 0..j.facts as u32 {
+            if (a.adds | a.deletes) >> q & 1 == 0 {
+                changed |= self.lower(1 << q, a.adds, after(a, self.of(a.needs | 1 << q)));
+            }
+        }
+        for (n, b) in j.actions.iter().enumerate() {
+            if n == i || a.duration < b.duration || hinders(a, b) || hinders(b, a) {
+                continue;
+            }
+            if fits(&|k| a.pools[k] + b.pools[k]) {
+                let time = after(a, self.of(a.needs)).max(after(b, self.of(a.needs | b.needs)));
+                changed |= self.lower(a.adds, b.adds, time);
+            }
+        }
+        changed
+    }
+}
+
+/// The earliest times of a job: sweeps over all choices, until no entry falls.
+pub fn times(j: &Job) -> Times {
+    let mut table = Times([NONE; 2080]);
+    let mut changed = true;
+    while changed {
+        changed = table.lower(j.start, j.start, 0);
+        for i in 0..j.actions.len() {
+            changed |= table.by_action(j, i);
+        }
+    }
+    table
+}
+
+/// The earliest time of a set, or none where it is unreachable.
+pub fn earliest(j: &Job, set: u64) -> Result<Option<u32>, u64> {
+    validate(j)?;
+    if foreign(j.facts, set) {
+        return Err(24);
+    }
+    let time = times(j).of(set);
+    Ok(if time == NONE { None } else { Some(time) })
 }
