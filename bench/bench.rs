@@ -100,8 +100,8 @@ fn earliest_times() {
     compare(&days::dense(&mut r), &mut r);
     time_goal("earliest time in a project of 20 tasks", 20, &days::project(&mut r));
     time_goal("earliest time in a chain of 64", 5, &plain::read(&largest()).ok().unwrap());
-    time_goal("earliest time with sets of half the facts", 1, &days::dense(&mut r));
-    time_goal("earliest time, most sweeps over large sets", 1, &days::worst());
+    time_goal("earliest time, 64 actions that add half of 64 facts", 1, &days::dense(&mut r));
+    time_goal("earliest time, 64 sweeps over large sets", 1, &days::worst());
 }
 
 /// Times the earliest time of the goal for each job file in a folder.

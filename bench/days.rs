@@ -85,13 +85,14 @@ pub fn project(r: &mut Random) -> Job {
     j
 }
 
-/// 64 facts and 64 actions that share no deleted fact, each set with half of the facts.
+/// 64 facts and 64 actions in no order: one for each fact, which needs half of the facts below it and adds half of all.
 pub fn dense(r: &mut Random) -> Job {
-    let mut actions = Vec::new();
-    for _ in 0..64 {
-        actions.push(Action { duration: 1 + r.below(255) as u8, needs: r.next(), adds: r.next(), ..Action::default() });
-    }
-    job(64, r.next(), u64::MAX, actions)
+    let action = |n: u64| {
+        let fact = n * 29 % 64;
+        let needs = r.next() & ((1 << fact) - 1);
+        Action { duration: 1 + r.below(255) as u8, needs, adds: r.next() | 1 << fact, ..Action::default() }
+    };
+    job(64, 0, u64::MAX, (0..64).map(action).collect())
 }
 
 /// The most sweeps over large sets: action i needs every fact above i and adds fact i and every one above. All lengths
