@@ -123,7 +123,8 @@ fn main() {
     let plan = long_plan();
     let mut out = vec![0u8; 4096];
     let read = |f: &[u8]| unsafe { ruhkevois_bench_read(f.as_ptr(), f.len()) };
-    let rewrite = |f: &[u8], o: &mut [u8]| unsafe { ruhkevois_bench_rewrite(f.as_ptr(), f.len(), o.as_mut_ptr(), o.len()) };
+    let rewrite =
+        |f: &[u8], o: &mut [u8]| unsafe { ruhkevois_bench_rewrite(f.as_ptr(), f.len(), o.as_mut_ptr(), o.len()) };
     let check = |f: &[u8], p: &[u8]| unsafe { ruhkevois_bench_check(f.as_ptr(), f.len(), p.as_ptr(), p.len()) };
     assert_eq!(read(&file), 64);
     assert_eq!(rewrite(&file, &mut out), file.len() as u64);
