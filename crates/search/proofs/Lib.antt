@@ -3,3 +3,4 @@ mod AmountLaws
 pub mod Chosen
 mod BarredActions
 mod StateLaws
+mod StateTests

@@ -5,7 +5,6 @@ use mathlib.Core.Path.{_≡_}
 use mathlib.Core.Bool.{Bool, false}
 use mathlib.Core.List.{List}
 use Rattle.job.specs.Job.{Job}
-use Rattle.timeline.specs.Step.{Step}
 use Rattle.earliest.specs.Sweep.{Filled}
 use Rattle.regression.specs.DeadEnd.{Until}
 use Rattle.tables.specs.Tables.{Describes, chosen}
@@ -14,11 +13,11 @@ use Rattle.tables.specs.declared.Steps.{Steps}
 use Rattle.search.specs.declared.state.State.{State}
 use Rattle.search.specs.States.{Stands, DeadFor}
 
--- chosen steps of which the test is false are a dead end, whatever steps are left to choose
-abbrev pub DeadUnlessReached : List ℕ → List ℕ → List ℕ → Frame → Steps → Bool → Type 1
+-- chosen steps of which the test is false are a dead end at any minute
+abbrev pub DeadUnlessReached : List ℕ → List ℕ → List ℕ → Frame → Steps → Bool → Type 0
 DeadUnlessReached sets numbers times frame steps test =
-    test ≡ false → (J : Job) → Describes J sets numbers frame → Filled J times → (X : Step → Type 0)
-    → DeadFor J frame X (chosen J steps)
+    test ≡ false → (J : Job) → Describes J sets numbers frame → Filled J times → (t : ℕ)
+    → DeadFor J frame (Until (frame .first) t) (chosen J steps)
 
 -- a state of which the test is false is a dead end
 abbrev pub DeadUnlessTimely : List ℕ → List ℕ → List ℕ → Frame → State → Bool → Type 0

@@ -1,39 +1,40 @@
+-- `need_of` meets its contract: the step's minutes and sets are those of the tables.
+-- Assumes nothing.
+use mathlib.Core.Path.{sym, _∙_}
+use Rattle.search.proofs.Looks.{step-in-tables}
+use native.Mathlib.Omega.{arith}
 use borrow.Author.Needs.{needs}
 use Rattle.search.proofs.tests.need_of.Statement.{statement}
 use Rattle.search.proofs.tests.need_of.Tie as tie
-use Rattle.search.proofs.tests.need_of.Reads as reads
-use Rattle.search.proofs.tests.need_of.Lts as lts
-use Rattle.facts.proofs.when.Reads as when-reads
-use Rattle.search.proofs.minute.stop.Reads as stop-reads
-use Rattle.search.proofs.minute.wide.Reads as wide-reads
 
--- src/tests.rt:48:9
 wide-requires : tie.Need-wide-requires
-wide-requires c κs = search needs
+wide-requires c κs = tt
 
--- src/tests.rt:49:9
 stop-requires : tie.Need-stop-requires
-stop-requires c κs = search needs
+stop-requires c κs = let h = c .before .before .before .pre in (omega arith, h .3)
 
--- src/tests.rt:50:48
 mul-when : tie.Need-mul-when
 mul-when c = search needs
 
--- src/tests.rt:50:43
 mul-when-2 : tie.Need-mul-when-2
 mul-when-2 c = search needs
 
--- src/tests.rt:50:43
 shared-slice-read-when : tie.Need-shared-slice-read-when
-shared-slice-read-when c = search needs
+shared-slice-read-when c =
+    let c-pre = c .before .before .before .before .before .pre in
+    let h = c-pre in omega arith
 
--- src/tests.rt:50:5
 when-requires : tie.Need-when-requires
-when-requires c κs = search needs
+when-requires c κs = tt
 
--- src/tests.rt:43:1
 returns : tie.Need-returns
-returns c = ?
+returns c =
+    let c-args = c .before .before .before .before .before .before .args in
+    let c-wide = c .before .before .before .wide in
+    λ J described.
+    let at = c-args in
+    let is = step-in-tables J _ _ (at .i) (at .start) described in
+    rw (is .sameStop, ← c .before .before .stop .ensures .0, ← c-wide .ensures .0, is .sameNeeds) (c .when .ensures)
 
 pub need-of-spec : {M : Type 1} → statement M
 need-of-spec =

@@ -1,55 +1,73 @@
+-- `needs_at` meets its contract: the first k steps are joined.
+-- Assumes nothing.
+use Prim.Native.Nat.{ℕ, _+_, _-_, _≤_, suc}
+use mathlib.Core.Path.{_≡_, refl, ap₂, _∙_}
+use Rattle.facts.specs.FactSet.{union}
+use Rattle.job.specs.Job.{Job}
+use Rattle.regression.specs.Tests.{runningNeeds}
+use Rattle.tables.specs.Tables.{chosenTo}
+use Rattle.search.specs.Minutes.{DescribesEach}
+use native.Mathlib.Omega.{arith}
 use Rattle.search.proofs.tests.needs_at.Statement.{statement}
 use Rattle.search.proofs.tests.needs_at.Tie as tie
-use Rattle.search.proofs.tests.needs_at.Reads as reads
-use Rattle.search.proofs.tests.needs_at.Lts as lts
-use Rattle.facts.proofs.union.Reads as union-reads
-use Rattle.search.proofs.tests.need_of.Reads as need-of-reads
 
 abbrev Inv-loop : tie.InvT-loop
-Inv-loop sets numbers actions t steps set₀ k₀ set k = ?
+Inv-loop sets numbers actions t steps set₀ k₀ set k =
+    (k ≤ steps .count) × ((J : Job) → DescribesEach J sets numbers actions → set ≡ runningNeeds t (chosenTo J steps k))
 
 abbrev μ-loop : tie.MeasureT-loop
-μ-loop sets numbers actions t steps set₀ k₀ set k = ?
+μ-loop sets numbers actions t steps set₀ k₀ set k = steps .count - k
 
--- src/tests.rt:60:5
 loop-holds : tie.Need-loop-holds Inv-loop μ-loop
-loop-holds c = ?
+loop-holds c = (omega arith, λ J described. refl)
 
--- src/tests.rt:61:51
 element-copy-out-need-of : tie.Need-element-copy-out-need-of Inv-loop μ-loop
-element-copy-out-need-of c = ?
+element-copy-out-need-of c =
+    let c-pre = c .before .before .before .before .pre in
+    let known = c-pre .1 in let n = known .numbers in let f = known .few in omega arith
 
--- src/tests.rt:61:69
 mul-need-of : tie.Need-mul-need-of Inv-loop μ-loop
-mul-need-of c = ?
+mul-need-of c = omega arith
 
--- src/tests.rt:61:69
 element-copy-out-need-of-2 : tie.Need-element-copy-out-need-of-2 Inv-loop μ-loop
-element-copy-out-need-of-2 c = ?
+element-copy-out-need-of-2 c =
+    let c-pre = c .before .before .before .before .before .pre in
+    let known = c-pre .1 in let n = known .starts in let f = known .few in omega arith
 
--- src/tests.rt:61:28
 need-of-requires : tie.Need-need-of-requires Inv-loop μ-loop
-need-of-requires c κs = ?
+need-of-requires c κs =
+    let c-pre = c .before .before .before .before .before .before .pre in
+    let c-loop = c .before .before .before .loop in
+    let lent = c-pre .0 in
+    let few = lent .amounts .few in
+    let below = c-pre .1 .known (c-loop .k) (c .before .before .loop-test .taken) in
+    (lent .setCount, lent .amounts .numberCount, omega arith, lent .amounts .short _ below)
 
--- src/tests.rt:61:9
 union-requires : tie.Need-union-requires Inv-loop μ-loop
-union-requires c κs = ?
+union-requires c κs = tt
 
--- src/tests.rt:62:9
 add-k : tie.Need-add-k Inv-loop μ-loop
-add-k c = ?
+add-k c = omega arith
 
--- src/tests.rt:60:5
 loop-less : tie.Need-loop-less Inv-loop μ-loop
-loop-less c = ?
+loop-less c = omega arith
 
--- src/tests.rt:60:5
 loop-again : tie.Need-loop-again Inv-loop μ-loop
-loop-again c = ?
+loop-again c =
+    let c-pre = c .before .before .before .before .before .before .before .before .pre in
+    let c-loop = c .before .before .before .before .before .loop in
+    let c-loop-test = c .before .before .before .before .loop-test in
+    let next : c-loop .k + 1 ≡ suc (c-loop .k) = omega arith in
+    let below = c-pre .1 .known (c-loop .k) (c-loop-test .taken) in
+    (omega arith, λ J described.
+    rw next (c .union .ensures .0 ∙ ap₂ union (c .before .need-of .ensures J (described _ below)) (c-loop .inv .1 J described)))
 
--- src/tests.rt:54:1
 returns : tie.Need-returns Inv-loop μ-loop
-returns c = ?
+returns c =
+    let c-args = c .before .before .before .before .args in
+    let c-loop = c .before .loop in
+    let all : c-loop .k ≡ c-args .t4 .count = omega arith in
+    λ J described. rw all at (c-loop .inv .1 J described)
 
 pub needs-at-spec : {M : Type 1} → statement M
 needs-at-spec =

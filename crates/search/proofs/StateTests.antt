@@ -1,0 +1,140 @@
+-- Why a state that fails a test is a dead end.
+-- Assumes nothing.
+use Prim.Native.Nat.{ℕ, _+_, _≤_, _<_}
+use mathlib.Core.Path.{_≡_, refl, sym, ap, ap₂, _∙_}
+use mathlib.Core.Bool.{Bool, true, false, not, cond, _&&_, true≢false}
+use mathlib.Core.Logic.{⊎-elim}
+use mathlib.Core.List.{List}
+use native.Mathlib.Nat.{le-refl}
+use native.Mathlib.Omega.{arith}
+use lib.Dec.{eqb, leb, ltb}
+use lib.ListN.{getD}
+use borrow.Author.Tests.{eq-eqb, ne-eqb, eqb-true, eqb-false}
+use Rattle.facts.specs.FactSet.{has, union, difference, meets}
+use Rattle.facts.proofs.SetLaws.{in-union-left, in-union-right, in-union-cases, in-difference, in-difference-parts}
+use Rattle.facts.proofs.SetLaws.{not-in-both, no-common-member}
+use Rattle.job.specs.Job.{Job}
+use Rattle.timeline.specs.Step.{Step, unionOf}
+use Rattle.timeline.proofs.Tests.{and-both, decided}
+use Rattle.timeline.proofs.Places.{Place, Member}
+use Rattle.times.specs.Earliest.{actionOf, timeOf}
+use Rattle.times.specs.Numbers.{tableIn}
+use Rattle.times.proofs.Times.{By}
+use Rattle.earliest.specs.Numbers.{setNumber}
+use Rattle.earliest.specs.Sweep.{Filled}
+use Rattle.earliest.proofs.SetTimes.{number-by-set}
+use Rattle.regression.specs.Wanted.{wantedAt}
+use Rattle.regression.specs.Normal.{addedBeside}
+use Rattle.regression.specs.Tests.{provided, solelyProvides, runningNeeds, mustHold}
+use Rattle.regression.specs.DeadEnd.{Until}
+use Rattle.regression.proofs.Gathered.{in-unionOf, in-unionOf-from}
+use Rattle.regression.proofs.DeadEnds.{dead-when-not-sole-provider, dead-when-too-early, dead-when-running-too-early}
+use Rattle.regression.proofs.DeadEnds.{times-bound}
+use Rattle.tables.specs.Tables.{Describes, Known, chosen, addsAt}
+use Rattle.tables.specs.declared.Frame.{Frame}
+use Rattle.search.specs.declared.state.State.{State}
+use Rattle.search.specs.Minutes.{runsInto}
+use Rattle.search.specs.States.{AddedTwice, Stands, DeadFor}
+use Rattle.search.proofs.Chosen.{stepAt, chosen-at-place}
+
+-- ---- a step that stops now adds nothing alone
+module _ (J : Job) (sets numbers : List ℕ) (frame : Frame) (described : Describes J sets numbers frame) (st : State)
+    (known-steps : Known (frame .actions) (st .steps)) (stands : Stands J frame st) (k : ℕ) (ender : st .since ≤ k)
+    (inside : k < st .steps .count) where
+  abbrev t : ℕ
+  t = st .minute
+
+  abbrev L : List Step
+  L = chosen J (st .steps)
+
+  abbrev x : Step
+  x = stepAt J (st .steps) k
+
+  abbrev number : ℕ
+  number = getD (st .steps .numbers) k 0
+
+  place : Member x L
+  place = chosen-at-place J (st .steps) (st .steps .count) k inside
+
+  known : number < frame .actions
+  known = known-steps .known k inside
+
+  stops-now : x .stop ≡ t
+  stops-now = stands .enders k ender inside .1
+
+  in-held : (n : ℕ) → has (st .at .held) n ≡ true → has (unionOf (provided x) L) n ≡ true
+  in-held n h =
+      let r = in-unionOf-from (λ y. cond (runsInto t y) (y .action .needs) 0) n L (rw (stands .at .held) at h) in
+      let y : Step = r .0 in
+      let same = ap (λ (u : ℕ). cond (ltb (y .start) u && leb u (y .stop)) (y .action .needs) 0) stops-now in
+      in-unionOf (provided x) n (r .2) (in-union-right (addedBeside x y) _ n (ap (λ (set : ℕ). has set n) same ∙ r .3))
+
+  -- another step of L that stops now and adds the fact
+  by-other : (n : ℕ) (y : Step) → Member y L → (y .number ≡ number → ⊥) → y .stop ≡ t → has (y .action .adds) n ≡ true
+      → has (unionOf (provided x) L) n ≡ true
+  by-other n y m apart stop adds =
+      let test : (eqb (y .stop) (x .stop) && not (eqb (y .number) number)) ≡ true =
+          and-both (eq-eqb (y .stop) (x .stop) (stop ∙ sym stops-now)) (ap not (ne-eqb (y .number) number apart)) in
+      in-unionOf (provided x) n (m .1)
+      (in-union-left (addedBeside x y) _ n (ap (λ (b : Bool). has (cond b (y .action .adds) 0) n) test ∙ adds))
+
+  in-twice : (n : ℕ) → has (st .twice) n ≡ true → has (unionOf (provided x) L) n ≡ true
+  in-twice n h =
+      let a : AddedTwice t n L = stands .twice n h in
+      ⊎-elim
+      (λ e.
+      by-other n (a .other) (a .otherIn) (λ f. a .different (eqb-true (a .one .number) number e ∙ sym f)) (a .otherStops)
+      (a .otherAdds))
+      (λ e. by-other n (a .one) (a .oneIn) (eqb-false (a .one .number) number e) (a .oneStops) (a .oneAdds))
+      (decided (eqb (a .one .number) number))
+
+  unprovided : (n : ℕ) → has (unionOf (provided x) L) n ≡ false → has (union (st .at .held) (st .twice)) n ≡ false
+  unprovided n none =
+      ⊎-elim
+      (λ h.
+      absurd
+      (true≢false (sym (⊎-elim (in-held n) (in-twice n) (in-union-cases (st .at .held) (st .twice) n h)) ∙ none)))
+      (λ h. h)
+      (decided (has (union (st .at .held) (st .twice)) n))
+
+  pub dead-when-adding-nothing-alone : meets (difference (addsAt sets number) (union (st .at .held) (st .twice))) (st .wanted)
+      ≡ false → DeadFor J frame (Until (frame .first) (st .minute)) L
+  unfolding solelyProvides
+  dead-when-adding-nothing-alone h =
+      let s = stops-now in
+      dead-when-not-sole-provider J (frame .first) (frame .goal) (frame .horizon) t L (place .1) (omega arith)
+      (stands .enders k ender inside .0)
+      (no-common-member _ _
+      (λ n a w.
+      let parts = in-difference-parts (x .action .adds) (unionOf (provided x) L) n a in
+      not-in-both _ (st .wanted) n h
+      (in-difference (addsAt sets number) _ n (rw (described .each number known .adds) (parts .0)) (unprovided n (parts .1)))
+      (ap (λ (set : ℕ). has set n)
+      (stands .wants ∙ sym (ap (wantedAt (frame .goal) L (frame .horizon)) stops-now))
+      ∙ w)))
+
+-- ---- a set that cannot be there by then
+module _ (J : Job) (frame : Frame) (times : List ℕ) (filled : Filled J times) (facts : J .facts ≡ frame .facts) where
+  not-by : (set time m : ℕ) → time ≡ setNumber times set (frame .facts) → m < time → By (timeOf J (tableIn times) set) m → ⊥
+  not-by set time m e l h =
+      let n = number-by-set J times (filled .able) set m h in
+      let f = e ∙ ap (setNumber times set) (sym facts) in
+      omega arith
+
+  pub dead-when-late : (st : State) → Stands J frame st → (time : ℕ)
+      → time ≡ setNumber times (union (st .wanted) (st .at .across)) (frame .facts) → st .minute < time
+      → DeadFor J frame (Until (frame .first) (st .minute)) (chosen J (st .steps))
+  dead-when-late st stands time e l =
+      dead-when-too-early J (frame .first) (frame .goal) (frame .horizon) _
+      (times-bound J (frame .first) (frame .goal) (frame .horizon) (tableIn times) (filled .solves)) (chosen J (st .steps))
+      (st .minute) (st .minute) (le-refl (st .minute)) (stands .inTime)
+      (λ h.
+      not-by (union (st .wanted) (st .at .across)) time (st .minute) e l
+      (rw (stands .wants, stands .at .across) h))
+
+  pub dead-when-rushed : (L : List Step) (m time : ℕ) → time ≡ setNumber times (runningNeeds m L) (frame .facts) → m < time
+      → (t : ℕ) → DeadFor J frame (Until (frame .first) t) L
+  dead-when-rushed L m time e l t =
+      dead-when-running-too-early J (frame .first) (frame .goal) (frame .horizon) _
+      (times-bound J (frame .first) (frame .goal) (frame .horizon) (tableIn times) (filled .solves)) L
+      (Until (frame .first) t) m (not-by (runningNeeds m L) time m e l)
