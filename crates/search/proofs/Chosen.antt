@@ -68,6 +68,7 @@ module _ (J : Job) (steps : Steps) (actions number start : ℕ) (known : Known a
       (getD-set-same (steps .starts) (steps .count) start 0 (omega arith)))
       (others (steps .count) (le-refl (steps .count)))
 
+module _ (steps : Steps) (actions number start : ℕ) (known : Known actions steps) (room : steps .count < 32) where
   pub known-pushed : number < actions → Known actions (pushed steps number start)
   known-pushed l =
       record {

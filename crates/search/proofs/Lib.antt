@@ -4,3 +4,5 @@ pub mod Chosen
 mod BarredActions
 mod StateLaws
 mod StateTests
+mod Completeness
+mod Steps

@@ -3,3 +3,4 @@ pub mod Amounts
 pub mod States
 pub mod Moves
 pub mod Timed
+pub mod Search

@@ -5,3 +5,4 @@ pub mod state; // a state of the search
 mod rules; // which actions may stop at a minute
 mod moves; // from one state to the next
 mod tests; // tests of a state
+pub mod regress; // the search for one horizon

@@ -11,7 +11,7 @@ use tables::Frame;
 use tables::Steps;
 
 // When action i starts that stops then.
-fn start_of(numbers: &[u32], i: u8, stop: u16) -> u16
+pub fn start_of(numbers: &[u32], i: u8, stop: u16) -> u16
     requires { ⌜ (length (now numbers) ≡ 576) × (i < 64) × (durationAt (now numbers) i ≤ stop) ⌝ }
     ensures { λ r. ⌜ r ≡ stop - durationAt (now (numbers .entry)) i ⌝ }
 {

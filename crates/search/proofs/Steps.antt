@@ -1,0 +1,126 @@
+-- The steps of the search: what is ready stays ready, and a dead end after a step is one before it.
+-- Assumes nothing.
+use Prim.Native.Nat.{ℕ, _+_, _≤_, _<_}
+use mathlib.Core.Path.{_≡_, refl, sym, ap, ap₂, _∙_}
+use mathlib.Core.Bool.{true, false}
+use mathlib.Core.List.{List, _∷_}
+use native.Mathlib.Omega.{arith}
+use lib.Dec.{ltb}
+use lib.ListN.{length}
+use Rattle.facts.specs.FactSet.{meets}
+use Rattle.job.specs.Job.{Job}
+use Rattle.timeline.specs.Step.{Step}
+use Rattle.regression.specs.DeadEnd.{Until, Open}
+use Rattle.regression.proofs.Decisions.{dead-open}
+use Rattle.tables.specs.Tables.{Known, chosen, durationAt, clashesAt}
+use Rattle.tables.specs.declared.Frame.{Frame}
+use Rattle.tables.specs.declared.Steps.{Steps}
+use Rattle.leaf.specs.declared.Answer.{Answer}
+use Rattle.leaf.specs.Answer.{Finishes}
+use Rattle.search.specs.declared.state.State.{State}
+use Rattle.search.specs.States.{Stands, Safe, DeadFor, nextStep, MayStop, NextAction}
+use Rattle.search.specs.Moves.{Taken, Back, NoStartBetween}
+use Rattle.search.specs.Search.{TaskOf, Ready, OpenFrom}
+use Rattle.search.proofs.Chosen.{known-pushed}
+use Rattle.search.proofs.StateLaws.{chosen-taken, taken-stands, chosen-back, back-stands}
+use Rattle.search.proofs.Completeness.{dead-back}
+
+-- ---- an action taken
+module _ (sets numbers times : List ℕ) (frame : Frame) (st : State) (ready : Ready sets numbers times frame st) (i : ℕ)
+    (known : i < frame .actions) (may : MayStop sets numbers frame st i true) (r : State)
+    (taken : Taken sets numbers st i r) where
+  known-taken : Known (frame .actions) (r .steps)
+  known-taken =
+      rw (taken .steps) (known-pushed (st .steps) (frame .actions) i _ (ready .safe .known) (may .room refl) known)
+
+  pub ready-taken : Ready sets numbers times frame r
+  ready-taken =
+      let since = taken .since in
+      let before = ready .safe .since in
+      let count = ap (λ (s : Steps). s .count) (taken .steps) in
+      let minute = taken .minute in
+      let first = ready .notBefore in
+      record {
+        safe = record {
+          lent = ready .safe .lent;
+          known = known-taken;
+          pools = ready .safe .pools;
+          stores = ready .safe .stores;
+          since = omega arith;
+        };
+        timeCount = ready .timeCount;
+        facts = ready .facts;
+        notBefore = omega arith;
+      }
+
+  module _ (J : Job) (file : List ℕ) (task : TaskOf J file sets numbers times frame) (stands : Stands J frame st) where
+    pub stands-taken : Stands J frame r
+    stands-taken =
+        taken-stands J sets numbers frame (task .described) st (ready .safe .known) i known (may .room refl) (may .fits refl) r
+        taken stands (may .apart refl)
+
+    steps-taken : chosen J (r .steps) ≡ nextStep J st i ∷ chosen J (st .steps)
+    steps-taken =
+        chosen-taken J sets numbers frame (task .described) st (ready .safe .known) i known (may .room refl) (may .fits refl) r
+        taken
+
+    dead-as : (X : ℕ → Step → Type 0) {t t′ : ℕ} {L L′ : List Step} → t ≡ t′ → L ≡ L′ → DeadFor J frame (X t) L
+        → DeadFor J frame (X t′) L′
+    dead-as X e f h = rw (← e, ← f) h
+
+    pub dead-when-taken-open : DeadFor J frame (OpenFrom frame r (i + 1)) (chosen J (r .steps))
+        → DeadFor J frame (OpenFrom frame st (i + 1)) (nextStep J st i ∷ chosen J (st .steps))
+    dead-when-taken-open dead = dead-as (λ t. Open (frame .first) t (λ a. ltb a (i + 1))) (taken .minute) steps-taken dead
+
+    pub dead-when-taken-until : DeadFor J frame (Until (frame .first) (r .minute)) (chosen J (r .steps))
+        → DeadFor J frame (OpenFrom frame st (i + 1)) (nextStep J st i ∷ chosen J (st .steps))
+    dead-when-taken-until dead =
+        dead-open J (frame .first) (frame .goal) (frame .horizon) (st .minute) (λ a. ltb a (i + 1)) _
+        (dead-as (Until (frame .first)) (taken .minute) steps-taken dead)
+
+-- ---- back to the event before
+module _ (sets numbers times : List ℕ) (frame : Frame) (st : State) (ready : Ready sets numbers times frame st) (r : State)
+    (back : Back sets numbers (frame .actions) (r .minute) st r) (notBefore : frame .first ≤ r .minute)
+    (earlier : r .minute < st .minute) (none : NoStartBetween (st .steps) (r .minute) (st .minute)) where
+  pub ready-back : Ready sets numbers times frame r
+  ready-back =
+      let since = back .since in
+      let count = ap (λ (s : Steps). s .count) (back .steps) in
+      record {
+        safe = record {
+          lent = ready .safe .lent;
+          known = rw (back .steps) (ready .safe .known);
+          pools = ready .safe .pools;
+          stores = ready .safe .stores;
+          since = omega arith;
+        };
+        timeCount = ready .timeCount;
+        facts = ready .facts;
+        notBefore = notBefore;
+      }
+
+  pub stands-back : (J : Job) (file : List ℕ) → TaskOf J file sets numbers times frame → Stands J frame st
+      → Stands J frame r
+  stands-back J file task stands =
+      back-stands J sets numbers frame (task .described) st r (r .minute) back stands earlier none
+
+  pub dead-when-back : (J : Job) (file : List ℕ) → TaskOf J file sets numbers times frame → Stands J frame st
+      → DeadFor J frame (Until (frame .first) (r .minute)) (chosen J (r .steps))
+      → DeadFor J frame (OpenFrom frame st (frame .actions)) (chosen J (st .steps))
+  dead-when-back J file task stands dead =
+      dead-back J frame st (frame .actions) (task .described .actions) (stands .inTime) (r .minute) earlier none
+      (rw (← back .steps) dead)
+
+-- ---- the first minute
+pub dead-when-unfinished : (J : Job) (file sets numbers times : List ℕ) (frame : Frame) (st : State) (r : Answer)
+    → Ready sets numbers times frame st → TaskOf J file sets numbers times frame → Finishes file frame (st .steps) r
+    → st .minute ≤ frame .first → r .found ≡ false
+    → DeadFor J frame (Until (frame .first) (st .minute)) (chosen J (st .steps))
+dead-when-unfinished J file sets numbers times frame st r ready task finishes early none =
+    finishes .dead none J (task .inFile)
+    (record {
+      goal = task .goal;
+      inTime = task .described .inTime;
+      known = rw (task .described .actions) (ready .safe .known);
+    })
+    (frame .first) (st .minute) early
