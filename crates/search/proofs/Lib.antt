@@ -6,3 +6,4 @@ mod StateLaws
 mod StateTests
 mod Completeness
 mod Steps
+mod HorizonLaws

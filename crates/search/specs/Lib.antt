@@ -4,3 +4,4 @@ pub mod States
 pub mod Moves
 pub mod Timed
 pub mod Search
+pub mod Horizons

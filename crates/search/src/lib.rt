@@ -6,3 +6,4 @@ mod rules; // which actions may stop at a minute
 mod moves; // from one state to the next
 mod tests; // tests of a state
 pub mod regress; // the search for one horizon
+pub mod horizons; // the least horizon with a plan
