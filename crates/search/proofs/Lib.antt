@@ -7,3 +7,4 @@ mod StateTests
 mod Completeness
 mod Steps
 mod HorizonLaws
+mod Bounds

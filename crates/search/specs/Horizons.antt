@@ -1,6 +1,6 @@
 -- What the search promises for one horizon, and for the least.
 -- Assumes nothing.
-use Prim.Native.Nat.{ℕ, _≤_, _<_}
+use Prim.Native.Nat.{ℕ, _+_, _≤_, _<_}
 use mathlib.Core.Path.{_≡_}
 use mathlib.Core.Bool.{true, false}
 use mathlib.Core.List.{List}
@@ -16,6 +16,7 @@ use Rattle.tables.specs.declared.Frame.{Frame}
 use Rattle.tables.specs.declared.Steps.{Steps}
 use Rattle.leaf.specs.declared.Answer.{Answer}
 use Rattle.leaf.specs.Answer.{FileOf, Found}
+use Rattle.search.specs.declared.horizons.Rise.{Rise}
 use Rattle.search.specs.Minutes.{Lent}
 use Rattle.search.specs.States.{DeadFor}
 use Rattle.search.specs.Search.{TaskOf}
@@ -61,3 +62,36 @@ pub record Shortest (file sets numbers times : List ℕ) (frame : Frame) (r : An
       → Found J (frame .goal) (frame .horizon) r × NoneBefore J (frame .goal) (r .end)
   pub none : r .found ≡ false → (J : Job) → TaskOf J file sets numbers times frame → Passed J
       → (bytes : List ℕ) → Accepted J (frame .goal) bytes → frame .horizon < end (stepsIn J bytes)
+
+-- ---- from horizon to horizon
+
+-- no plan ends before the lower bound, if none ended before the one at the beginning
+abbrev pub Raised : List ℕ → List ℕ → List ℕ → List ℕ → Frame → ℕ → ℕ → Type 0
+Raised file sets numbers times frame from low =
+    (J : Job) → TaskOf J file sets numbers times frame → Passed J → NoneBefore J (frame .goal) from
+    → NoneBefore J (frame .goal) low
+
+-- a plan found is accepted and ends by the frame's horizon
+abbrev pub FoundBy : List ℕ → List ℕ → List ℕ → List ℕ → Frame → Answer → Type 0
+FoundBy file sets numbers times frame r =
+    (J : Job) → TaskOf J file sets numbers times frame → Passed J → Found J (frame .goal) (frame .horizon) r
+
+-- from the lower bound upwards: a plan and a new lower bound, or no plan by the horizon
+pub record Rises (file sets numbers times : List ℕ) (frame : Frame) (from : ℕ) (r : Rise) : Type 0 where
+  pub found : r .answer .found ≡ true → FoundBy file sets numbers times frame (r .answer)
+  pub raised : Raised file sets numbers times frame from (r .low)
+  pub none : r .answer .found ≡ false → (J : Job) → TaskOf J file sets numbers times frame → Passed J
+      → (bytes : List ℕ) → Accepted J (frame .goal) bytes → frame .horizon < end (stepsIn J bytes)
+
+-- between the bounds: the lower one rises, or the plan ends earlier
+pub record Narrows (file sets numbers times : List ℕ) (frame : Frame) (from : ℕ) (best : Answer) (r : Rise) : Type 0 where
+  pub found : FoundBy file sets numbers times frame best → FoundBy file sets numbers times frame (r .answer)
+  pub raised : Raised file sets numbers times frame from (r .low)
+  pub closer : (r .answer .end + from < best .end + r .low) × (r .answer .end ≤ best .end) × (from ≤ r .low)
+  pub still : r .answer .found ≡ true
+
+-- the plan that is left at the end
+pub record Descends (file sets numbers times : List ℕ) (frame : Frame) (from : ℕ) (best r : Answer) : Type 0 where
+  pub found : FoundBy file sets numbers times frame best → FoundBy file sets numbers times frame r
+  pub raised : Raised file sets numbers times frame from (r .end)
+  pub still : r .found ≡ true

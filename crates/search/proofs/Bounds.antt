@@ -1,0 +1,85 @@
+-- The bounds of the least horizon: what a search for one horizon says of them.
+-- Assumes nothing.
+use Prim.Native.Nat.{ℕ, _+_, _≤_, _<_}
+use mathlib.Core.Path.{_≡_, refl, sym, ap, _∙_}
+use mathlib.Core.Bool.{true, false}
+use mathlib.Core.List.{List}
+use native.Mathlib.Nat.{le-refl}
+use native.Mathlib.Omega.{arith}
+use Rattle.job.specs.Job.{Job}
+use Rattle.job.proofs.Passed.{Passed}
+use Rattle.timeline.specs.Step.{stepsIn}
+use Rattle.timeline.specs.Timeline.{end}
+use Rattle.timeline.specs.Accepted.{Accepted}
+use Rattle.times.specs.Numbers.{tableIn}
+use Rattle.times.proofs.PlanSteps.{plan-of-accepted}
+use Rattle.times.proofs.Admissible.{goal-not-before-its-time}
+use Rattle.earliest.specs.Numbers.{setNumber}
+use Rattle.earliest.proofs.SetTimes.{number-by-set}
+use Rattle.tables.specs.declared.Frame.{Frame}
+use Rattle.leaf.specs.declared.Answer.{Answer}
+use Rattle.leaf.specs.Answer.{Found}
+use Rattle.search.specs.Search.{TaskOf}
+use Rattle.search.specs.Horizons.{until, Whole, NoneBefore, Solves, Raised, FoundBy}
+
+-- ---- another horizon
+module _ (file sets numbers times : List ℕ) (frame : Frame) (T : ℕ) (within : T ≤ frame .horizon) where
+  pub whole-until : Whole sets numbers times frame → Whole sets numbers times (until frame T)
+  whole-until whole =
+      let horizon = whole .horizon in
+      record {
+        lent = whole .lent;
+        timeCount = whole .timeCount;
+        facts = whole .facts;
+        pools = whole .pools;
+        stores = whole .stores;
+        horizon = omega arith;
+        first = whole .first;
+      }
+
+  task-until : (J : Job) → TaskOf J file sets numbers times frame → TaskOf J file sets numbers times (until frame T)
+  task-until J task =
+      let inTime = task .described .inTime in
+      record {
+        inFile = task .inFile;
+        described = record {
+          facts = task .described .facts;
+          actions = task .described .actions;
+          pools = task .described .pools;
+          stores = task .described .stores;
+          available = task .described .available;
+          stocks = task .described .stocks;
+          inTime = omega arith;
+          each = task .described .each;
+        };
+        filled = task .filled;
+        goal = task .goal;
+      }
+
+  module _ (r : Answer) (solves : Solves file sets numbers times (until frame T) r) where
+    -- a plan by T is one by the frame's horizon
+    pub found-by-horizon : r .found ≡ true → FoundBy file sets numbers times frame r
+    found-by-horizon e J task passed =
+        let f = solves .found e J (task .inFile) in
+        let inTime = f .inTime in
+        record { few = f .few; whole = f .whole; accepted = f .accepted; end = f .end; inTime = omega arith }
+
+    pub found-in-time : r .found ≡ true → (J : Job) → TaskOf J file sets numbers times frame → r .end ≤ T
+    found-in-time e J task = solves .found e J (task .inFile) .inTime
+
+    -- no plan by T: none ends before the minute after
+    pub raised-past : r .found ≡ false → (from : ℕ) → Raised file sets numbers times frame from (T + 1)
+    raised-past e from J task passed before bytes accepted =
+        let later = solves .none e J (task-until J task) passed bytes accepted in omega arith
+
+-- ---- the earliest time of the goal is a lower bound
+pub none-before-goal : (J : Job) (file sets numbers times : List ℕ) (frame : Frame)
+    → TaskOf J file sets numbers times frame → Passed J
+    → NoneBefore J (frame .goal) (setNumber times (frame .goal) (frame .facts))
+none-before-goal J file sets numbers times frame task passed bytes accepted =
+    let last : ℕ = end (stepsIn J bytes) in
+    let plan = plan-of-accepted J (frame .goal) bytes last passed accepted (le-refl last) in
+    let by = goal-not-before-its-time J (tableIn times) (task .filled .solves) last (frame .goal) (stepsIn J bytes) plan in
+    let n = number-by-set J times (task .filled .able) (frame .goal) (end (stepsIn J bytes)) by in
+    let facts = ap (setNumber times (frame .goal)) (task .described .facts) in
+    omega arith
