@@ -1,0 +1,132 @@
+-- `shortest` meets its contract: the bounds start at the earliest time of the goal and at the first plan found.
+-- Assumes nothing.
+use Prim.Native.Nat.{ℕ, _%_, _≤_, _<_}
+use mathlib.Core.Path.{_≡_, sym, ap, _∙_}
+use mathlib.Core.Bool.{true≢false}
+use borrow.Author.Tests.{not-true, not-false}
+use Rattle.leaf.specs.declared.Answer.{Answer}
+use Rattle.search.proofs.Bounds.{none-before-goal}
+use native.Mathlib.Omega.{arith}
+use borrow.Author.Needs.{needs}
+use Rattle.search.proofs.horizons.shortest.Statement.{statement}
+use Rattle.search.proofs.horizons.shortest.Tie as tie
+
+set-time-requires : tie.Need-set-time-requires
+set-time-requires c κs =
+    let c-pre = c .before .before .before .before .pre in
+    let h = c-pre in (h .timeCount, h .facts)
+
+wide-requires : tie.Need-wide-requires
+wide-requires c κs = tt
+
+nothing-requires : tie.Need-nothing-requires
+nothing-requires c κs = tt
+
+returns : tie.Need-returns
+returns c =
+    let c-args = c .before .before .before .before .before .before .before .before .args in
+    let c-set-time = c .before .before .before .set-time in
+    let none = ap (λ (a : Answer). a .found) (c .nothing .ensures) in
+    let w = c .before .before .wide .ensures .0 in
+    let time = c-set-time .ensures in
+    record {
+      found = λ e. absurd (true≢false (sym e ∙ none));
+      none = λ e J task passed bytes accepted.
+          let bound = none-before-goal J _ _ _ _ (c-args .frame) task passed bytes accepted in omega arith;
+    }
+
+cast-ascend : tie.Need-cast-ascend
+cast-ascend c = search needs
+
+ascend-requires : tie.Need-ascend-requires
+ascend-requires c κs =
+    let c-pre = c .before .before .before .before .before .before .before .pre in
+    let w = c .before .wide .ensures .0 in (c-pre, omega arith)
+
+nothing-requires-2 : tie.Need-nothing-requires-2
+nothing-requires-2 c κs = tt
+
+returns-2 : tie.Need-returns-2
+returns-2 c =
+    let c-ascend = c .before .before .before .ascend in
+    let none = ap (λ (a : Answer). a .found) (c .nothing2 .ensures) in
+    record {
+      found = λ e. absurd (true≢false (sym e ∙ none));
+      none = λ e. c-ascend .ensures .none (not-true (c-ascend .result .answer .found) (c .before .if2 .taken));
+    }
+
+wide-requires-2 : tie.Need-wide-requires-2
+wide-requires-2 c κs = tt
+
+nothing-requires-3 : tie.Need-nothing-requires-3
+nothing-requires-3 c κs = tt
+
+returns-3 : tie.Need-returns-3
+returns-3 c =
+    let c-ascend = c .before .before .before .before .before .before .ascend in
+    let c-if2 = c .before .before .before .before .if2 in
+    let c-wide2 = c .before .before .before .wide2 in
+    let none = ap (λ (a : Answer). a .found) (c .nothing3 .ensures) in
+    let w = c-wide2 .ensures .0 in
+    let found = not-false (c-ascend .result .answer .found) (c-if2 .left) in
+    let late = c .before .if3 .taken in
+    record {
+      found = λ e. absurd (true≢false (sym e ∙ none));
+      none = λ e J task passed bytes accepted.
+          let early = c-ascend .ensures .found found J task passed .inTime in absurd (omega arith);
+    }
+
+descend-requires : tie.Need-descend-requires
+descend-requires c κs =
+    let at8 = c .before .before .before .before .before .before .before .before in
+    let c-pre = at8 .before .before .before .before .before .pre in
+    let c-ascend = c .before .before .before .before .before .ascend in
+    let c-if2 = c .before .before .before .if2 in
+    let w = c .before .before .wide2 .ensures .0 in
+    let early = c .if3 .left in
+    (c-pre, omega arith, not-false (c-ascend .result .answer .found) (c-if2 .left))
+
+returns-4 : tie.Need-returns-4
+returns-4 c =
+    let at8 = c .before .before .before .before .before .before .before .before in
+    let c-pre = at8 .before .before .before .before .before .before .pre in
+    let c-args = at8 .before .before .before .before .before .before .args in
+    let c-set-time = at8 .before .set-time in
+    let c-wide = c .before .before .before .before .before .before .before .before .wide in
+    let c-if1 = c .before .before .before .before .before .before .before .if1 in
+    let c-ascend = c .before .before .before .before .before .before .ascend in
+    let c-if2 = c .before .before .before .before .if2 in
+    let found = not-false (c-ascend .result .answer .found) (c-if2 .left) in
+    let down = c .descend .ensures in
+    let up = c-ascend .ensures in
+    let h = c-pre .horizon in
+    let w = c-wide .ensures .0 in
+    let small = c-if1 .left in
+    let time = c-set-time .ensures in
+    record {
+      found = λ e J task passed.
+          (down .found (up .found found) J task passed,
+          down .raised J task passed
+          (up .raised J task passed
+          (λ bytes accepted.
+          let bound = none-before-goal J _ _ _ _ (c-args .frame) task passed bytes accepted in omega arith)));
+      none = λ e. absurd (true≢false (sym (down .still) ∙ e));
+    }
+
+pub shortest-spec : {M : Type 1} → statement M
+shortest-spec =
+    tie.close
+    (tie.spec
+    set-time-requires
+    wide-requires
+    nothing-requires
+    returns
+    cast-ascend
+    ascend-requires
+    nothing-requires-2
+    returns-2
+    wide-requires-2
+    nothing-requires-3
+    returns-3
+    descend-requires
+    returns-4)
