@@ -1,0 +1,5 @@
+mod Copying
+mod FileLaws
+mod TaskLaws
+mod Solving
+pub mod Shortest

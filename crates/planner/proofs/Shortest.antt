@@ -1,0 +1,69 @@
+-- What follows from the planner's promise: the plan handed out is a shortest one, and 22 means that there is none.
+-- Assumes nothing.
+use Prim.Native.Nat.{ℕ, _/_, _≤_}
+use mathlib.Core.Path.{_≡_, refl, sym, ap, _∙_, subst}
+use mathlib.Core.List.{List}
+use native.Mathlib.Omega.{arith}
+use lib.ListN.{length}
+use Rattle.lists.proofs.Tabulate.{length-tabulate}
+use Rattle.job.specs.declared.refusal.Refusal.{Refusal}
+use Rattle.job.specs.declared.refusal.Verdict.{Verdict}
+use Rattle.job.specs.declared.refusal.Verdict.the-variants.{Pass, Refused}
+use Rattle.job.specs.Job.{Job}
+use Rattle.job.specs.Refusal.{first}
+use Rattle.job.specs.Valid.{jobRows}
+use Rattle.job.proofs.Passed.{Passed, passed}
+use Rattle.job.proofs.Table.{pass-of-append}
+use Rattle.timeline.specs.Step.{stepsIn}
+use Rattle.timeline.specs.Timeline.{end}
+use Rattle.timeline.proofs.PlanBytes.{few-steps-of-accepted}
+use Rattle.makespan.specs.Makespan.{Makespan, endsAt, noPlan, LeastEnd, makespan}
+use Rattle.makespan.proofs.LeastEnds.{least-end-of-makespan}
+use Rattle.planner.specs.declared.Planned.{Planned}
+use Rattle.planner.specs.declared.Planned.the-variants as planned
+use Rattle.planner.specs.Plan.{planRefusals, HandsOut, PlansFor, PlansBy, Plans}
+
+-- the answers are different, and an end is told by its numbers
+ends-same : {e n d k : ℕ} → _≡_ {A = Planned} (planned.Ends e n) (planned.Ends d k) → (e ≡ d) × (n ≡ k)
+ends-same h = (cc h, cc h)
+
+no-ends-when-refused : {e n : ℕ} {why : Refusal} → _≡_ {A = Planned} (planned.Ends e n) (planned.Refused why) → ⊥
+no-ends-when-refused h = let z : _≡_ {A = ℕ} 0 1 = cc h in omega arith
+
+-- a plan of n steps that is handed out has at most 32
+few-handed-out : (J : Job) (slice : List ℕ) (e : ℕ) (answer : Planned) (after : List ℕ)
+    → (h : HandsOut J slice e answer after) → h .steps ≤ 32
+unfolding stepsIn
+few-handed-out J slice e answer after h =
+    let few = few-steps-of-accepted J (J .goal) (h .bytes) (h .accepted) in
+    let count : length (stepsIn J (h .bytes)) ≡ length (h .bytes) / 3 = length-tabulate _ _ in
+    let w = h .whole in
+    omega arith
+
+module _ (J : Job) (slice : List ℕ) (answer : Planned) (after : List ℕ) where
+  -- an end is the least one of all accepted plans; the slice has such a plan, of that many steps and at most 32
+  abbrev pub Shortest : ℕ → ℕ → Type 0
+  Shortest e n = LeastEnd J (J .goal) e × (n ≤ 32) × HandsOut J slice e (planned.Ends e n) after
+
+  shortest-by-makespan : (e n : ℕ) → answer ≡ planned.Ends e n → Passed J → (m : Makespan) → makespan J (J .goal) ≡ m
+      → PlansFor m J slice answer after → Shortest e n
+  shortest-by-makespan e n same within (endsAt d) q p =
+      let told = ends-same (sym same ∙ p .answers) in
+      let few = few-handed-out J slice d answer after p in
+      let at : makespan J (J .goal) ≡ endsAt e = q ∙ ap endsAt (sym (told .0)) in
+      let number = told .1 in (
+        least-end-of-makespan J (J .goal) e within at,
+        omega arith,
+        subst (λ (a : Planned). HandsOut J slice e a after) same
+            (subst (λ (k : ℕ). HandsOut J slice k answer after) (sym (told .0)) p),
+      )
+  shortest-by-makespan e n same within noPlan q p = absurd (no-ends-when-refused (sym same ∙ p .0))
+
+  shortest-by-verdict : (e n : ℕ) → answer ≡ planned.Ends e n → (v : Verdict) → first (planRefusals J slice) ≡ v
+      → PlansBy v J slice answer after → Shortest e n
+  shortest-by-verdict e n same Pass q p =
+      shortest-by-makespan e n same (passed J (pass-of-append (jobRows J) _ q .0)) (makespan J (J .goal)) refl p
+  shortest-by-verdict e n same (Refused why) q p = absurd (no-ends-when-refused (sym same ∙ p .0))
+
+  pub plan-is-shortest : Plans J slice answer after → (e n : ℕ) → answer ≡ planned.Ends e n → Shortest e n
+  plan-is-shortest h e n same = shortest-by-verdict e n same (first (planRefusals J slice)) refl h
