@@ -45,7 +45,8 @@ least-of-makespan J goal m h =
 
 -- ---- what the makespan says
 -- an accepted plan ends by the deadline
-ends-by-deadline : (J : Job) (goal : ℕ) (bytes : List ℕ) → Accepted J goal bytes → end (stepsIn J bytes) ≤ J .deadline
+pub ends-by-deadline : (J : Job) (goal : ℕ) (bytes : List ℕ) → Accepted J goal bytes
+    → end (stepsIn J bytes) ≤ J .deadline
 ends-by-deadline J goal bytes accepted =
     largest-at-most (λ x. x .stop) (J .deadline) (stepsIn J bytes)
     (accepted-steps J goal (stepsIn J bytes) (steps-of-accepted J goal bytes accepted) .beforeDeadline)

@@ -7,6 +7,7 @@ use native.Mathlib.Omega.{arith}
 use lib.ListN.{length}
 use Rattle.lists.proofs.Tabulate.{length-tabulate}
 use Rattle.job.specs.declared.refusal.Refusal.{Refusal}
+use Rattle.job.specs.declared.refusal.Refusal.the-variants.{NoPlan}
 use Rattle.job.specs.declared.refusal.Verdict.{Verdict}
 use Rattle.job.specs.declared.refusal.Verdict.the-variants.{Pass, Refused}
 use Rattle.job.specs.Job.{Job}
@@ -16,9 +17,10 @@ use Rattle.job.proofs.Passed.{Passed, passed}
 use Rattle.job.proofs.Table.{pass-of-append}
 use Rattle.timeline.specs.Step.{stepsIn}
 use Rattle.timeline.specs.Timeline.{end}
+use Rattle.timeline.specs.Accepted.{Accepted}
 use Rattle.timeline.proofs.PlanBytes.{few-steps-of-accepted}
 use Rattle.makespan.specs.Makespan.{Makespan, endsAt, noPlan, LeastEnd, makespan}
-use Rattle.makespan.proofs.LeastEnds.{least-end-of-makespan}
+use Rattle.makespan.proofs.LeastEnds.{least-end-of-makespan, none-accepted-when-no-plan}
 use Rattle.planner.specs.declared.Planned.{Planned}
 use Rattle.planner.specs.declared.Planned.the-variants as planned
 use Rattle.planner.specs.Plan.{planRefusals, HandsOut, PlansFor, PlansBy, Plans}
@@ -67,3 +69,17 @@ module _ (J : Job) (slice : List ℕ) (answer : Planned) (after : List ℕ) wher
 
   pub plan-is-shortest : Plans J slice answer after → (e n : ℕ) → answer ≡ planned.Ends e n → Shortest e n
   plan-is-shortest h e n same = shortest-by-verdict e n same (first (planRefusals J slice)) refl h
+
+  none-by-makespan : Passed J → (m : Makespan) → makespan J (J .goal) ≡ m → PlansFor m J slice answer after
+      → answer ≡ planned.Refused NoPlan → (bytes : List ℕ) → Accepted J (J .goal) bytes → ⊥
+  none-by-makespan within (endsAt e) q p refused bytes accepted =
+      no-ends-when-refused (sym (p .answers) ∙ refused)
+  none-by-makespan within noPlan q p refused bytes accepted =
+      none-accepted-when-no-plan J (J .goal) within q bytes accepted
+
+  -- where none of 3 to 11 and 21 holds, 22 means that no plan is accepted
+  pub no-plan-when-refused : Plans J slice answer after → first (planRefusals J slice) ≡ Pass
+      → answer ≡ planned.Refused NoPlan → (bytes : List ℕ) → Accepted J (J .goal) bytes → ⊥
+  no-plan-when-refused h pass =
+      none-by-makespan (passed J (pass-of-append (jobRows J) _ pass .0)) (makespan J (J .goal)) refl
+      (subst (λ (v : Verdict). PlansBy v J slice answer after) pass h)

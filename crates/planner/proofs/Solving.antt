@@ -19,52 +19,49 @@ use Rattle.job.proofs.Table.{first-here, first-next, first-append-pass, first-a
 use Rattle.timeline.specs.Step.{stepsIn}
 use Rattle.timeline.specs.Timeline.{end}
 use Rattle.timeline.specs.Accepted.{Accepted}
-use Rattle.timeline.proofs.Places.{largest-at-most}
-use Rattle.timeline.proofs.AcceptedSteps.{accepted-steps}
-use Rattle.timeline.proofs.JobSteps.{steps-of-accepted}
 use Rattle.makespan.specs.Makespan.{Makespan, endsAt, noPlan, LeastEnd, makespan}
-use Rattle.makespan.proofs.LeastEnds.{makespan-of-least-end, makespan-when-none-accepted}
+use Rattle.makespan.proofs.LeastEnds.{ends-by-deadline, makespan-of-least-end, makespan-when-none-accepted}
 use Rattle.leaf.specs.declared.Answer.{Answer}
 use Rattle.leaf.specs.Answer.{bytesIn, Found}
 use Rattle.planner.specs.declared.Planned.{Planned}
 use Rattle.planner.specs.declared.Planned.the-variants as planned
 use Rattle.planner.specs.Plan.{planRefusals, PlansFor, PlansBy, Plans, Solved}
 
--- an accepted plan ends by the deadline
-ends-by-deadline : (J : Job) (goal : ℕ) (bytes : List ℕ) → Accepted J goal bytes → end (stepsIn J bytes) ≤ J .deadline
-ends-by-deadline J goal bytes accepted =
-    largest-at-most (λ x. x .stop) (J .deadline) (stepsIn J bytes)
-    (accepted-steps J goal (stepsIn J bytes) (steps-of-accepted J goal bytes accepted) .beforeDeadline)
-
 -- ---- the answer of the search
-module _ (J : Job) (r : Answer) (within : Passed J) where
-  -- the answer ends no later than any accepted plan that ends by the deadline
-  abbrev pub NoLater : Type 0
-  NoLater = (bytes : List ℕ) → Accepted J (J .goal) bytes → end (stepsIn J bytes) ≤ J .deadline
-      → r .end ≤ end (stepsIn J bytes)
+module _ (J : Job) (r : Answer) where
+  -- the plan ends no later than any accepted plan that ends by T
+  abbrev pub FoundBy : ℕ → ℕ → Type 0
+  FoundBy goal T =
+      r .found ≡ true
+      → Found J goal T r
+      × ((bytes : List ℕ) → Accepted J goal bytes → end (stepsIn J bytes) ≤ T → r .end ≤ end (stepsIn J bytes))
 
-  -- no accepted plan ends by the deadline
-  abbrev pub NoneInTime : Type 0
-  NoneInTime = (bytes : List ℕ) → Accepted J (J .goal) bytes → end (stepsIn J bytes) ≤ J .deadline → ⊥
+  -- no accepted plan ends by T
+  abbrev pub NoneBy : ℕ → ℕ → Type 0
+  NoneBy goal T = r .found ≡ false → (bytes : List ℕ) → Accepted J goal bytes → end (stepsIn J bytes) ≤ T → ⊥
 
-  least-end : Found J (J .goal) (J .deadline) r → NoLater → LeastEnd J (J .goal) (r .end)
-  least-end found least =
-      record {
-        plan = (bytesIn r, found .accepted, found .end);
-        least = λ bytes accepted. least bytes accepted (ends-by-deadline J (J .goal) bytes accepted);
-      }
-
-  pub solved : (r .found ≡ true → Found J (J .goal) (J .deadline) r × NoLater) → (r .found ≡ false → NoneInTime)
-      → Solved J r
-  solved found none =
+  solved-by-deadline : Passed J → FoundBy (J .goal) (J .deadline) → NoneBy (J .goal) (J .deadline) → Solved J r
+  solved-by-deadline within found none =
       record {
         found = λ e.
-            let h = found e in
-            (h .0, makespan-of-least-end J (J .goal) (r .end) within (least-end (h .0) (h .1)));
+            let f = found e .0 in
+            let least : LeastEnd J (J .goal) (r .end) =
+            record {
+              plan = (bytesIn r, f .accepted, f .end);
+              least = λ bytes a. found e .1 bytes a (ends-by-deadline J (J .goal) bytes a);
+            } in
+            (f, makespan-of-least-end J (J .goal) (r .end) within least);
         none = λ e.
             makespan-when-none-accepted J (J .goal) within
-            (λ bytes accepted. none e bytes accepted (ends-by-deadline J (J .goal) bytes accepted));
+            (λ bytes a. none e bytes a (ends-by-deadline J (J .goal) bytes a));
       }
+
+  -- the search was for the job's goal, up to its deadline
+  pub solved : Passed J → (goal T : ℕ) → goal ≡ J .goal → T ≡ J .deadline → FoundBy goal T → NoneBy goal T → Solved J r
+  solved within goal T g t found none =
+      solved-by-deadline within
+      (subst (λ (T : ℕ). FoundBy (J .goal) T) t (subst (λ (x : ℕ). FoundBy x T) g found))
+      (subst (λ (T : ℕ). NoneBy (J .goal) T) t (subst (λ (x : ℕ). NoneBy x T) g none))
 
 -- ---- the ways out of the planner
 module _ (J : Job) (slice : List ℕ) where

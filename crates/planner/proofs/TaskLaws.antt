@@ -1,7 +1,7 @@
--- The four tables of a job that passes tests 3 to 11 are a task of the search.
+-- The tables of a job that passes tests 3 to 11, with its frame: a task of the search.
 -- Assumes nothing.
-use Prim.Native.Nat.{ℕ}
-use mathlib.Core.Path.{_≡_}
+use Prim.Native.Nat.{ℕ, _≤_}
+use mathlib.Core.Path.{_≡_, refl, sym, subst}
 use mathlib.Core.List.{List}
 use native.Mathlib.Omega.{arith}
 use lib.ListN.{length}
@@ -12,6 +12,7 @@ use Rattle.job.specs.Refusal.{first}
 use Rattle.job.specs.Valid.{jobRows}
 use Rattle.job.proofs.Passed.{passed}
 use Rattle.job.proofs.Rows.{fits-of-pass}
+use Rattle.tables.specs.declared.Frame.{Frame}
 use Rattle.tables.specs.Filled.{Filled, frameOf}
 use Rattle.tables.proofs.Describing.{describes}
 use Rattle.earliest.specs.Sweep as earliest
@@ -19,20 +20,32 @@ use Rattle.leaf.specs.Answer.{FileOf}
 use Rattle.search.specs.Minutes.{Lent}
 use Rattle.search.specs.Search.{TaskOf}
 
-module _ (job : held.Job) (sets numbers : List ℕ) (passes : first (jobRows (jobIn job)) ≡ Pass)
-    (filled : Filled job sets numbers) where
-  pub task-of-job : (file times : List ℕ) → FileOf (jobIn job) file → earliest.Filled (jobIn job) times
-      → TaskOf (jobIn job) file sets numbers times (frameOf job (job .goal) 0 (job .deadline))
-  task-of-job file times inFile timed =
-      record {
+-- what the search requires of the tables and the frame
+abbrev pub Ready : List ℕ → List ℕ → List ℕ → Frame → Type 0
+Ready sets numbers times frame =
+    Lent sets numbers (frame .actions)
+    × (length times ≡ 2080)
+    × (frame .facts ≤ 64)
+    × (frame .pools ≤ 4)
+    × (frame .stores ≤ 4)
+    × (frame .horizon ≤ 1440)
+    × (frame .first ≡ 0)
+
+module _ (job : held.Job) (sets numbers times : List ℕ) (passes : first (jobRows (jobIn job)) ≡ Pass)
+    (filled : Filled job sets numbers) (timed : earliest.Filled (jobIn job) times)
+    (frame : Frame) (same : frame ≡ frameOf job (job .goal) 0 (job .deadline)) where
+  pub task-of-job : (file : List ℕ) → FileOf (jobIn job) file → TaskOf (jobIn job) file sets numbers times frame
+  task-of-job file inFile =
+      subst (λ (f : Frame). TaskOf (jobIn job) file sets numbers times f) (sym same)
+      (record {
         inFile = inFile;
         described = describes job sets numbers filled passes (job .goal) 0 (job .deadline) (omega arith);
         filled = timed;
         goal = passed (jobIn job) passes .goal .within;
-      }
+      })
 
-  pub lent-of-job : Lent sets numbers (job .counts .actions)
-  lent-of-job =
+  lent : Lent sets numbers (job .counts .actions)
+  lent =
       record {
         setCount = filled .setCount;
         amounts = record {
@@ -46,6 +59,9 @@ module _ (job : held.Job) (sets numbers : List ℕ) (passes : first (jobRows (jo
         };
       }
 
-  -- the table of times has 2,080 entries
-  pub times-whole : (times : List ℕ) → earliest.Filled (jobIn job) times → length times ≡ 2080
-  times-whole times timed = timed .able .kept .whole
+  pub ready-of-job : Ready sets numbers times frame
+  ready-of-job =
+      let fits = fits-of-pass job passes in
+      let within = passed (jobIn job) passes in
+      subst (λ (f : Frame). Ready sets numbers times f) (sym same)
+      (lent, timed .able .kept .whole, within .facts, fits .0, fits .1, within .deadline, refl)
