@@ -89,6 +89,8 @@ pub file-of-job : (job : held.Job) (slice : List ℕ) (answer : Written) (after 
     → Wrote (jobIn job) slice answer after → ByteDurations job → (n : ℕ) → answer ≡ written.Length n
     → FileOf (jobIn job) (take n after)
 file-of-job job slice answer after wrote durations n h =
-    subst (λ (bytes : List ℕ). FileOf (jobIn job) (take n bytes)) (sym (wrote .leaves))
-    (jobValue (jobIn job), read-after-write-slice job slice n durations (sym (wrote .answers) ∙ h),
-      value-holds-job (jobIn job) (job-in-shape job))
+    subst (λ (bytes : List ℕ). FileOf (jobIn job) (take n bytes)) (sym (wrote .leaves)) (
+      jobValue (jobIn job),
+      read-after-write-slice job slice n durations (sym (wrote .answers) ∙ h),
+      value-holds-job (jobIn job) (job-in-shape job),
+    )

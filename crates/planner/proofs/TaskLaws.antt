@@ -19,17 +19,7 @@ use Rattle.earliest.specs.Sweep as earliest
 use Rattle.leaf.specs.Answer.{FileOf}
 use Rattle.search.specs.Minutes.{Lent}
 use Rattle.search.specs.Search.{TaskOf}
-
--- what the search requires of the tables and the frame
-abbrev pub Ready : List ℕ → List ℕ → List ℕ → Frame → Type 0
-Ready sets numbers times frame =
-    Lent sets numbers (frame .actions)
-    × (length times ≡ 2080)
-    × (frame .facts ≤ 64)
-    × (frame .pools ≤ 4)
-    × (frame .stores ≤ 4)
-    × (frame .horizon ≤ 1440)
-    × (frame .first ≡ 0)
+use Rattle.search.specs.Horizons.{Whole}
 
 module _ (job : held.Job) (sets numbers times : List ℕ) (passes : first (jobRows (jobIn job)) ≡ Pass)
     (filled : Filled job sets numbers) (timed : earliest.Filled (jobIn job) times)
@@ -59,9 +49,18 @@ module _ (job : held.Job) (sets numbers times : List ℕ) (passes : first (jobRo
         };
       }
 
-  pub ready-of-job : Ready sets numbers times frame
-  ready-of-job =
+  -- what the search requires of the tables and the frame
+  pub whole-of-job : Whole sets numbers times frame
+  whole-of-job =
       let fits = fits-of-pass job passes in
       let within = passed (jobIn job) passes in
-      subst (λ (f : Frame). Ready sets numbers times f) (sym same)
-      (lent, timed .able .kept .whole, within .facts, fits .0, fits .1, within .deadline, refl)
+      subst (Whole sets numbers times) (sym same)
+      (record {
+        lent = lent;
+        timeCount = timed .able .kept .whole;
+        facts = within .facts;
+        pools = fits .0;
+        stores = fits .1;
+        horizon = within .deadline;
+        first = refl;
+      })

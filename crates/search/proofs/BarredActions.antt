@@ -154,7 +154,7 @@ module _ (J : Job) (sets numbers : List ℕ) (frame : Frame) (described : Descri
   not-running h =
       let count = described .actions in
       let own : has (clashesAt sets i) i ≡ true =
-          described .each i known .clash i (omega arith) ∙ rw (eq-eqb i i refl) in
+      described .each i known .clash i (omega arith) ∙ rw (eq-eqb i i refl) in
       ⊎-elim (λ e. absurd (not-in-both (clashesAt sets i) (st .at .running) i h own e)) (λ e. e)
       (decided (has (st .at .running) i))
 
@@ -199,14 +199,14 @@ module _ (J : Job) (sets numbers : List ℕ) (frame : Frame) (described : Descri
           let runs : runsInto t y ≡ true = and-both (lt-ltb (y .start) t (omega arith)) (le-leb t (y .stop) (omega arith)) in
           let apart = ne-eqb (y .number) i (other-number y (r .1) (r .2) runs) in
           let test : (eqb (y .stop) (x .stop) && not (eqb (y .number) i)) ≡ true =
-              and-both (ap (eqb (y .stop)) stops ∙ c .0) (ap not apart) in
+          and-both (ap (eqb (y .stop)) stops ∙ c .0) (ap not apart) in
           in-unionOf (provided x) n p
           (in-union-left (addedBeside x y) _ n (ap (λ (b : Bool). has (cond b (y .action .adds) 0) n) test ∙ c .1))
 
       in-needs : (n : ℕ) → has (needsAt sets i) n ≡ true → has (unionOf (provided x) (x ∷ L)) n ≡ true
       in-needs n k =
           let test : (ltb (x .start) (x .stop) && leb (x .stop) (x .stop)) ≡ true =
-              and-both (lt-ltb (x .start) (x .stop) lasts) (le-leb (x .stop) (x .stop) (le-refl (x .stop))) in
+          and-both (lt-ltb (x .start) (x .stop) lasts) (le-leb (x .stop) (x .stop) (le-refl (x .stop))) in
           in-unionOf (provided x) n first-place
           (in-union-right (addedBeside x x) _ n
           (ap (λ (b : Bool). has (cond b (x .action .needs) 0) n) test
@@ -240,17 +240,17 @@ module _ (J : Job) (sets numbers : List ℕ) (frame : Frame) (described : Descri
         (λ e.
         let start : y .start ≡ t = eqb-true (y .start) (x .stop) e ∙ stops in
         let clash-free : clash x y ≡ false =
-            ⊎-elim
-            (λ c.
-            absurd
-            (not-in-both (clashesAt sets i) (st .at .starting) (y .number) no-clash (in-table y Q p c) (in-starting y Q p start)))
-            (λ c. c)
-            (decided (clash x y)) in
+        ⊎-elim
+        (λ c.
+        absurd
+        (not-in-both (clashesAt sets i) (st .at .starting) (y .number) no-clash (in-table y Q p c) (in-starting y Q p start)))
+        (λ c. c)
+        (decided (clash x y)) in
         let need-free : meets (x .action .adds) (y .action .needs) ≡ false =
-            no-common-member (x .action .adds) (y .action .needs)
-            (λ n a b.
-            not-in-both (addsAt sets i) (st .at .needed) n no-need (rw (described .each i known .adds) a)
-            (in-needed y Q p start n b)) in
+        no-common-member (x .action .adds) (y .action .needs)
+        (λ n a b.
+        not-in-both (addsAt sets i) (st .at .needed) n no-need (rw (described .each i known .adds) a)
+        (in-needed y Q p start n b)) in
         rw (clash-free, need-free) (and-false (eqb (y .start) (x .stop))))
         (λ e. rw e)
         (decided (eqb (y .start) (x .stop)))
@@ -311,7 +311,7 @@ module _ (J : Job) (sets numbers : List ℕ) (frame : Frame) (described : Descri
       let s = stops in
       let l = starts-before in
       let own : cond (leb (x .start) m && ltb m (x .stop)) (getD (x .action .pools) pool 0) 0 ≡ getD (x .action .pools) pool 0 =
-          rw (le-leb (x .start) m (omega arith), lt-ltb m (x .stop) (omega arith)) in
+      rw (le-leb (x .start) m (omega arith), lt-ltb m (x .stop) (omega arith)) in
       dead-when-pool-exceeded J (frame .first) (frame .goal) (frame .horizon) _ (x ∷ L) pool m (r .1) (omega arith)
 
   pub barred-when-stores-exceeded : exceedsStores J L i ≡ true → Result

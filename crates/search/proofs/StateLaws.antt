@@ -101,7 +101,7 @@ module _ (J : Job) (sets numbers : List ℕ) (frame : Frame) (described : Descri
         let stop = eqb-true (y .stop) (st .minute) (c .0) in
         let l = lasting J sets numbers frame described st known-steps stands i known fits-in-job y (p .1) (p .2) in
         let runs : runsInto (st .minute) y ≡ true =
-            and-both (lt-ltb (y .start) (st .minute) (omega arith)) (le-leb (st .minute) (y .stop) (omega arith)) in
+        and-both (lt-ltb (y .start) (st .minute) (omega arith)) (le-leb (st .minute) (y .stop) (omega arith)) in
         let alone = not-running J sets numbers frame described st known-steps stands i known fits-in-job apart in
         record {
           one = x;
@@ -134,13 +134,18 @@ module _ (J : Job) (sets numbers : List ℕ) (frame : Frame) (described : Descri
         ⊎-elim
         (λ e.
         let same : k ≡ st .steps .count = omega arith in
-        rw (same, getD-set-same (st .steps .numbers) (st .steps .count) i 0 (omega arith),
-            getD-set-same (st .steps .starts) (st .steps .count) (startOf numbers st i) 0 (omega arith))
+        rw (
+          same,
+          getD-set-same (st .steps .numbers) (st .steps .count) i 0 (omega arith),
+          getD-set-same (st .steps .starts) (st .steps .count) (startOf numbers st i) 0 (omega arith),
+        )
         (omega arith, omega arith))
         (λ less.
         let other : k ≡ st .steps .count → ⊥ = λ e. omega arith in
-        rw (getD-set-other (st .steps .numbers) (st .steps .count) k i 0 other,
-            getD-set-other (st .steps .starts) (st .steps .count) k (startOf numbers st i) 0 other)
+        rw (
+          getD-set-other (st .steps .numbers) (st .steps .count) k i 0 other,
+          getD-set-other (st .steps .starts) (st .steps .count) k (startOf numbers st i) 0 other,
+        )
         (stands .enders k a (omega arith)))
         (eq-or-lt-of-le b)
 

@@ -74,7 +74,7 @@ module _ (J : Job) (sets numbers : List ℕ) (frame : Frame) (described : Descri
       → has (unionOf (provided x) L) n ≡ true
   by-other n y m apart stop adds =
       let test : (eqb (y .stop) (x .stop) && not (eqb (y .number) number)) ≡ true =
-          and-both (eq-eqb (y .stop) (x .stop) (stop ∙ sym stops-now)) (ap not (ne-eqb (y .number) number apart)) in
+      and-both (eq-eqb (y .stop) (x .stop) (stop ∙ sym stops-now)) (ap not (ne-eqb (y .number) number apart)) in
       in-unionOf (provided x) n (m .1)
       (in-union-left (addedBeside x y) _ n (ap (λ (b : Bool). has (cond b (y .action .adds) 0) n) test ∙ adds))
 

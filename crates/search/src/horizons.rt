@@ -26,7 +26,13 @@ fn solve(sets: &[u64], numbers: &[u32], times: &[u32], file: &[u8], frame: Frame
     ensures { λ r. ⌜ Solves (now (file .entry)) (now (sets .entry)) (now (numbers .entry)) (now (times .entry)) frame r ⌝ }
 {
     let steps = Steps::none();
-    let at = minute::look(sets, numbers, frame.actions, steps, minute::wide(frame.horizon));
+    let at = minute::look(
+        sets,
+        numbers,
+        frame.actions,
+        steps,
+        minute::wide(frame.horizon),
+    );
     let st = State {
         steps: steps,
         minute: frame.horizon,
@@ -95,7 +101,15 @@ fn ascend(sets: &[u64], numbers: &[u32], times: &[u32], file: &[u8], frame: Fram
 }
 
 // Tries the horizon in the middle between the lower bound and the end of the plan.
-fn halve(sets: &[u64], numbers: &[u32], times: &[u32], file: &[u8], frame: Frame, low: u32, best: Answer) -> Rise
+fn halve(
+    sets: &[u64],
+    numbers: &[u32],
+    times: &[u32],
+    file: &[u8],
+    frame: Frame,
+    low: u32,
+    best: Answer,
+) -> Rise
     requires { ⌜ Whole (now sets) (now numbers) (now times) frame × (low < best .end) × (best .end ≤ frame .horizon)
         × (best .found ≡ true) ⌝ }
     ensures { λ r. ⌜ Narrows (now (file .entry)) (now (sets .entry)) (now (numbers .entry)) (now (times .entry)) frame low
@@ -124,7 +138,15 @@ fn halve(sets: &[u64], numbers: &[u32], times: &[u32], file: &[u8], frame: Frame
 }
 
 // The shortest plan, from a plan and a lower bound.
-fn descend(sets: &[u64], numbers: &[u32], times: &[u32], file: &[u8], frame: Frame, low: u32, best: Answer) -> Answer
+fn descend(
+    sets: &[u64],
+    numbers: &[u32],
+    times: &[u32],
+    file: &[u8],
+    frame: Frame,
+    low: u32,
+    best: Answer,
+) -> Answer
     requires { ⌜ Whole (now sets) (now numbers) (now times) frame × (best .end ≤ frame .horizon) × (best .found ≡ true) ⌝ }
     ensures { λ r. ⌜ Descends (now (file .entry)) (now (sets .entry)) (now (numbers .entry)) (now (times .entry)) frame low
         best r ⌝ }

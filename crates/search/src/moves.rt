@@ -84,7 +84,10 @@ fn gone(sets: &[u64], numbers: &[u32], actions: usize, steps: Steps, s: u32, t: 
     let mut set: u64 = 0;
     let mut k = 0;
     while k < steps.count {
-        set = facts::union(gone_of(sets, numbers, steps.numbers[k], steps.starts[k], s, t), set);
+        set = facts::union(
+            gone_of(sets, numbers, steps.numbers[k], steps.starts[k], s, t),
+            set,
+        );
         k += 1;
     }
     set
@@ -101,7 +104,14 @@ pub fn back(sets: &[u64], numbers: &[u32], frame: Frame, st: State) -> State
     let s = event(steps, frame.first, st.minute);
     let minute = minute::wide(s);
     let at = minute::look(sets, numbers, frame.actions, steps, minute);
-    let added = gone(sets, numbers, frame.actions, steps, minute, minute::wide(st.minute));
+    let added = gone(
+        sets,
+        numbers,
+        frame.actions,
+        steps,
+        minute,
+        minute::wide(st.minute),
+    );
     State {
         steps: steps,
         minute: s,

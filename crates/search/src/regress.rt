@@ -15,7 +15,15 @@ use leaf::Answer;
 use tables::Frame;
 
 // With action i stopping at the state's minute.
-fn attempt(sets: &[u64], numbers: &[u32], times: &[u32], file: &[u8], frame: Frame, st: State, i: u8) -> Answer
+fn attempt(
+    sets: &[u64],
+    numbers: &[u32],
+    times: &[u32],
+    file: &[u8],
+    frame: Frame,
+    st: State,
+    i: u8,
+) -> Answer
     requires { ⌜ Ready (now sets) (now numbers) (now times) frame st × (i < frame .actions)
         × MayStop (now sets) (now numbers) frame st i true × (frame .first < st .minute) ⌝ }
     ensures { λ r. ⌜ Answered (now (file .entry)) frame
@@ -35,7 +43,15 @@ fn attempt(sets: &[u64], numbers: &[u32], times: &[u32], file: &[u8], frame: Fra
 
 // Decides for the actions from i on which stop at the state's minute, one after the other; then goes back to the event
 // before.
-fn choose(sets: &[u64], numbers: &[u32], times: &[u32], file: &[u8], frame: Frame, st: State, i: u8) -> Answer
+fn choose(
+    sets: &[u64],
+    numbers: &[u32],
+    times: &[u32],
+    file: &[u8],
+    frame: Frame,
+    st: State,
+    i: u8,
+) -> Answer
     requires { ⌜ Ready (now sets) (now numbers) (now times) frame st × (i ≤ frame .actions)
         × (frame .first < st .minute) ⌝ }
     ensures { λ r. ⌜ Answered (now (file .entry)) frame
@@ -51,11 +67,25 @@ fn choose(sets: &[u64], numbers: &[u32], times: &[u32], file: &[u8], frame: Fram
         }
         k = rules::next_action(sets, numbers, frame, st, k + 1);
     }
-    regress(sets, numbers, times, file, frame, moves::back(sets, numbers, frame, st))
+    regress(
+        sets,
+        numbers,
+        times,
+        file,
+        frame,
+        moves::back(sets, numbers, frame, st),
+    )
 }
 
 // Goes on from a state, whose minute is an event: with fewer minutes left at each call.
-pub fn regress(sets: &[u64], numbers: &[u32], times: &[u32], file: &[u8], frame: Frame, st: State) -> Answer
+pub fn regress(
+    sets: &[u64],
+    numbers: &[u32],
+    times: &[u32],
+    file: &[u8],
+    frame: Frame,
+    st: State,
+) -> Answer
     requires { ⌜ Ready (now sets) (now numbers) (now times) frame st ⌝ }
     ensures { λ r. ⌜ Answered (now (file .entry)) frame
         (NoneFrom (now (file .entry)) (now (sets .entry)) (now (numbers .entry)) (now (times .entry)) frame st

@@ -19,7 +19,10 @@ fn adds_alone(sets: &[u64], i: u8, provided: u64, wanted: u64) -> bool
     requires { ⌜ (length (now sets) ≡ 256) × (i < 64) ⌝ }
     ensures { λ r. ⌜ r ≡ meets (difference (addsAt (now (sets .entry)) i) provided) wanted ⌝ }
 {
-    facts::meets(facts::difference(sets[i as usize * 4 + 1], provided), wanted)
+    facts::meets(
+        facts::difference(sets[i as usize * 4 + 1], provided),
+        wanted,
+    )
 }
 
 // Whether each step that stops now adds a wanted fact that no other step provides.
@@ -58,14 +61,26 @@ fn needs_at(sets: &[u64], numbers: &[u32], actions: usize, steps: Steps, t: u32)
     let mut set: u64 = 0;
     let mut k = 0;
     while k < steps.count {
-        set = facts::union(need_of(sets, numbers, steps.numbers[k], steps.starts[k], t), set);
+        set = facts::union(
+            need_of(sets, numbers, steps.numbers[k], steps.starts[k], t),
+            set,
+        );
         k += 1;
     }
     set
 }
 
 // Whether what the steps that run at a start between two minutes need can be there by then.
-fn reached(sets: &[u64], numbers: &[u32], times: &[u32], frame: Frame, steps: Steps, start: u32, from: u32, until: u32) -> bool
+fn reached(
+    sets: &[u64],
+    numbers: &[u32],
+    times: &[u32],
+    frame: Frame,
+    steps: Steps,
+    start: u32,
+    from: u32,
+    until: u32,
+) -> bool
     requires { ⌜ Lent (now sets) (now numbers) (frame .actions) × Known (frame .actions) steps
         × (length (now times) ≡ 2080) × (frame .facts ≤ 64) ⌝ }
     ensures { λ r. ⌜ DeadUnlessReached (now (sets .entry)) (now (numbers .entry)) (now (times .entry)) frame steps r ⌝ }
@@ -81,7 +96,14 @@ fn reached(sets: &[u64], numbers: &[u32], times: &[u32], frame: Frame, steps: St
 }
 
 // Whether that is so at the start of each chosen step from a minute on.
-pub fn all_reached(sets: &[u64], numbers: &[u32], times: &[u32], frame: Frame, st: State, from: u16) -> bool
+pub fn all_reached(
+    sets: &[u64],
+    numbers: &[u32],
+    times: &[u32],
+    frame: Frame,
+    st: State,
+    from: u16,
+) -> bool
     requires { ⌜ Lent (now sets) (now numbers) (frame .actions) × Known (frame .actions) (st .steps)
         × (length (now times) ≡ 2080) × (frame .facts ≤ 64) ⌝ }
     ensures { λ r. ⌜ DeadUnlessTimely (now (sets .entry)) (now (numbers .entry)) (now (times .entry)) frame st r ⌝ }

@@ -93,10 +93,12 @@ loop-again c =
     let c-solve = c .before .before .before .before .solve in
     let c-if2 = c .before .before .before .if2 in
     let inv = c-loop .inv in
-    let solves = solves-as _ _ _ _ _ _ _ (c-until .ensures) (c-solve .ensures) in
-    (c .before .next-horizon .ensures .1, c .longer .ensures,
-    raised-as _ _ _ _ _ _ _ _ (ap (λ (n : ℕ). n + 1) (sym (c .before .before .wide2 .ensures .0)))
-    (raised-past _ _ _ _ (c-args .frame) (c-loop .horizon) (inv .0) _ solves (c-if2 .left) (c-args .low)))
+    let solves = solves-as _ _ _ _ _ _ _ (c-until .ensures) (c-solve .ensures) in (
+      c .before .next-horizon .ensures .1,
+      c .longer .ensures,
+      raised-as _ _ _ _ _ _ _ _ (ap (λ (n : ℕ). n + 1) (sym (c .before .before .wide2 .ensures .0)))
+          (raised-past _ _ _ _ (c-args .frame) (c-loop .horizon) (inv .0) _ solves (c-if2 .left) (c-args .low)),
+    )
 
 solve-requires-2 : tie.Need-solve-requires-2 Inv-loop μ-loop
 solve-requires-2 c κs =

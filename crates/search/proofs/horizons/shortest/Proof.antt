@@ -104,12 +104,13 @@ returns-4 c =
     let small = c-if1 .left in
     let time = c-set-time .ensures in
     record {
-      found = λ e J task passed.
-          (down .found (up .found found) J task passed,
-          down .raised J task passed
-          (up .raised J task passed
-          (λ bytes accepted.
-          let bound = none-before-goal J _ _ _ _ (c-args .frame) task passed bytes accepted in omega arith)));
+      found = λ e J task passed. (
+        down .found (up .found found) J task passed,
+        down .raised J task passed
+            (up .raised J task passed
+            (λ bytes accepted.
+            let bound = none-before-goal J _ _ _ _ (c-args .frame) task passed bytes accepted in omega arith)),
+      );
       none = λ e. absurd (true≢false (sym (down .still) ∙ e));
     }
 

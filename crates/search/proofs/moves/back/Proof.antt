@@ -57,17 +57,21 @@ returns c =
     let c-gone = c .before .before .gone in
     let at = c-args in
     let event = c-event .ensures in
-    let s = c-wide .ensures .0 in
-    (record {
-      steps = refl;
-      minute = refl;
-      gone = c-gone .result;
-      isGone = gone-as _ _ _ (at .st .steps) _ _ _ _ _ s (c-wide2 .ensures .0) (c-gone .ensures);
-      wanted = c .union .ensures .0 ∙ ap (λ (set : ℕ). union set (c-look .result .needed)) (c .before .difference .ensures .0);
-      at = looks-as _ _ _ (at .st .steps) _ _ _ s (c-look .ensures);
-      twice = refl;
-      since = refl;
-    }, event .0, event .1, event .2)
+    let s = c-wide .ensures .0 in (
+      record {
+        steps = refl;
+        minute = refl;
+        gone = c-gone .result;
+        isGone = gone-as _ _ _ (at .st .steps) _ _ _ _ _ s (c-wide2 .ensures .0) (c-gone .ensures);
+        wanted = c .union .ensures .0 ∙ ap (λ (set : ℕ). union set (c-look .result .needed)) (c .before .difference .ensures .0);
+        at = looks-as _ _ _ (at .st .steps) _ _ _ s (c-look .ensures);
+        twice = refl;
+        since = refl;
+      },
+      event .0,
+      event .1,
+      event .2,
+    )
 
 pub back-spec : {M : Type 1} → statement M
 back-spec =

@@ -42,12 +42,16 @@ loop-again c =
     let i1 = inv .1 in
     let r = c .later-start .ensures in
     let r0 = r .0 in
-    let r1 = r .1 in
-    (omega arith, omega arith, r1, λ j l a b.
-    ⊎-elim
-    (λ here. let same : j ≡ c-loop .k = omega arith in let b′ = rw same at b in let a′ = rw same at a in let m = r .2 b′ in omega arith)
-    (λ before. inv .3 j before (omega arith) b)
-    (le-or-lt (c-loop .k) j))
+    let r1 = r .1 in (
+      omega arith,
+      omega arith,
+      r1,
+      λ j l a b.
+          ⊎-elim
+          (λ here. let same : j ≡ c-loop .k = omega arith in let b′ = rw same at b in let a′ = rw same at a in let m = r .2 b′ in omega arith)
+          (λ before. inv .3 j before (omega arith) b)
+          (le-or-lt (c-loop .k) j),
+    )
 
 returns : tie.Need-returns Inv-loop μ-loop
 returns c =

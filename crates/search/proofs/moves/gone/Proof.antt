@@ -58,9 +58,11 @@ loop-again c =
     let c-loop = c .before .before .before .before .before .loop in
     let c-loop-test = c .before .before .before .before .loop-test in
     let next : c-loop .k + 1 ≡ suc (c-loop .k) = omega arith in
-    let below = c-pre .1 .known (c-loop .k) (c-loop-test .taken) in
-    (omega arith, λ J described.
-    rw next (c .union .ensures .0 ∙ ap₂ union (c .before .gone-of .ensures J (described _ below)) (c-loop .inv .1 J described)))
+    let below = c-pre .1 .known (c-loop .k) (c-loop-test .taken) in (
+      omega arith,
+      λ J described.
+          rw next (c .union .ensures .0 ∙ ap₂ union (c .before .gone-of .ensures J (described _ below)) (c-loop .inv .1 J described)),
+    )
 
 returns : tie.Need-returns Inv-loop μ-loop
 returns c =

@@ -359,9 +359,13 @@ choose-loop-holds : (t : ℕ) → choose-lts.Need-loop-holds (
 ) (choose-at t) choose.Post choose-Inv-loop choose-μ-loop
 choose-loop-holds t c =
     let c-args = c .before .before .before .before .before .args in
-    let next = c .next-action .ensures in
-    (next .onward, next .within, next .may, λ J task stands dead.
-    dead-past-barred J (c-args .frame) (c-args .st) _ _ (next .onward) (λ j a b. next .barred j a b J (task .described) stands) dead)
+    let next = c .next-action .ensures in (
+      next .onward,
+      next .within,
+      next .may,
+      λ J task stands dead.
+          dead-past-barred J (c-args .frame) (c-args .st) _ _ (next .onward) (λ j a b. next .barred j a b J (task .described) stands) dead,
+    )
 
 choose-cast-if1 : (t : ℕ) → choose-lts.Need-cast-if1 (
   next-action-reads.Asked,
@@ -466,11 +470,15 @@ choose-loop-again t c =
     let inv = c-loop .inv in
     let onward = inv .0 in
     let next = c .next-action2 .ensures in
-    let further = next .onward in
-    (omega arith, next .within, next .may, λ J task stands dead.
-    inv .3 J task stands
-    (dead-from J (c-args .frame) (c-args .st) _ (c .before .before .attempt .ensures .dead (c .before .if2 .left) J task stands)
-    (dead-past-barred J (c-args .frame) (c-args .st) _ _ (next .onward) (λ j a b. next .barred j a b J (task .described) stands) dead)))
+    let further = next .onward in (
+      omega arith,
+      next .within,
+      next .may,
+      λ J task stands dead.
+          inv .3 J task stands
+          (dead-from J (c-args .frame) (c-args .st) _ (c .before .before .attempt .ensures .dead (c .before .if2 .left) J task stands)
+          (dead-past-barred J (c-args .frame) (c-args .st) _ _ (next .onward) (λ j a b. next .barred j a b J (task .described) stands) dead)),
+    )
 
 choose-back-requires : (t : ℕ) → choose-lts.Need-back-requires (
   next-action-reads.Asked,

@@ -73,7 +73,7 @@ returns-4 c =
     let h = c-pre in
     let at = c-args in
     let room = ap (exceedsPools J (chosen J (at .st .steps)) (at .i)) (sym (c .before .wide .ensures .0))
-        ∙ sym (c .exceeds-pools .ensures (at .sets .now) J described) ∙ not-true (c .exceeds-pools .result) e in
+    ∙ sym (c .exceeds-pools .ensures (at .sets .now) J described) ∙ not-true (c .exceeds-pools .result) e in
     barred-when-free J (at .sets .now) _ (at .frame) described (at .st) (h .0 .known) stands (at .i) (h .1) fits
     (sym (c-meets .ensures .0) ∙ c-if2 .left) (sym (c-meets2 .ensures .0) ∙ c .before .before .if3 .left) (omega arith) room
 

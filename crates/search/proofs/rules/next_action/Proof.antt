@@ -46,10 +46,13 @@ loop-again : tie.Need-loop-again Inv-loop μ-loop
 loop-again c =
     let c-loop = c .before .before .before .before .loop in
     let inv = c-loop .inv in
-    let k = c-loop .k in
-    (omega arith, omega arith, λ a l m.
-    ⊎-elim (λ b. let same : a ≡ k = omega arith in rw same (c .before .may-stop .ensures .barred (c .if2 .left))) (λ b. inv .2 a l b)
-    (le-or-lt k a))
+    let k = c-loop .k in (
+      omega arith,
+      omega arith,
+      λ a l m.
+          ⊎-elim (λ b. let same : a ≡ k = omega arith in rw same (c .before .may-stop .ensures .barred (c .if2 .left))) (λ b. inv .2 a l b)
+          (le-or-lt k a),
+    )
 
 returns-2 : tie.Need-returns-2 Inv-loop μ-loop
 returns-2 c =

@@ -108,7 +108,7 @@ returns-3 c =
     let at = c-args in
     let apart = sym (c-meets2 .ensures .0) ∙ c-if2 .left in
     let given : c-union2 .result ≡ union (union (at .st .at .held) (at .st .at .added)) (needsAt (at .sets .now) (at .i)) =
-        c-union2 .ensures .0 ∙ ap (λ (s : ℕ). union s (needsAt (at .sets .now) (at .i))) (c-union .ensures .0) in
+    c-union2 .ensures .0 ∙ ap (λ (s : ℕ). union s (needsAt (at .sets .now) (at .i))) (c-union .ensures .0) in
     let rest = c .before .before .difference .ensures .0 ∙ ap (difference (addsAt (at .sets .now) (at .i))) given in
     let none = ap (λ (s : ℕ). meets s (at .st .wanted)) (sym rest) ∙ sym (c-meets3 .ensures .0) ∙ not-true (c-meets3 .result) (c .if3 .taken) in
     record {

@@ -45,7 +45,7 @@ returns c =
     let at = c-args in
     let i = getD (at .st .steps .numbers) (c-loop .k) 0 in
     let none = ap (λ (set : ℕ). meets (difference (addsAt (at .sets .now) i) set) (at .st .wanted)) (sym (c-union .ensures .0))
-        ∙ sym (c-adds-alone .ensures) ∙ not-true (c-adds-alone .result) (c .if1 .taken) in
+    ∙ sym (c-adds-alone .ensures) ∙ not-true (c-adds-alone .result) (c .if1 .taken) in
     dead-when-adding-nothing-alone J (at .sets .now) numbers frame described (at .st) known-steps stands (c-loop .k) (c-loop .inv .0) (c-loop-test .taken) none
 
 add-k : tie.Need-add-k Inv-loop μ-loop

@@ -1,0 +1,82 @@
+-- `plan` meets its contract: four ways out.
+-- Assumes nothing.
+use mathlib.Core.Path.{sym, _∙_}
+use borrow.Author.Tests.{not-true, not-false}
+use Rattle.job.specs.Job.{jobIn}
+use Rattle.planner.proofs.Solving.{plans-refused, plans-short, plans-none, plans-found}
+use borrow.Author.Needs.{needs}
+use Rattle.planner.proofs.plan.Statement.{statement}
+use Rattle.planner.proofs.plan.Tie as tie
+
+validate-requires : tie.Need-validate-requires
+validate-requires c κs = search needs
+
+enum-known-verdict : tie.Need-enum-known-verdict
+enum-known-verdict c = search needs
+
+returns : tie.Need-returns
+returns c =
+    let c-args = c .before .before .before .before .before .args in
+    let c-validate = c .before .before .before .validate in
+    plans-refused (jobIn (c-args .job)) (c-args .out .now) _ (sym (c-validate .ensures) ∙ c .before .verdict .given .1)
+
+enum-told : tie.Need-enum-told
+enum-told c = search needs
+
+returns-2 : tie.Need-returns-2
+returns-2 c =
+    let c-args = c .before .before .before .before .before .args in
+    let c-validate = c .before .before .before .validate in
+    let pass = sym (c-validate .ensures) ∙ c .before .enum-told .given .1 in
+    plans-short (jobIn (c-args .job)) (c-args .out .now) pass (c .if1 .taken)
+
+solve-requires : tie.Need-solve-requires
+solve-requires c κs = sym (c .before .before .before .validate .ensures) ∙ c .before .enum-told .given .1
+
+returns-3 : tie.Need-returns-3
+returns-3 c =
+    let c-args = c .before .before .before .before .before .before .before .args in
+    let c-validate = c .before .before .before .before .before .validate in
+    let c-enum-told = c .before .before .before .enum-told in
+    let c-solve = c .before .solve in
+    let pass = sym (c-validate .ensures) ∙ c-enum-told .given .1 in
+    plans-none (jobIn (c-args .job)) (c-args .out .now) pass (c .before .before .if1 .left) (c-solve .result) (c-solve .ensures)
+    (not-true (c-solve .result .found) (c .if2 .taken))
+
+copy-plan-requires : tie.Need-copy-plan-requires
+copy-plan-requires c κs =
+    let c-if1 = c .before .before .before .if1 in
+    let c-solve = c .before .before .solve in
+    let found = c-solve .ensures .found (not-false (c-solve .result .found) (c .before .if2 .left)) in
+    (found .0 .few, found .0 .whole, c-if1 .left)
+
+same-length : tie.Need-same-length
+same-length c = search needs
+
+returns-4 : tie.Need-returns-4
+returns-4 c =
+    let at8 = c .before .before .before .before .before .before .before .before in
+    let c-args = at8 .before .before .before .args in
+    let c-validate = at8 .before .validate in
+    let c-enum-told = c .before .before .before .before .before .before .before .enum-told in
+    let c-if1 = c .before .before .before .before .before .before .if1 in
+    let c-solve = c .before .before .before .before .before .solve in
+    let c-if2 = c .before .before .before .before .if2 in
+    let pass = sym (c-validate .ensures) ∙ c-enum-told .given .1 in
+    plans-found (jobIn (c-args .job)) (c-args .out .now) pass (c-if1 .left) (c-solve .result) (c-solve .ensures)
+    (not-false (c-solve .result .found) (c-if2 .left)) _ (c .before .before .copy-plan .ensures)
+
+pub plan-spec : {M : Type 1} → statement M
+plan-spec =
+    tie.close
+    (tie.spec
+    validate-requires
+    enum-known-verdict
+    returns
+    enum-told
+    returns-2
+    solve-requires
+    returns-3
+    copy-plan-requires
+    same-length
+    returns-4)
