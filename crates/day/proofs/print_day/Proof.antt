@@ -1,0 +1,71 @@
+-- `print_day` is safe: a plan that is handed out has at most 32 steps.
+-- Assumes nothing.
+use lib.ListN.{replicate}
+use Rattle.job.specs.Job.{jobIn}
+use Rattle.planner.proofs.Shortest.{plan-is-shortest}
+use borrow.Author.Needs.{needs}
+use Rattle.day.proofs.print_day.Statement.{statement}
+use Rattle.day.proofs.print_day.Tie as tie
+
+slice-aggregate-plan : tie.Need-slice-aggregate-plan
+slice-aggregate-plan c = search needs
+
+plan-requires : tie.Need-plan-requires
+plan-requires c κs = search needs
+
+enum-known-planned : tie.Need-enum-known-planned
+enum-known-planned c = search needs
+
+slice-aggregate-print-line : tie.Need-slice-aggregate-print-line
+slice-aggregate-print-line c = search needs
+
+cast-print-line : tie.Need-cast-print-line
+cast-print-line c = search needs
+
+print-line-requires : tie.Need-print-line-requires
+print-line-requires c κs = search needs
+
+slice-aggregate-print-line-2 : tie.Need-slice-aggregate-print-line-2
+slice-aggregate-print-line-2 c = search needs
+
+print-line-requires-2 : tie.Need-print-line-requires-2
+print-line-requires-2 c κs = search needs
+
+print-steps-requires : tie.Need-print-steps-requires
+print-steps-requires c κs =
+    let at8 = c .before .before .before .before .before .before .before .before in
+    let c-args = at8 .before .before .args in
+    let c-plan2 = c .before .before .before .before .before .before .before .before .plan2 in
+    let c-planned = c .before .before .before .before .before .planned in
+    plan-is-shortest (jobIn (c-args .job)) (replicate 96 0) (c-plan2 .result) _ (c-plan2 .ensures) _ _
+    (c-planned .given .1) .1
+
+enum-known-planned-2 : tie.Need-enum-known-planned-2
+enum-known-planned-2 c = search needs
+
+print-refusal-requires : tie.Need-print-refusal-requires
+print-refusal-requires c κs = search needs
+
+returns : tie.Need-returns
+returns c = search needs
+
+returns-2 : tie.Need-returns-2
+returns-2 c = search needs
+
+pub print-day-spec : {M : Type 1} → statement M
+print-day-spec =
+    tie.close
+    (tie.spec
+    slice-aggregate-plan
+    plan-requires
+    enum-known-planned
+    slice-aggregate-print-line
+    cast-print-line
+    print-line-requires
+    slice-aggregate-print-line-2
+    print-line-requires-2
+    print-steps-requires
+    enum-known-planned-2
+    print-refusal-requires
+    returns
+    returns-2)
