@@ -20,9 +20,9 @@ use Rattle.times.specs.Numbers.{tableIn}
 use Rattle.earliest.specs.declared.EarliestTime.{EarliestTime}
 use Rattle.earliest.specs.declared.EarliestTime.the-variants as answer
 use Rattle.earliest.specs.Answer.{earliestRows, answerOf, AnswersBy, Answers}
-use Rattle.earliest.specs.Numbers.{setNumber}
+use Rattle.earliest.specs.Numbers.{setNumber, SameTime}
 use Rattle.earliest.specs.Sweep.{Filled}
-use Rattle.earliest.proofs.SetTimes.{time-of-set}
+use Rattle.earliest.proofs.SetTimes.{time-of-set, same-time}
 
 module _ (J : Job) (set : ℕ) where
   abbrev last : List Row
@@ -44,11 +44,11 @@ module _ (J : Job) (set : ℕ) where
       (answer.Refused ForeignAskedFact) refl
 
   pub answers-time : first (jobRows J) ≡ Pass → foreign (J .facts) set ≡ false → (xs : List ℕ) → Filled J xs
-      → (n : ℕ) → n ≡ setNumber xs set (J .facts) → (r : EarliestTime)
+      → (n : ℕ) → SameTime n (setNumber xs set (J .facts)) → (r : EarliestTime)
       → r ≡ answerOf (cond (ltb 530400 n) unreachable (at n)) → Answers J set r
   answers-time e f xs filled n g r h =
       let time : timeOf J (tableIn xs) set ≡ cond (ltb 530400 n) unreachable (at n) =
-      time-of-set J xs (filled .able) set ∙ ap (λ m. cond (ltb 530400 m) unreachable (at m)) (sym g) in
+      time-of-set J xs (filled .able) set ∙ sym (same-time n (setNumber xs set (J .facts)) g) in
       answers-by Pass
       (first-append-pass (jobRows J) last e ∙ first-next ForeignAskedFact (foreign (J .facts) set) [] f ∙ first-none) r
       (tableIn xs, filled .solves, h ∙ ap answerOf (sym time))

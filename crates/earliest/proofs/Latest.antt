@@ -3,11 +3,11 @@
 use Prim.Native.Nat.{ℕ, zero, suc, _+_, _-_, _≤_, _<_, min, max}
 use mathlib.Core.Path.{_≡_, refl, sym, ap, _∙_}
 use mathlib.Core.Bool.{Bool, true, false, cond}
-use mathlib.Core.Logic.{⊎-elim}
+use mathlib.Core.Logic.{inr, ⊎-elim}
 use native.Mathlib.Nat.{eq-or-lt-of-le}
 use native.Mathlib.Omega.{arith}
 use Rattle.facts.specs.FactSet.{has, NextFact}
-use Rattle.earliest.specs.Numbers.{latest}
+use Rattle.earliest.specs.Numbers.{latest, SameTime}
 
 module _ (set : ℕ) (f : ℕ → ℕ) where
   pub latest-first : latest set f 0 ≡ 0
@@ -42,31 +42,6 @@ module _ (set : ℕ) (f : ℕ → ℕ) where
       let e : n + 1 ≡ suc n = omega arith in
       latest-to-next (n + 1) r m next (omega arith) u ∙ ap (latest set f) e ∙ latest-at-member n h
 
--- ---- a loop over the facts of the set below a bound
-module _ (set : ℕ) (f : ℕ → ℕ) (bound : ℕ) where
-  -- n is a fact of the set or 64, and x the largest number of the facts below n
-  abbrev pub Counted : ℕ → ℕ → Type 0
-  Counted n x = (n ≤ 64) × (n < 64 → has set n ≡ true) × (x ≡ latest set f (min n bound))
-
-  pub counted-at-first : (r : ℕ) → NextFact set 0 r → Counted r 0
-  counted-at-first r next = (
-    next .within,
-    next .found,
-    sym (latest-to-next set f 0 r (min r bound) next (omega arith) (omega arith) ∙ latest-first set f),
-  )
-
-  pub counted-on : (n x r : ℕ) → Counted n x → n < bound → n < 64 → NextFact set (n + 1) r → Counted r (max x (f n))
-  counted-on n x r c l k next =
-      let here : min n bound ≡ n = omega arith in
-      let onward = next .onward (omega arith) in (
-        next .within,
-        next .found,
-        rw (c .2, here) (sym (latest-on set f n r (min r bound) (c .1 k) next (omega arith) (omega arith))),
-      )
-
-  pub counted-all : (n x : ℕ) → Counted n x → bound ≤ n → x ≡ latest set f bound
-  counted-all n x c l = let e : min n bound ≡ bound = omega arith in c .2 ∙ ap (latest set f) e
-
 -- ---- bounds
 module _ (set : ℕ) (f : ℕ → ℕ) where
   pub latest-at-most : (n t : ℕ) → ((k : ℕ) → k < n → has set k ≡ true → f k ≤ t) → latest set f n ≤ t
@@ -93,3 +68,44 @@ module _ (set : ℕ) (f : ℕ → ℕ) where
       omega arith)
       (λ m. let rest = member-at-most-latest n k (omega arith) h in omega arith)
       (eq-or-lt-of-le l)
+
+  pub latest-grows : (m n : ℕ) → m ≤ n → latest set f m ≤ latest set f n
+  latest-grows m n l = latest-at-most m (latest set f n) (λ k b h. member-at-most-latest n k (omega arith) h)
+
+-- ---- a loop over the facts of the set below a bound
+module _ (set : ℕ) (f : ℕ → ℕ) (bound : ℕ) where
+  -- n is a fact of the set or 64, and x the largest number of the facts below n
+  abbrev pub Counted : ℕ → ℕ → Type 0
+  Counted n x = (n ≤ 64) × (n < 64 → has set n ≡ true) × (x ≡ latest set f (min n bound))
+
+  pub counted-at-first : (r : ℕ) → NextFact set 0 r → Counted r 0
+  counted-at-first r next = (
+    next .within,
+    next .found,
+    sym (latest-to-next set f 0 r (min r bound) next (omega arith) (omega arith) ∙ latest-first set f),
+  )
+
+  -- a finite number more
+  pub counted-on : (n x v y r : ℕ) → Counted n x → n < bound → n < 64 → SameTime v (f n) → y ≡ max x v → y ≤ 530400
+      → NextFact set (n + 1) r → Counted r y
+  counted-on n x v y r c l k time e finite next =
+      let here : min n bound ≡ n = omega arith in
+      let onward = next .onward (omega arith) in
+      let value : v ≡ f n = ⊎-elim (λ same. same) (λ both. let late = both .0 in absurd (omega arith)) time in (
+        next .within,
+        next .found,
+        e ∙ rw (value, c .2, here)
+            (sym (latest-on set f n r (min r bound) (c .1 k) next (omega arith) (omega arith))),
+      )
+
+  -- a number later than any finite time: so is the largest
+  pub counted-late : (n x v y : ℕ) → Counted n x → n < bound → n < 64 → SameTime v (f n) → y ≡ max x v → 530400 < y
+      → SameTime y (latest set f bound)
+  counted-late n x v y c l k time e late =
+      let before = c .2 in
+      let grown = latest-grows set f (min n bound) bound (omega arith) in
+      let member = member-at-most-latest set f bound n l (c .1 k) in
+      inr (late, ⊎-elim (λ same. omega arith) (λ both. let m = both .1 in omega arith) time)
+
+  pub counted-all : (n x : ℕ) → Counted n x → bound ≤ n → x ≡ latest set f bound
+  counted-all n x c l = let e : min n bound ≡ bound = omega arith in c .2 ∙ ap (latest set f) e

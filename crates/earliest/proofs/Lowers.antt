@@ -10,11 +10,12 @@ use Rattle.job.specs.declared.Action as value
 use Rattle.job.specs.declared.Counts.{Counts}
 use Rattle.job.specs.Job.{Action, Job, actionIn}
 use Rattle.times.specs.Earliest.{actionOf, fitsAlone}
-use Rattle.earliest.specs.Numbers.{setNumber, afterNumber}
+use Rattle.earliest.specs.Numbers.{setNumber, afterNumber, SameTime}
 use Rattle.earliest.specs.Lowering.{LowersRow, LowersAll}
 use Rattle.earliest.specs.Sweep.{endNumber, bothEndNumber, mayJoin, IsAction}
 use Rattle.earliest.specs.Sweep.{BothSettled, CarriedSettled, PairSettled}
 use Rattle.earliest.specs.Sweep.{LowersBoth, LowersCarried, LowersPair}
+use Rattle.earliest.proofs.SetTimes.{same-after, same-time-as}
 use Rattle.earliest.proofs.LoweringLaws.{lowering-none, lowering-weaker}
 use Rattle.earliest.proofs.ChoiceLaws.{both-offered, carried-offered, pair-offered}
 
@@ -28,10 +29,10 @@ all-as xs ys r facts facts′ set set′ other other′ t t′ e f g h l = rw (�
 
 -- the end computed from the value is the end of the action
 end-of-value : (J : Job) (facts i : ℕ) (n : Counts) (action : value.Action) (xs : List ℕ) (set ready time : ℕ)
-    → IsAction J facts i n action → ready ≡ setNumber xs set facts → time ≡ afterNumber (action .duration) ready
+    → IsAction J facts i n action → SameTime ready (setNumber xs set facts) → time ≡ afterNumber (action .duration) ready
     → time ≡ endNumber J xs (actionOf J i) set
 end-of-value J facts i n action xs set ready time is e f =
-    rw (is .same, is .sameFacts) (f ∙ ap (afterNumber (action .duration)) e)
+    rw (is .same, is .sameFacts) (f ∙ same-after ready (setNumber xs set facts) e (action .duration))
 
 -- the duration of a value is a byte
 byte-duration : (J : Job) (facts i : ℕ) (n : Counts) (action : value.Action) → IsAction J facts i n action
@@ -48,7 +49,7 @@ carries-nothing facts xs action q touched J i n able is fits here =
 
 module _ (facts : ℕ) (xs ys : List ℕ) (r : Bool) where
   -- (i)
-  pub both-lowers : (action : value.Action) (ready time : ℕ) → ready ≡ setNumber xs (action .needs) facts
+  pub both-lowers : (action : value.Action) (ready time : ℕ) → SameTime ready (setNumber xs (action .needs) facts)
       → time ≡ afterNumber (action .duration) ready → action .duration < 256
       → LowersAll facts xs ys (action .adds) (action .adds) time r → LowersBoth facts action xs ys r
   both-lowers action ready time e f byte lowers J i n able is fits =
@@ -56,7 +57,7 @@ module _ (facts : ℕ) (xs ys : List ℕ) (r : Bool) where
       let needs : action .needs ≡ actionOf J i .needs = ap (λ (a : Action). a .needs) (sym (is .same)) in
       let adds : action .adds ≡ actionOf J i .adds = ap (λ (a : Action). a .adds) (sym (is .same)) in
       let ends = end-of-value J facts i n action xs (actionOf J i .needs) ready time is
-      (e ∙ ap (λ (set : ℕ). setNumber xs set facts) needs) f in
+      (same-time-as xs facts _ _ ready needs e) f in
       lowering-weaker J _ (BothSettled J i) xs ys r
       (all-as xs ys r _ _ _ _ _ _ _ _ (sym (is .sameFacts)) adds adds ends lowers J able refl
       (both-offered J xs able i (is .known) fits short))
@@ -65,14 +66,14 @@ module _ (facts : ℕ) (xs ys : List ℕ) (r : Bool) where
   -- (ii)
   pub carried-lowers : (action : value.Action) (q ready time : ℕ)
       → has (union (action .adds) (action .deletes)) q ≡ false
-      → ready ≡ setNumber xs (union (action .needs) (single q)) facts → time ≡ afterNumber (action .duration) ready
+      → SameTime ready (setNumber xs (union (action .needs) (single q)) facts) → time ≡ afterNumber (action .duration) ready
       → action .duration < 256 → LowersRow facts xs ys q (action .adds) time r → LowersCarried facts action q xs ys r
   carried-lowers action q ready time untouched e f byte lowers J i n able is fits here =
       let needs : action .needs ≡ actionOf J i .needs = ap (λ (a : Action). a .needs) (sym (is .same)) in
       let adds : action .adds ≡ actionOf J i .adds = ap (λ (a : Action). a .adds) (sym (is .same)) in
       let deletes : action .deletes ≡ actionOf J i .deletes = ap (λ (a : Action). a .deletes) (sym (is .same)) in
       let ends = end-of-value J facts i n action xs (union (actionOf J i .needs) (single q)) ready time is
-      (e ∙ ap (λ (set : ℕ). setNumber xs (union set (single q)) facts) needs) f in
+      (same-time-as xs facts _ _ ready (ap (λ (set : ℕ). union set (single q)) needs) e) f in
       lowering-weaker J _ (CarriedSettled J i q) xs ys r
       (row-as xs ys q r _ _ _ _ _ _ (sym (is .sameFacts)) adds ends lowers J able refl (rw (is .sameFacts) here)
       (carried-offered J xs able i q (is .known) fits (byte-duration J facts i n action is byte)
@@ -81,7 +82,8 @@ module _ (facts : ℕ) (xs ys : List ℕ) (r : Bool) where
 
   -- (iii)
   pub pair-lowers : (a b : value.Action) (ready bothReady first second time : ℕ)
-      → ready ≡ setNumber xs (a .needs) facts → bothReady ≡ setNumber xs (union (a .needs) (b .needs)) facts
+      → SameTime ready (setNumber xs (a .needs) facts)
+      → SameTime bothReady (setNumber xs (union (a .needs) (b .needs)) facts)
       → first ≡ afterNumber (a .duration) ready → second ≡ afterNumber (b .duration) bothReady → time ≡ max first second
       → a .duration < 256 → LowersAll facts xs ys (a .adds) (b .adds) time r → LowersPair facts a b xs ys r
   pair-lowers a b ready bothReady first second time e f g h k byte lowers J i j n able is-a is-b joined =
@@ -90,9 +92,9 @@ module _ (facts : ℕ) (xs ys : List ℕ) (r : Bool) where
       let adds-a : a .adds ≡ actionOf J i .adds = ap (λ (a : Action). a .adds) (sym (is-a .same)) in
       let adds-b : b .adds ≡ actionOf J j .adds = ap (λ (a : Action). a .adds) (sym (is-b .same)) in
       let ends-a = end-of-value J facts i n a xs (actionOf J i .needs) ready first is-a
-      (e ∙ ap (λ (set : ℕ). setNumber xs set facts) needs-a) g in
+      (same-time-as xs facts _ _ ready needs-a e) g in
       let ends-b = end-of-value J facts j n b xs (union (actionOf J i .needs) (actionOf J j .needs)) bothReady second is-b
-      (f ∙ ap₂ (λ (x y : ℕ). setNumber xs (union x y) facts) needs-a needs-b) h in
+      (same-time-as xs facts _ _ bothReady (ap₂ union needs-a needs-b) f) h in
       let ends : time ≡ bothEndNumber J xs (actionOf J i) (actionOf J j) = k ∙ ap₂ max ends-a ends-b in
       lowering-weaker J _ (PairSettled J i j) xs ys r
       (all-as xs ys r _ _ _ _ _ _ _ _ (sym (is-a .sameFacts)) adds-a adds-b ends lowers J able refl

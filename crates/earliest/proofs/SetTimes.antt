@@ -1,7 +1,7 @@
 -- The number of a set's time stands for it, and for the end of an action that starts then.
 -- Assumes nothing.
 use Prim.Native.Nat.{ℕ, suc, _+_, _*_, _≤_, _<_}
-use mathlib.Core.Path.{_≡_, refl}
+use mathlib.Core.Path.{_≡_, refl, ap}
 use mathlib.Core.Bool.{Bool, true, false, cond}
 use mathlib.Core.Logic.{⊎-elim}
 use mathlib.Core.List.{List}
@@ -21,7 +21,7 @@ use Rattle.times.proofs.Times.{By, by-ext, by-timeOf, timeOf-by, by-later-minut
 use Rattle.times.proofs.Sentinel.{AtMost, by-time-in, time-in-by}
 use Rattle.times.proofs.Slots.{entry-before-2080}
 use Rattle.times.proofs.Kept.{finiteIn, set-at-most}
-use Rattle.earliest.specs.Numbers.{rowNumber, setNumber, afterNumber}
+use Rattle.earliest.specs.Numbers.{rowNumber, setNumber, afterNumber, SameTime}
 use Rattle.earliest.specs.Lowering.{Lowerable}
 use Rattle.earliest.proofs.Latest.{latest-at-most, member-at-most-latest}
 
@@ -89,6 +89,26 @@ module _ (J : Job) (xs : List ℕ) (able : Lowerable J xs) (set : ℕ) where
           let l = ltb-false 530400 number e in
           by-ext (timeOf J (tableIn xs) set) (at number) (λ t h. number-by-set t h)
           (λ t h. by-later-minute (timeOf J (tableIn xs) set) number t h (set-by-number l))
+
+-- ---- numbers of one time
+module _ (x y : ℕ) (same : SameTime x y) where
+  pub same-after : (minutes : ℕ) → afterNumber minutes x ≡ afterNumber minutes y
+  same-after minutes =
+      ⊎-elim (λ e. ap (afterNumber minutes) e)
+      (λ late. rw (lt-ltb 530400 x (late .0), lt-ltb 530400 y (late .1))) same
+
+  pub same-time : cond (ltb 530400 x) unreachable (at x) ≡ cond (ltb 530400 y) unreachable (at y)
+  same-time =
+      ⊎-elim (λ e. ap (λ (n : ℕ). cond (ltb 530400 n) unreachable (at n)) e)
+      (λ late. rw (lt-ltb 530400 x (late .0), lt-ltb 530400 y (late .1))) same
+
+  -- a time later than a finite one
+  pub later-than : (t : ℕ) → t < x → t ≤ 530400 → y ≤ t → ⊥
+  later-than t l finite m = ⊎-elim (λ e. omega arith) (λ late. let n = late .1 in omega arith) same
+
+pub same-time-as : (xs : List ℕ) (facts set set′ x : ℕ) → set ≡ set′ → SameTime x (setNumber xs set facts)
+    → SameTime x (setNumber xs set′ facts)
+same-time-as xs facts set set′ x e h = rw (← e) h
 
 -- ---- some minutes later
 pub after-finite : (minutes x : ℕ) → x ≤ 530400 → afterNumber minutes x ≡ minutes + x

@@ -1,7 +1,9 @@
--- The numbers of times: of a set of facts, and of a time some minutes later.
+-- The numbers of times: of a set of facts, of the same time, and of a time some minutes later.
 -- Assumes nothing.
-use Prim.Native.Nat.{ℕ, zero, suc, _+_, max}
+use Prim.Native.Nat.{ℕ, zero, suc, _+_, _<_, max}
+use mathlib.Core.Path.{_≡_}
 use mathlib.Core.Bool.{cond}
+use mathlib.Core.Logic.{_⊎_}
 use mathlib.Core.List.{List}
 use lib.Dec.{ltb}
 use lib.ListN.{getD}
@@ -21,6 +23,10 @@ rowNumber xs set q n = latest set (λ p. getD xs (entryOf p q) none) n
 -- the number of the time of a set, by its facts below n
 abbrev pub setNumber : List ℕ → ℕ → ℕ → ℕ
 setNumber xs set n = latest set (λ q. rowNumber xs set q (suc q)) n
+
+-- two numbers of one time: the same number, or both later than any finite time
+abbrev pub SameTime : ℕ → ℕ → Type 0
+SameTime x y = (x ≡ y) ⊎ ((530400 < x) × (530400 < y))
 
 -- the number of a time so many minutes later: no finite time is later than 530,400
 abbrev pub afterNumber : ℕ → ℕ → ℕ

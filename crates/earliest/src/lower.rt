@@ -4,6 +4,7 @@ ghost use Prim.Native.Nat.{min, max, _≤_, _<_};
 ghost use lib.ListN.{length};
 ghost use Rattle.pairs.specs.Pairs.{entryOf};
 ghost use Rattle.earliest.specs.Lowering.{LowersEntry, LowersRow, LowersAll};
+use crate::set_time;
 
 // The entry of two facts, in either order.
 fn place(p: u8, q: u8) -> usize
@@ -36,6 +37,9 @@ pub fn lower_row(table: &mut [u32], facts: u8, p: u8, set: u64, time: u32) -> bo
     ensures { λ r. ⌜ (length (now (table .exit)) ≡ 2080)
         × LowersRow facts (now (table .entry)) (now (table .exit)) p set time r ⌝ }
 {
+    if time == set_time::NONE {
+        return false;
+    }
     let mut changed = false;
     let mut q = facts::next(set, 0);
     while q < facts {
@@ -51,6 +55,9 @@ pub fn lower_all(table: &mut [u32], facts: u8, set: u64, other: u64, time: u32) 
     ensures { λ r. ⌜ (length (now (table .exit)) ≡ 2080)
         × LowersAll facts (now (table .entry)) (now (table .exit)) set other time r ⌝ }
 {
+    if time == set_time::NONE {
+        return false;
+    }
     let mut changed = false;
     let mut p = facts::next(set, 0);
     while p < facts {

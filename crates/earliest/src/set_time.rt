@@ -2,7 +2,7 @@
 ghost use mathlib.Core.Path.{_≡_};
 ghost use Prim.Native.Nat.{max, suc, _≤_, _<_};
 ghost use lib.ListN.{length};
-ghost use Rattle.earliest.specs.Numbers.{rowNumber, setNumber};
+ghost use Rattle.earliest.specs.Numbers.{rowNumber, setNumber, SameTime};
 
 // The number that stands for unreachable.
 pub const NONE: u32 = 4_294_967_295;
@@ -20,30 +20,36 @@ pub fn later(a: u32, b: u32) -> u32
     a
 }
 
-// The latest of the entries of a fact with the facts of the set up to it.
+// The latest of the entries of a fact with the facts of the set up to it, or the first that is unreachable.
 fn row_time(table: &[u32], set: u64, high: u8) -> u32
     requires { ⌜ (length (now table) ≡ 2080) × (high < 64) ⌝ }
-    ensures { λ r. ⌜ r ≡ rowNumber (now (table .entry)) set high (suc high) ⌝ }
+    ensures { λ r. ⌜ SameTime r (rowNumber (now (table .entry)) set high (suc high)) ⌝ }
 {
     let first = pairs::entry(0, high);
     let mut latest: u32 = 0;
     let mut low = facts::next(set, 0);
     while low <= high {
         latest = later(latest, table[first + low as usize]);
+        if LATEST < latest {
+            return latest;
+        }
         low = facts::next(set, low + 1);
     }
     latest
 }
 
-// The time of a set: the latest of the entries of its facts.
+// The time of a set: the latest of the entries of its facts, or the first that is unreachable.
 pub fn set_time(table: &[u32], facts: u8, set: u64) -> u32
     requires { ⌜ (length (now table) ≡ 2080) × (facts ≤ 64) ⌝ }
-    ensures { λ r. ⌜ r ≡ setNumber (now (table .entry)) set facts ⌝ }
+    ensures { λ r. ⌜ SameTime r (setNumber (now (table .entry)) set facts) ⌝ }
 {
     let mut latest: u32 = 0;
     let mut high = facts::next(set, 0);
     while high < facts {
         latest = later(latest, row_time(table, set, high));
+        if LATEST < latest {
+            return latest;
+        }
         high = facts::next(set, high + 1);
     }
     latest

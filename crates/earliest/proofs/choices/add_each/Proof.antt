@@ -1,8 +1,6 @@
 -- `add_each` meets its contract: both ends, each from the time of the needs that it waits for.
 -- Assumes nothing.
-use Prim.Native.Nat.{ℕ}
-use mathlib.Core.Path.{ap, _∙_}
-use Rattle.earliest.specs.Numbers.{setNumber}
+use Rattle.earliest.proofs.SetTimes.{same-time-as}
 use Rattle.earliest.proofs.Lowers.{pair-lowers}
 use borrow.Author.Needs.{needs}
 use Rattle.earliest.proofs.choices.add_each.Statement.{statement}
@@ -49,7 +47,7 @@ returns c =
     let c-later = c .before .before .before .before .later in
     let lowers = c .before .before .lower-all .ensures in
     let at = c-args in
-    let both = c-set-time2 .ensures ∙ ap (λ (s : ℕ). setNumber (at .table .now) s (at .facts)) (c-union .ensures .0) in
+    let both = same-time-as (at .table .now) (at .facts) _ _ _ (c-union .ensures .0) (c-set-time2 .ensures) in
     (lowers .0, pair-lowers (at .facts) _ _ _ (at .a) (at .b) _ _ _ _ _ (c-set-time .ensures) both (c-after .ensures .0) (c-after2 .ensures .0) (c-later .ensures) (c-after .ensures .1) (lowers .1))
 
 pub add-each-spec : {M : Type 1} → statement M

@@ -3,7 +3,7 @@
 use Prim.Native.Nat.{ℕ}
 use mathlib.Core.Path.{_≡_, sym, ap, _∙_}
 use Rattle.facts.specs.FactSet.{has, union, single}
-use Rattle.earliest.specs.Numbers.{setNumber}
+use Rattle.earliest.proofs.SetTimes.{same-time-as}
 use Rattle.earliest.proofs.Lowers.{carried-lowers, carries-nothing}
 use borrow.Author.Needs.{needs}
 use Rattle.earliest.proofs.choices.carry.Statement.{statement}
@@ -61,7 +61,7 @@ returns-2 c =
     let at = c-args in
     let untouched = ap (λ (s : ℕ). has s (at .q)) (sym (c-union .ensures .0)) ∙ sym (c-has .ensures) ∙ c-if1 .left in
     let set : c-union2 .result ≡ union (at .action .needs) (single (at .q)) = c-union2 .ensures .0 ∙ ap (union (at .action .needs)) (c-single .ensures) in
-    let ready = c-set-time .ensures ∙ ap (λ (s : ℕ). setNumber (at .table .now) s (at .facts)) set in
+    let ready = same-time-as (at .table .now) (at .facts) _ _ _ set (c-set-time .ensures) in
     (lowers .0, carried-lowers (at .facts) _ _ _ (at .action) (at .q) _ _ untouched ready (c-after .ensures .0) (c-after .ensures .1) (lowers .1))
 
 pub carry-spec : {M : Type 1} → statement M

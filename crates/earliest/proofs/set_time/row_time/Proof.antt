@@ -1,16 +1,26 @@
--- `row_time` meets its contract: the facts of the set below `low` are counted.
+-- `row_time` meets its contract: the facts of the set below `low` are counted, and none is late.
 -- Assumes nothing.
-use Prim.Native.Nat.{ℕ, _+_, _-_, suc, max}
+use Prim.Native.Nat.{ℕ, _+_, _-_, _≤_, _<_, suc}
 use mathlib.Core.Path.{_≡_, ap, _∙_}
-use lib.ListN.{getD}
+use mathlib.Core.Logic.{inl}
+use mathlib.Core.List.{List}
+use lib.ListN.{length, getD}
 use Rattle.lists.proofs.Inside.{getD-inside}
 use Rattle.pairs.specs.Pairs.{entryOf}
 use Rattle.times.specs.Numbers.{none}
 use Rattle.times.proofs.Slots.{entry-before-2080}
-use Rattle.earliest.proofs.Latest.{Counted, counted-at-first, counted-on, counted-all}
+use Rattle.earliest.proofs.Latest.{Counted, counted-at-first, counted-on, counted-late, counted-all}
 use native.Mathlib.Omega.{arith}
 use Rattle.earliest.proofs.set_time.row_time.Statement.{statement}
 use Rattle.earliest.proofs.set_time.row_time.Tie as tie
+
+-- the number read is the entry
+read : (xs : List ℕ) (first low high : ℕ) → length xs ≡ 2080 → first ≡ entryOf 0 high → low ≤ high → high < 64
+    → getD xs (first + low) 0 ≡ getD xs (entryOf low high) none
+read xs first low high whole e l k =
+    let place : first + low ≡ entryOf low high = omega arith in
+    let inside = entry-before-2080 low high l k in
+    ap (λ (k : ℕ). getD xs k 0) place ∙ getD-inside xs (entryOf low high) 0 none (omega arith)
 
 abbrev Inv-loop : tie.InvT-loop
 Inv-loop table set high first latest₀ low₀ latest low = Counted set (λ p. getD table (entryOf p high) none) (suc high) low latest
@@ -49,6 +59,18 @@ shared-slice-read-later c =
 later-requires : tie.Need-later-requires Inv-loop μ-loop
 later-requires c κs = tt
 
+returns : tie.Need-returns Inv-loop μ-loop
+returns c =
+    let c-pre = c .before .before .before .before .before .before .before .before .pre in
+    let c-args = c .before .before .before .before .before .before .before .before .args in
+    let c-entry = c .before .before .before .before .before .before .entry in
+    let c-loop = c .before .before .before .before .loop in
+    let c-later = c .before .later in
+    let h = c-pre in
+    let value = read (c-args .table .now) (c-entry .result) (c-loop .low) (c-args .high) (h .0) (c-entry .ensures .0) (omega arith) (h .1) in
+    counted-late _ _ _ (c-loop .low) (c-loop .latest) _ (c-later .result) (c-loop .inv) (omega arith) (omega arith) (inl value)
+    (c-later .ensures) (c .if1 .taken)
+
 add-next : tie.Need-add-next Inv-loop μ-loop
 add-next c = omega arith
 
@@ -63,26 +85,19 @@ loop-less c =
 
 loop-again : tie.Need-loop-again Inv-loop μ-loop
 loop-again c =
-    let c-pre = c .before .before .before .before .before .before .before .before .pre in
-    let c-args = c .before .before .before .before .before .before .before .before .args in
-    let c-entry = c .before .before .before .before .before .before .entry in
-    let c-loop = c .before .before .before .before .loop in
-    let c-later = c .before .later in
+    let at8 = c .before .before .before .before .before .before .before .before in
+    let c-pre = at8 .before .pre in
+    let c-args = at8 .before .args in
+    let c-entry = c .before .before .before .before .before .before .before .entry in
+    let c-loop = c .before .before .before .before .before .loop in
+    let c-later = c .before .before .later in
     let h = c-pre in
-    let xs = c-args .table .now in
-    let high = c-args .high in
-    let low = c-loop .low in
-    let place : c-entry .result + low ≡ entryOf low high = let e = c-entry .ensures .0 in omega arith in
-    let on = counted-on _ _ _ low (c-loop .latest) (c .next2 .result) (c-loop .inv) (omega arith) (omega arith)
-    (c .next2 .ensures) in
-    let inside = entry-before-2080 low high (omega arith) (omega arith) in
-    let value : c-later .result ≡ max (c-loop .latest) (getD xs (c-entry .result + low) 0) = c-later .ensures in
-    let read : getD xs (c-entry .result + low) 0 ≡ getD xs (entryOf low high) none =
-    ap (λ (k : ℕ). getD xs k 0) place ∙ getD-inside xs (entryOf low high) 0 none (omega arith) in
-    (on .0, on .1, value ∙ ap (max (c-loop .latest)) read ∙ on .2)
+    let value = read (c-args .table .now) (c-entry .result) (c-loop .low) (c-args .high) (h .0) (c-entry .ensures .0) (omega arith) (h .1) in
+    counted-on _ _ _ (c-loop .low) (c-loop .latest) _ (c-later .result) (c .next2 .result) (c-loop .inv) (omega arith)
+    (omega arith) (inl value) (c-later .ensures) (c .before .if1 .left) (c .next2 .ensures)
 
-returns : tie.Need-returns Inv-loop μ-loop
-returns c = counted-all _ _ _ _ _ (c .before .loop .inv) (omega arith)
+returns-2 : tie.Need-returns-2 Inv-loop μ-loop
+returns-2 c = inl (counted-all _ _ _ _ _ (c .before .loop .inv) (omega arith))
 
 pub row-time-spec : {M : Type 1} → statement M
 row-time-spec =
@@ -98,8 +113,9 @@ row-time-spec =
     mul-later
     shared-slice-read-later
     later-requires
+    returns
     add-next
     next-requires-2
     loop-less
     loop-again
-    returns)
+    returns-2)

@@ -1,9 +1,9 @@
--- `set_time` meets its contract: the rows of the set's facts below `high` are counted.
+-- `set_time` meets its contract: the rows of the set's facts below `high` are counted, and none is late.
 -- Assumes nothing.
-use Prim.Native.Nat.{_-_, suc, max}
-use mathlib.Core.Path.{ap, _∙_}
+use Prim.Native.Nat.{_-_, suc}
+use mathlib.Core.Logic.{inl}
 use Rattle.earliest.specs.Numbers.{rowNumber}
-use Rattle.earliest.proofs.Latest.{Counted, counted-at-first, counted-on, counted-all}
+use Rattle.earliest.proofs.Latest.{Counted, counted-at-first, counted-on, counted-late, counted-all}
 use native.Mathlib.Omega.{arith}
 use Rattle.earliest.proofs.set_time.set_time.Statement.{statement}
 use Rattle.earliest.proofs.set_time.set_time.Tie as tie
@@ -28,6 +28,15 @@ row-time-requires c κs =
 later-requires : tie.Need-later-requires Inv-loop μ-loop
 later-requires c κs = tt
 
+returns : tie.Need-returns Inv-loop μ-loop
+returns c =
+    let c-pre = c .before .before .before .before .before .before .before .pre in
+    let c-loop = c .before .before .before .before .loop in
+    let c-later = c .before .later in
+    let h = c-pre in
+    counted-late _ _ _ (c-loop .high) (c-loop .latest) _ (c-later .result) (c-loop .inv) (omega arith) (omega arith)
+    (c .before .before .row-time .ensures) (c-later .ensures) (c .if1 .taken)
+
 add-next : tie.Need-add-next Inv-loop μ-loop
 add-next c = omega arith
 
@@ -36,20 +45,21 @@ next-requires-2 c κs = tt
 
 loop-less : tie.Need-loop-less Inv-loop μ-loop
 loop-less c =
-    let c-pre = c .before .before .before .before .before .before .before .pre in
+    let c-pre = c .before .before .before .before .before .before .before .before .pre in
     let h = c-pre in let onward = c .next2 .ensures .onward (omega arith) in omega arith
 
 loop-again : tie.Need-loop-again Inv-loop μ-loop
 loop-again c =
-    let c-pre = c .before .before .before .before .before .before .before .pre in
-    let c-loop = c .before .before .before .before .loop in
+    let c-pre = c .before .before .before .before .before .before .before .before .pre in
+    let c-loop = c .before .before .before .before .before .loop in
+    let c-row-time = c .before .before .before .row-time in
+    let c-later = c .before .before .later in
     let h = c-pre in
-    let on = counted-on _ _ _ (c-loop .high) (c-loop .latest) (c .next2 .result) (c-loop .inv) (omega arith) (omega arith)
-    (c .next2 .ensures) in
-    (on .0, on .1, c .before .later .ensures ∙ ap (max (c-loop .latest)) (c .before .before .row-time .ensures) ∙ on .2)
+    counted-on _ _ _ (c-loop .high) (c-loop .latest) _ (c-later .result) (c .next2 .result) (c-loop .inv) (omega arith)
+    (omega arith) (c-row-time .ensures) (c-later .ensures) (c .before .if1 .left) (c .next2 .ensures)
 
-returns : tie.Need-returns Inv-loop μ-loop
-returns c = counted-all _ _ _ _ _ (c .before .loop .inv) (omega arith)
+returns-2 : tie.Need-returns-2 Inv-loop μ-loop
+returns-2 c = inl (counted-all _ _ _ _ _ (c .before .loop .inv) (omega arith))
 
 pub set-time-spec : {M : Type 1} → statement M
 set-time-spec =
@@ -61,8 +71,9 @@ set-time-spec =
     loop-holds
     row-time-requires
     later-requires
+    returns
     add-next
     next-requires-2
     loop-less
     loop-again
-    returns)
+    returns-2)
