@@ -4,7 +4,6 @@ use Prim.Native.Nat.{ℕ, _+_, _<_}
 use mathlib.Core.Path.{_≡_, refl, sym, ap, ap₂, _∙_}
 use mathlib.Core.Bool.{Bool, true, false, not, _&&_, _||_, and-false}
 use mathlib.Core.List.{List}
-use lib.Dec.{eqb, leb}
 use lib.ListN.{length, getD}
 use Rattle.lists.specs.Lists.{firsts}
 use Rattle.lists.proofs.Tabulate.{length-tabulate, getD-tabulate}
@@ -16,7 +15,7 @@ use Rattle.timeline.specs.Timeline.{hinders}
 use Rattle.timeline.specs.Accepted.{anyBelow}
 use Rattle.timeline.proofs.Below.{below-same}
 use Rattle.times.specs.Earliest.{actionOf, fitsAlone, fitTogether}
-use Rattle.earliest.specs.Sweep.{fitsAloneIn, fitTogetherIn, HasPools, mayJoin}
+use Rattle.earliest.specs.Sweep.{fitsAloneIn, fitTogetherIn, HasPools, isLonger, mayJoin}
 
 module _ (J : Job) (n : Counts) (pools : ℕ) (available : List ℕ) (has : HasPools J n pools available) where
   count : length (J .pools) ≡ pools
@@ -48,20 +47,14 @@ module _ (J : Job) (i j : ℕ) where
   clashing = hinders (actionOf J i) (actionOf J j) || hinders (actionOf J j) (actionOf J i)
 
   abbrev longer : Bool
-  longer = leb (actionOf J j .duration) (actionOf J i .duration)
-
-  pub not-joined-same : eqb i j ≡ true → mayJoin J i j ≡ false
-  not-joined-same e = rw e
+  longer = isLonger (actionOf J i .duration) (actionOf J j .duration) i j
 
   pub not-joined-shorter : longer ≡ false → mayJoin J i j ≡ false
-  not-joined-shorter e = rw e (and-false (not (eqb i j)))
+  not-joined-shorter e = rw e
 
   pub not-joined-clashing : clashing ≡ true → mayJoin J i j ≡ false
-  not-joined-clashing e = rw e (neither (not (eqb i j)) longer)
-    where
-      neither : (x y : Bool) → (x && (y && false)) ≡ false
-      neither x y = rw (and-false y) (and-false x)
+  not-joined-clashing e = rw e (and-false longer)
 
-  pub joined-when-fitting : eqb i j ≡ false → longer ≡ true → clashing ≡ false
+  pub joined-when-fitting : longer ≡ true → clashing ≡ false
       → mayJoin J i j ≡ fitTogether J (actionOf J i) (actionOf J j)
-  joined-when-fitting e f g = rw (e, f, g)
+  joined-when-fitting e f = rw (e, f)

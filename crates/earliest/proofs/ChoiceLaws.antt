@@ -3,12 +3,12 @@
 use Prim.Native.Nat.{ℕ, _+_, _*_, _≤_, _<_, max}
 use mathlib.Core.Path.{_≡_, sym, ap, _∙_}
 use mathlib.Core.Bool.{Bool, true, false, not, _&&_, _||_, true≢false}
-use mathlib.Core.Logic.{⊎-elim}
+use mathlib.Core.Logic.{_⊎_, ⊎-elim}
 use mathlib.Core.List.{List}
 use native.Mathlib.Omega.{arith}
-use lib.Dec.{eqb, leb, ltb}
+use lib.Dec.{eqb, ltb}
 use lib.ListN.{length, getD}
-use borrow.Author.Tests.{eqb-true, eqb-false, leb-true, not-true, ltb-false, le-ltb}
+use borrow.Author.Tests.{eqb-true, eqb-false, not-true, ltb-false, le-ltb}
 use Rattle.lists.proofs.Bools.{and-left, and-right, or-left, or-right}
 use Rattle.facts.specs.FactSet.{has, union, single}
 use Rattle.facts.proofs.Membership.{has-union}
@@ -26,9 +26,10 @@ use Rattle.times.proofs.Choices.{Alone, Together, Reached, both, one, other, ea
 use Rattle.times.proofs.Kept.{finiteIn}
 use Rattle.earliest.specs.Numbers.{setNumber, afterNumber}
 use Rattle.earliest.specs.Lowering.{Lowerable, Offered, RowOffered, AllOffered}
-use Rattle.earliest.specs.Sweep.{endNumber, bothEndNumber, mayJoin}
+use Rattle.earliest.specs.Sweep.{endNumber, bothEndNumber, isLonger, mayJoin}
 use Rattle.earliest.proofs.SetTimes.{number-by-set, set-by-number, number-of-reachable, number-within-finite}
 use Rattle.earliest.proofs.SetTimes.{after-finite, finite-of-after}
+use Rattle.earliest.proofs.Longer.{longer-cases}
 
 -- an action that fits beside another fits alone
 pub fits-alone-of-together : (J : Job) (a b : Action) → fitTogether J a b ≡ true → fitsAlone J a ≡ true
@@ -120,41 +121,48 @@ module _ (J : Job) (xs : List ℕ) (able : Lowerable J xs) where
     abbrev parted : Bool
     parted = not (hinders a b || hinders b a) && fitTogether J a b
 
-    after-different : (leb (b .duration) (a .duration) && parted) ≡ true
-    after-different = and-right (not (eqb i j)) (leb (b .duration) (a .duration) && parted) joined
+    first : (b .duration < a .duration) ⊎ ((a .duration ≡ b .duration) × (j < i))
+    first =
+        longer-cases (a .duration) (b .duration) i j
+        (and-left (isLonger (a .duration) (b .duration) i j) parted joined)
+
+    parted-so : parted ≡ true
+    parted-so = and-right (isLonger (a .duration) (b .duration) i j) parted joined
 
     pub joined-fit : fitTogether J a b ≡ true
-    joined-fit =
-        and-right (not (hinders a b || hinders b a)) (fitTogether J a b)
-        (and-right (leb (b .duration) (a .duration)) parted after-different)
+    joined-fit = and-right (not (hinders a b || hinders b a)) (fitTogether J a b) parted-so
 
     no-clash : (hinders a b || hinders b a) ≡ false
     no-clash =
         not-true (hinders a b || hinders b a)
-        (and-left (not (hinders a b || hinders b a)) (fitTogether J a b)
-        (and-right (leb (b .duration) (a .duration)) parted after-different))
+        (and-left (not (hinders a b || hinders b a)) (fitTogether J a b) parted-so)
 
     shorter : b .duration ≤ a .duration
-    shorter = leb-true (b .duration) (a .duration) (and-left (leb (b .duration) (a .duration)) parted after-different)
+    shorter = ⊎-elim (λ l. omega arith) (λ l. let same = l .0 in omega arith) first
+
+    apart : i ≡ j → ⊥
+    apart e =
+        let same : a .duration ≡ b .duration = ap (λ (k : ℕ). actionOf J k .duration) e in
+        ⊎-elim (λ l. omega arith) (λ l. let before = l .1 in omega arith) first
 
     together-by-number : (t : ℕ) → bothEndNumber J xs a b ≤ t → bothEndNumber J xs a b < none
         → Together J (tableIn xs) t i j
     together-by-number t m l =
-        let first = alone-by-number i (a .needs) known (fits-alone-of-together J a b joined-fit) t (omega arith)
+        let alone = alone-by-number i (a .needs) known (fits-alone-of-together J a b joined-fit) t (omega arith)
         (omega arith) in
         let k = finite-of-after (b .duration) (setNumber xs both-needs (J .facts)) (omega arith) in
         let e = after-finite (b .duration) (setNumber xs both-needs (J .facts)) k in
         record {
           known = known;
           knownToo = known-too;
-          different = eqb-false i j (not-true (eqb i j) (and-left (not (eqb i j)) _ joined));
+          different = apart;
           spares = or-left (hinders a b) (hinders b a) no-clash;
           spared = or-right (hinders a b) (hinders b a) no-clash;
           fits = joined-fit;
           longer = shorter;
-          from = first .from;
-          ready = first .ready;
-          ends = first .ends;
+          from = alone .from;
+          ready = alone .ready;
+          ends = alone .ends;
           bothFrom = setNumber xs both-needs (J .facts);
           bothReady = set-by-number J xs able both-needs k;
           bothEnd = omega arith;

@@ -1,6 +1,7 @@
 mod Latest
 pub mod SetTimes
 mod ChoiceLaws
+mod Longer
 mod Swept
 mod Lowers
 mod AllowedActions

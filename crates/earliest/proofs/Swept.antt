@@ -2,13 +2,11 @@
 -- Assumes nothing.
 use Prim.Native.Nat.{ℕ, _+_, _≤_, _<_, min, max}
 use mathlib.Core.Path.{_≡_, ap, ap₂, sym, _∙_}
-use mathlib.Core.Bool.{true, false, not}
+use mathlib.Core.Bool.{Bool, true, false, not}
 use mathlib.Core.Logic.{⊎-elim}
 use mathlib.Core.List.{List}
 use native.Mathlib.Omega.{arith}
-use lib.Dec.{eqb, leb}
 use lib.ListN.{length, getD}
-use borrow.Author.Tests.{ne-eqb, le-leb}
 use Rattle.facts.specs.FactSet.{has, union, single}
 use Rattle.facts.proofs.Membership.{has-union}
 use Rattle.facts.proofs.SetLaws.{in-union-left}
@@ -17,13 +15,14 @@ use Rattle.pairs.specs.Pairs.{entryOf}
 use Rattle.timeline.proofs.Tests.{decided, and-both, or-neither}
 use Rattle.times.specs.Earliest.{timeOf, actionOf, Solves}
 use Rattle.times.specs.Numbers.{none, tableIn}
-use Rattle.times.proofs.Times.{By, by-timeOf, timeOf-by}
+use Rattle.times.proofs.Times.{By, timeOf-part}
 use Rattle.times.proofs.Choices.{Alone, Together, Reached, atStart, both, one, other, each, eachOther}
 use Rattle.times.proofs.Choices.{reached-of-right-side}
 use Rattle.times.proofs.Sentinel.{time-in-by}
 use Rattle.times.proofs.Iteration.{solves-when-settled}
 use Rattle.earliest.specs.Lowering.{entryAt, Lowerable}
-use Rattle.earliest.specs.Sweep.{mayJoin, ActionSettled, Settled}
+use Rattle.earliest.specs.Sweep.{isLonger, Settled}
+use Rattle.earliest.proofs.Longer.{longer-or-equal, equal-longer, together-swapped}
 use Rattle.earliest.proofs.ChoiceLaws.{fits-alone-of-together, number-by-alone, number-by-together}
 
 module _ (J : Job) (xs : List ℕ) (able : Lowerable J xs) (settled : Settled J xs) where
@@ -47,10 +46,7 @@ module _ (J : Job) (xs : List ℕ) (able : Lowerable J xs) (settled : Settled J 
   needs-of-carried : (set q from : ℕ) → By (timeOf J (tableIn xs) (union set (single q))) from
       → By (timeOf J (tableIn xs) set) from
   needs-of-carried set q from h =
-      timeOf-by J (tableIn xs) set from
-      (λ x y a b hx hy.
-      by-timeOf J (tableIn xs) (union set (single q)) from h x y a b (in-union-left set (single q) x hx)
-      (in-union-left set (single q) y hy))
+      timeOf-part J (tableIn xs) set (union set (single q)) from (in-union-left set (single q)) h
 
   -- (ii): action i adds p and carries q; where it adds q too, (i) is no later
   carried : (p q t i : ℕ) → p < J .facts → q < J .facts → Alone J (tableIn xs) t (union (actionOf J i .needs) (single q)) i
@@ -74,22 +70,37 @@ module _ (J : Job) (xs : List ℕ) (able : Lowerable J xs) (settled : Settled J 
       (decided (has (actionOf J i .adds) q))
 
   -- (iii)
-  joined : (i j t : ℕ) → Together J (tableIn xs) t i j → mayJoin J i j ≡ true
-  joined i j t c =
-      and-both (ap not (ne-eqb i j (c .different)))
-      (and-both (le-leb _ _ (c .longer)) (and-both (ap not (or-neither (c .spares) (c .spared))) (c .fits)))
+  abbrev first : ℕ → ℕ → Bool
+  first i j = isLonger (actionOf J i .duration) (actionOf J j .duration) i j
 
-  pair-ends : (p q t i j : ℕ) → p < J .facts → q < J .facts → Together J (tableIn xs) t i j
-      → has (actionOf J i .adds) p ≡ true → has (actionOf J j .adds) q ≡ true
-      → (ends : ℕ) × (entryAt xs p q ≤ ends) × ((ends ≤ t) × (ends < none))
-  pair-ends p q t i j a b c hp hq =
+  abbrev PairEnds : ℕ → ℕ → ℕ → Type 0
+  PairEnds p q t = (ends : ℕ) × (entryAt xs p q ≤ ends) × ((ends ≤ t) × (ends < none))
+
+  longer-first : (p q t i j : ℕ) → p < J .facts → q < J .facts → Together J (tableIn xs) t i j → first i j ≡ true
+      → has (actionOf J i .adds) p ≡ true → has (actionOf J j .adds) q ≡ true → PairEnds p q t
+  longer-first p q t i j a b c longer hp hq =
       let fits = fits-alone-of-together J (actionOf J i) (actionOf J j) (c .fits) in
-      let allowed = joined i j t c in (
+      let allowed = and-both longer (and-both (ap not (or-neither (c .spares) (c .spared))) (c .fits)) in (
         _,
         settled .actions i (c .known) fits .each j (c .knownToo) allowed p a hp q b hq,
         number-by-together J xs able i j (c .known) (c .knownToo) allowed
             (settled .actions i (c .known) fits .both .0) t c,
       )
+
+  -- two equally long actions are tried in one order
+  pair-ends : (p q t i j : ℕ) → p < J .facts → q < J .facts → Together J (tableIn xs) t i j
+      → has (actionOf J i .adds) p ≡ true → has (actionOf J j .adds) q ≡ true → PairEnds p q t
+  pair-ends p q t i j a b c hp hq =
+      ⊎-elim (λ longer. longer-first p q t i j a b c longer hp hq)
+      (λ equal.
+      let d : ℕ = actionOf J i .duration in
+      let e : ℕ = actionOf J j .duration in
+      let longer = equal-longer e d j i (sym (equal .0)) (equal .1) in
+      let r = longer-first q p t j i b a (together-swapped J (tableIn xs) t i j (equal .0) c) longer hq hp in
+      let l = r .1 in
+      let e = entry-swapped p q in
+      (r .0, omega arith, r .2))
+      (longer-or-equal (actionOf J i .duration) (actionOf J j .duration) i j (c .longer) (c .different))
 
   settled-entry : (p q t : ℕ) → p ≤ q → q < J .facts → Reached J (tableIn xs) p q t → By (tableIn xs p q) t
   settled-entry p q t a b (atStart hp hq) =

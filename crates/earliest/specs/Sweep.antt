@@ -4,7 +4,7 @@ use Prim.Native.Nat.{ℕ, _+_, _≤_, _<_, max}
 use mathlib.Core.Path.{_≡_}
 use mathlib.Core.Bool.{Bool, true, false, not, _&&_, _||_}
 use mathlib.Core.List.{List}
-use lib.Dec.{eqb, leb}
+use lib.Dec.{eqb, ltb}
 use lib.ListN.{length, getD}
 use Rattle.lists.specs.Lists.{firsts}
 use Rattle.facts.specs.FactSet.{has, union, single}
@@ -51,12 +51,16 @@ PairSettled J i j xs =
     let b = actionOf J j in
     AllAtMost (J .facts) (a .adds) (b .adds) (bothEndNumber J xs a b) (J .facts) xs
 
+-- of actions i and j with durations d and e, i is the longer one; of two equally long ones the one with the higher number
+abbrev pub isLonger : ℕ → ℕ → ℕ → ℕ → Bool
+isLonger d e i j = ltb e d || (eqb d e && ltb j i)
+
 -- i and j may be chosen together, i the longer one
 abbrev pub mayJoin : Job → ℕ → ℕ → Bool
 mayJoin J i j =
     let a = actionOf J i in
     let b = actionOf J j in
-    not (eqb i j) && (leb (b .duration) (a .duration) && (not (hinders a b || hinders b a) && fitTogether J a b))
+    isLonger (a .duration) (b .duration) i j && (not (hinders a b || hinders b a) && fitTogether J a b)
 
 abbrev pub EachSettled : Job → ℕ → List ℕ → Type 0
 EachSettled J i xs = (j : ℕ) → j < length (J .actions) → mayJoin J i j ≡ true → PairSettled J i j xs

@@ -2,7 +2,7 @@
 ghost use mathlib.Core.Path.{_≡_};
 ghost use Prim.Native.Nat.{_+_, _≤_};
 ghost use Rattle.job.specs.Valid.{over};
-ghost use Rattle.earliest.specs.Sweep.{fitsAloneIn, fitTogetherIn, MayJoin};
+ghost use Rattle.earliest.specs.Sweep.{fitsAloneIn, fitTogetherIn, isLonger, MayJoin};
 use job::Action;
 use job::Job;
 
@@ -43,6 +43,17 @@ fn fit_together(pools: usize, available: [u32; Job::POOLS], a: Action, b: Action
     true
 }
 
+// Whether action i is the longer one of i and j. Of two equally long ones it is the one with the higher number, so that
+// two actions are tried once.
+fn is_longer(duration: u8, other: u8, i: usize, j: usize) -> bool
+    ensures { λ r. ⌜ r ≡ isLonger duration other i j ⌝ }
+{
+    if duration == other {
+        return j < i;
+    }
+    other < duration
+}
+
 // Whether actions i and j are a choice, i the longer one.
 pub fn may_join(
     pools: usize,
@@ -55,10 +66,7 @@ pub fn may_join(
     requires { ⌜ pools ≤ 4 ⌝ }
     ensures { λ r. ⌜ MayJoin pools available i j a b r ⌝ }
 {
-    if i == j {
-        return false;
-    }
-    if a.duration < b.duration {
+    if !is_longer(a.duration, b.duration, i, j) {
         return false;
     }
     if timeline::hinders(a, b) | timeline::hinders(b, a) {
