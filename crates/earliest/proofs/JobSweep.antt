@@ -13,12 +13,17 @@ use Rattle.job.specs.declared.Job as held
 use Rattle.job.specs.Job.{Job, jobIn, actionAt, beyond}
 use Rattle.timeline.specs.Step.{noAction}
 use Rattle.times.specs.Earliest.{actionOf, fitsAlone}
+use Rattle.times.specs.Numbers.{none}
 use Rattle.times.proofs.Choices.{atStart}
+use Rattle.earliest.specs.Numbers.{setNumber}
 use Rattle.earliest.specs.Lowering.{Lowerable, Lowering, AllAtMost, AllOffered, LowersAll}
 use Rattle.earliest.specs.Sweep.{BothSettled, OneSettled, EachSettled, ActionSettled, ActionDone, Settled}
 use Rattle.earliest.specs.Sweep.{mayJoin, HasPools, IsAction, MayJoin, JoinedSettled, LowersJoined, LowersPair}
-use Rattle.earliest.specs.Sweep.{LowersBoth, LowersOne, LowersEach, LowersAction}
+use Rattle.earliest.specs.Sweep.{EndsAt, LowersBoth, LowersOne, LowersEach, LowersAction}
 use Rattle.earliest.specs.Sweep.{ActionsDone, LowersActions, Sweeps}
+use Rattle.earliest.proofs.SetTimes.{late-of-after}
+use Rattle.earliest.proofs.Lowers.{byte-duration}
+use Rattle.earliest.proofs.Unreachable.{action-unreachable}
 use Rattle.earliest.proofs.LoweringLaws.{lowering-none, lowering-then, lowering-weaker, lowerable-on}
 
 -- ---- the actions and pools of a job value
@@ -57,6 +62,17 @@ module _ (job : held.Job) where
   module _ (i : ℕ) (known : i < job .counts .actions) where
     pub misfit-lowers : (xs : List ℕ) → fitsAlone J (actionOf J i) ≡ false → LowersAction job i xs xs false
     misfit-lowers xs e able = lowering-none J (ActionDone J i) xs (able .kept) (λ f. absurd (true≢false (sym f ∙ e)))
+
+    -- the needs are unreachable
+    pub late-lowers : (xs : List ℕ) (time : ℕ) → EndsAt (job .facts) (getD (job .actions) i beyond) xs time → time ≡ none
+        → LowersAction job i xs xs false
+    late-lowers xs time ends late able =
+        let is = is-action job i known in
+        let short = byte-duration J (job .facts) i (job .counts) _ is (ends .1) in
+        let number = late-of-after _ (setNumber xs (getD (job .actions) i beyond .needs) (job .facts)) (ends .1)
+        (sym (ends .0) ∙ late) in
+        lowering-none J (ActionDone J i) xs (able .kept)
+        (λ fits. action-unreachable J xs able i short (rw (is .same) number))
 
     pub action-lowers : (ws xs ys zs : List ℕ) (b c d : Bool) → fitsAlone J (actionOf J i) ≡ true
         → LowersBoth (job .facts) (getD (job .actions) i beyond) ws xs b

@@ -4,6 +4,7 @@ mod ChoiceLaws
 mod Longer
 mod Swept
 mod Lowers
+mod Unreachable
 mod AllowedActions
 mod JobSweep
 mod AnswerLaws

@@ -3,6 +3,7 @@
 use Prim.Native.Nat.{ℕ, _≤_, _<_, max}
 use mathlib.Core.Path.{_≡_, refl, sym, ap, ap₂, _∙_}
 use mathlib.Core.Bool.{Bool, true, false, true≢false}
+use mathlib.Core.Logic.{inl}
 use mathlib.Core.List.{List}
 use native.Mathlib.Omega.{arith}
 use Rattle.facts.specs.FactSet.{has, union, single}
@@ -12,7 +13,7 @@ use Rattle.job.specs.Job.{Action, Job, actionIn}
 use Rattle.times.specs.Earliest.{actionOf, fitsAlone}
 use Rattle.earliest.specs.Numbers.{setNumber, afterNumber, SameTime}
 use Rattle.earliest.specs.Lowering.{LowersRow, LowersAll}
-use Rattle.earliest.specs.Sweep.{endNumber, bothEndNumber, mayJoin, IsAction}
+use Rattle.earliest.specs.Sweep.{endNumber, bothEndNumber, mayJoin, IsAction, EndsAt}
 use Rattle.earliest.specs.Sweep.{BothSettled, CarriedSettled, PairSettled}
 use Rattle.earliest.specs.Sweep.{LowersBoth, LowersCarried, LowersPair}
 use Rattle.earliest.proofs.SetTimes.{same-after, same-time-as}
@@ -35,7 +36,7 @@ end-of-value J facts i n action xs set ready time is e f =
     rw (is .same, is .sameFacts) (f ∙ same-after ready (setNumber xs set facts) e (action .duration))
 
 -- the duration of a value is a byte
-byte-duration : (J : Job) (facts i : ℕ) (n : Counts) (action : value.Action) → IsAction J facts i n action
+pub byte-duration : (J : Job) (facts i : ℕ) (n : Counts) (action : value.Action) → IsAction J facts i n action
     → action .duration < 256 → actionOf J i .duration ≤ 255
 byte-duration J facts i n action is byte =
     let same : actionOf J i .duration ≡ action .duration = ap (λ (a : Action). a .duration) (is .same) in omega arith
@@ -49,15 +50,14 @@ carries-nothing facts xs action q touched J i n able is fits here =
 
 module _ (facts : ℕ) (xs ys : List ℕ) (r : Bool) where
   -- (i)
-  pub both-lowers : (action : value.Action) (ready time : ℕ) → SameTime ready (setNumber xs (action .needs) facts)
-      → time ≡ afterNumber (action .duration) ready → action .duration < 256
+  pub both-lowers : (action : value.Action) (time : ℕ) → EndsAt facts action xs time
       → LowersAll facts xs ys (action .adds) (action .adds) time r → LowersBoth facts action xs ys r
-  both-lowers action ready time e f byte lowers J i n able is fits =
-      let short = byte-duration J facts i n action is byte in
+  both-lowers action time at lowers J i n able is fits =
+      let short = byte-duration J facts i n action is (at .1) in
       let needs : action .needs ≡ actionOf J i .needs = ap (λ (a : Action). a .needs) (sym (is .same)) in
       let adds : action .adds ≡ actionOf J i .adds = ap (λ (a : Action). a .adds) (sym (is .same)) in
-      let ends = end-of-value J facts i n action xs (actionOf J i .needs) ready time is
-      (same-time-as xs facts _ _ ready needs e) f in
+      let ends = end-of-value J facts i n action xs (actionOf J i .needs) (setNumber xs (action .needs) facts) time is
+      (inl (ap (λ (set : ℕ). setNumber xs set facts) needs)) (at .0) in
       lowering-weaker J _ (BothSettled J i) xs ys r
       (all-as xs ys r _ _ _ _ _ _ _ _ (sym (is .sameFacts)) adds adds ends lowers J able refl
       (both-offered J xs able i (is .known) fits short))
@@ -81,22 +81,20 @@ module _ (facts : ℕ) (xs ys : List ℕ) (r : Bool) where
       (λ settled other. settled)
 
   -- (iii)
-  pub pair-lowers : (a b : value.Action) (ready bothReady first second time : ℕ)
-      → SameTime ready (setNumber xs (a .needs) facts)
+  pub pair-lowers : (a b : value.Action) (bothReady first second time : ℕ) → EndsAt facts a xs first
       → SameTime bothReady (setNumber xs (union (a .needs) (b .needs)) facts)
-      → first ≡ afterNumber (a .duration) ready → second ≡ afterNumber (b .duration) bothReady → time ≡ max first second
-      → a .duration < 256 → LowersAll facts xs ys (a .adds) (b .adds) time r → LowersPair facts a b xs ys r
-  pair-lowers a b ready bothReady first second time e f g h k byte lowers J i j n able is-a is-b joined =
+      → second ≡ afterNumber (b .duration) bothReady → time ≡ max first second → LowersAll facts xs ys (a .adds) (b .adds) time r → LowersPair facts a b xs ys r
+  pair-lowers a b bothReady first second time at f h k lowers J i j n able is-a is-b joined =
       let needs-a : a .needs ≡ actionOf J i .needs = ap (λ (a : Action). a .needs) (sym (is-a .same)) in
       let needs-b : b .needs ≡ actionOf J j .needs = ap (λ (a : Action). a .needs) (sym (is-b .same)) in
       let adds-a : a .adds ≡ actionOf J i .adds = ap (λ (a : Action). a .adds) (sym (is-a .same)) in
       let adds-b : b .adds ≡ actionOf J j .adds = ap (λ (a : Action). a .adds) (sym (is-b .same)) in
-      let ends-a = end-of-value J facts i n a xs (actionOf J i .needs) ready first is-a
-      (same-time-as xs facts _ _ ready needs-a e) g in
+      let ends-a = end-of-value J facts i n a xs (actionOf J i .needs) (setNumber xs (a .needs) facts) first is-a
+      (inl (ap (λ (set : ℕ). setNumber xs set facts) needs-a)) (at .0) in
       let ends-b = end-of-value J facts j n b xs (union (actionOf J i .needs) (actionOf J j .needs)) bothReady second is-b
       (same-time-as xs facts _ _ bothReady (ap₂ union needs-a needs-b) f) h in
       let ends : time ≡ bothEndNumber J xs (actionOf J i) (actionOf J j) = k ∙ ap₂ max ends-a ends-b in
       lowering-weaker J _ (PairSettled J i j) xs ys r
       (all-as xs ys r _ _ _ _ _ _ _ _ (sym (is-a .sameFacts)) adds-a adds-b ends lowers J able refl
-      (pair-offered J xs able i j (is-a .known) (is-b .known) joined (byte-duration J facts i n a is-a byte)))
+      (pair-offered J xs able i j (is-a .known) (is-b .known) joined (byte-duration J facts i n a is-a (at .1))))
       (λ settled. settled)

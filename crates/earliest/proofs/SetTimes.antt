@@ -10,7 +10,7 @@ use native.Mathlib.Omega.{arith}
 use lib.Dec.{ltb}
 use lib.ListN.{getD}
 use borrow.Author.Tests.{ltb-true, ltb-false, le-ltb, lt-ltb}
-use Rattle.facts.specs.FactSet.{has}
+use Rattle.facts.specs.FactSet.{has, Subset}
 use Rattle.job.specs.Job.{Job}
 use Rattle.pairs.specs.Pairs.{entryOf}
 use Rattle.timeline.proofs.Tests.{decided}
@@ -90,6 +90,13 @@ module _ (J : Job) (xs : List ℕ) (able : Lowerable J xs) (set : ℕ) where
           by-ext (timeOf J (tableIn xs) set) (at number) (λ t h. number-by-set t h)
           (λ t h. by-later-minute (timeOf J (tableIn xs) set) number t h (set-by-number l))
 
+-- no earlier with more facts
+pub number-of-part : (J : Job) (xs : List ℕ) → Lowerable J xs → (a b : ℕ) → Subset a b
+    → setNumber xs a (J .facts) ≤ setNumber xs b (J .facts)
+number-of-part J xs able a b inside =
+    number-at-most J xs able a (setNumber xs b (J .facts))
+    (λ p q l k hp hq. entry-at-most-number J xs able b p q l k (inside p hp) (inside q hq))
+
 -- ---- numbers of one time
 module _ (x y : ℕ) (same : SameTime x y) where
   pub same-after : (minutes : ℕ) → afterNumber minutes x ≡ afterNumber minutes y
@@ -113,6 +120,13 @@ same-time-as xs facts set set′ x e h = rw (← e) h
 -- ---- some minutes later
 pub after-finite : (minutes x : ℕ) → x ≤ 530400 → afterNumber minutes x ≡ minutes + x
 after-finite minutes x l = rw (le-ltb 530400 x l)
+
+pub late-of-after : (minutes x : ℕ) → minutes < 256 → afterNumber minutes x ≡ none → 530400 < x
+late-of-after minutes x = go (ltb 530400 x) refl
+  where
+    go : (b : Bool) → ltb 530400 x ≡ b → minutes < 256 → cond b none (minutes + x) ≡ none → 530400 < x
+    go true e l m = ltb-true 530400 x e
+    go false e l m = let n = ltb-false 530400 x e in absurd (omega arith)
 
 pub finite-of-after : (minutes x : ℕ) → afterNumber minutes x < none → x ≤ 530400
 finite-of-after minutes x = go (ltb 530400 x) refl

@@ -88,6 +88,11 @@ pub record IsAction (J : Job) (facts i : ℕ) (n : Counts) (action : value.Actio
   pub known : i < length (J .actions)
   pub same : actionOf J i ≡ actionIn n action
 
+-- the action, started when its needs are there, ends then; its duration is one byte
+abbrev pub EndsAt : ℕ → value.Action → List ℕ → ℕ → Type 0
+EndsAt facts action xs time =
+    (time ≡ afterNumber (action .duration) (setNumber xs (action .needs) facts)) × (action .duration < 256)
+
 abbrev pub LowersBoth : ℕ → value.Action → List ℕ → List ℕ → Bool → Type 0
 LowersBoth facts action xs ys changed =
     (J : Job) (i : ℕ) (n : Counts) → Lowerable J xs → IsAction J facts i n action → fitsAlone J (actionOf J i) ≡ true

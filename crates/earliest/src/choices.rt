@@ -3,7 +3,7 @@ ghost use mathlib.Core.Path.{_≡_};
 ghost use Prim.Native.Nat.{_≤_, _<_};
 ghost use lib.ListN.{length};
 ghost use Rattle.earliest.specs.Numbers.{afterNumber};
-ghost use Rattle.earliest.specs.Sweep.{LowersBoth, LowersCarried, LowersOne, LowersPair};
+ghost use Rattle.earliest.specs.Sweep.{EndsAt, LowersBoth, LowersCarried, LowersOne, LowersPair};
 use crate::lower;
 use crate::set_time;
 use job::Action;
@@ -18,20 +18,25 @@ fn after(minutes: u8, time: u32) -> u32
     minutes as u32 + time
 }
 
+// When an action ends that starts as soon as its needs are there.
+pub fn end(table: &[u32], facts: u8, action: Action) -> u32
+    requires { ⌜ (length (now table) ≡ 2080) × (facts ≤ 64) ⌝ }
+    ensures { λ r. ⌜ EndsAt facts action (now (table .entry)) r ⌝ }
+{
+    after(
+        action.duration,
+        set_time::set_time(table, facts, action.needs),
+    )
+}
+
 // Choice (i): the action adds both facts.
 pub fn add_both(table: &mut [u32], facts: u8, action: Action) -> bool
     requires { ⌜ (length (now table) ≡ 2080) × (facts ≤ 64) ⌝ }
     ensures { λ r. ⌜ (length (now (table .exit)) ≡ 2080)
         × LowersBoth facts action (now (table .entry)) (now (table .exit)) r ⌝ }
 {
-    let ready = set_time::set_time(table, facts, action.needs);
-    lower::lower_all(
-        table,
-        facts,
-        action.adds,
-        action.adds,
-        after(action.duration, ready),
-    )
+    let time = end(table, facts, action);
+    lower::lower_all(table, facts, action.adds, action.adds, time)
 }
 
 // Choice (ii): the action adds one fact, and fact q holds from its start on, unless the action adds or deletes it.
@@ -69,8 +74,10 @@ pub fn add_each(table: &mut [u32], facts: u8, a: Action, b: Action) -> bool
     ensures { λ r. ⌜ (length (now (table .exit)) ≡ 2080)
         × LowersPair facts a b (now (table .entry)) (now (table .exit)) r ⌝ }
 {
-    let ready = set_time::set_time(table, facts, a.needs);
     let both_ready = set_time::set_time(table, facts, facts::union(a.needs, b.needs));
-    let time = set_time::later(after(a.duration, ready), after(b.duration, both_ready));
+    if set_time::LATEST < both_ready {
+        return false;
+    }
+    let time = set_time::later(end(table, facts, a), after(b.duration, both_ready));
     lower::lower_all(table, facts, a.adds, b.adds, time)
 }

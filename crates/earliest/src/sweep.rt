@@ -8,6 +8,7 @@ ghost use Rattle.earliest.specs.Sweep.{LowersJoined, LowersEach, LowersA
 use crate::allowed;
 use crate::choices;
 use crate::lower;
+use crate::set_time;
 use job::Action;
 use job::Job;
 
@@ -61,6 +62,9 @@ fn by_action(table: &mut [u32], job: Job, i: usize) -> bool
     let available = job.pools;
     let action = job.actions[i];
     if !allowed::fits_alone(counts.pools, available, action) {
+        return false;
+    }
+    if choices::end(table, job.facts, action) == set_time::NONE {
         return false;
     }
     let both = choices::add_both(table, job.facts, action);

@@ -4,7 +4,8 @@ use Prim.Native.Nat.{_-_}
 use mathlib.Core.Path.{sym, _∙_}
 use Rattle.earliest.specs.Lowering.{RowAtMost}
 use Rattle.earliest.proofs.Loops.{Swept, swept-at-first, swept-on, swept-all}
-use Rattle.earliest.proofs.Members.{AllAble, all-step, all-unreachable}
+use Rattle.earliest.proofs.Members.{AllAble, all-step}
+use Rattle.earliest.proofs.Unreachable.{all-unreachable}
 use native.Mathlib.Omega.{arith}
 use Rattle.earliest.proofs.lower.lower_all.Statement.{statement}
 use Rattle.earliest.proofs.lower.lower_all.Tie as tie
@@ -18,7 +19,8 @@ abbrev μ-loop : tie.MeasureT-loop
 
 returns : tie.Need-returns Inv-loop μ-loop
 returns c =
-    let h = c .before .before .pre in (h .0, all-unreachable (c .before .before .args .facts) (c .before .before .args .set) (c .before .before .args .other) (c .before .before .args .time) (c .before .before .args .table .now) (c .if1 .taken))
+    let at = c .before .before .args in
+    (c .before .before .pre .0, all-unreachable (at .facts) (at .set) (at .other) (at .time) (at .table .now) (c .if1 .taken))
 
 next-requires : tie.Need-next-requires Inv-loop μ-loop
 next-requires c κs = tt
