@@ -34,7 +34,8 @@ module _ (J : Job) (n : Counts) (pools : ℕ) (available : List ℕ) (has : HasP
       (sym (ap (λ m. anyBelow m (λ k. over (getD (J .pools) k 0) (getD (actionIn n a .pools) k 0))) count
       ∙ below-same pools _ _ (λ k l. ap₂ over (available-at k l) (use-at a k l))))
 
-  pub fit-together-in : (a b : value.Action) → fitTogetherIn pools available a b ≡ fitTogether J (actionIn n a) (actionIn n b)
+  pub fit-together-in : (a b : value.Action)
+      → fitTogetherIn pools available a b ≡ fitTogether J (actionIn n a) (actionIn n b)
   fit-together-in a b =
       ap not
       (sym (ap (λ m. anyBelow m (λ k. over (getD (J .pools) k 0)

@@ -39,7 +39,8 @@ fits-alone-of-together J a b h =
     (λ k l.
     let together : ℕ = getD (a .pools) k 0 + getD (b .pools) k 0 in
     let m = ltb-false (available k) together
-    (below-none (length (J .pools)) (λ k. over (available k) (getD (a .pools) k 0 + getD (b .pools) k 0)) (not-true _ h) k l) in
+    (below-none (length (J .pools)) (λ k. over (available k) (getD (a .pools) k 0 + getD (b .pools) k 0))
+    (not-true _ h) k l) in
     le-ltb (available k) (getD (a .pools) k 0) (omega arith)))
   where
     available : ℕ → ℕ
@@ -86,7 +87,8 @@ module _ (J : Job) (xs : List ℕ) (able : Lowerable J xs) where
 
   -- ---- (i)
   pub both-offered : (i : ℕ) → i < length (J .actions) → fitsAlone J (actionOf J i) ≡ true
-      → actionOf J i .duration ≤ 255 → AllOffered J xs (endNumber J xs (actionOf J i) (actionOf J i .needs)) (actionOf J i .adds) (actionOf J i .adds)
+      → actionOf J i .duration ≤ 255
+      → AllOffered J xs (endNumber J xs (actionOf J i) (actionOf J i .needs)) (actionOf J i .adds) (actionOf J i .adds)
   both-offered i known fits short p a hp q b hq l = (
     both i (alone-by-number i (actionOf J i .needs) known fits _ (omega arith) l) hp hq,
     end-within-finite i (actionOf J i .needs) known short l,
@@ -183,7 +185,8 @@ module _ (J : Job) (xs : List ℕ) (able : Lowerable J xs) where
           ⊎-elim
               (λ e.
               let same = eqb-true p q e in
-              both i (alone-by-number i (a .needs) known (fits-alone-of-together J a b joined-fit) t (omega arith) (omega arith))
+              both i (alone-by-number i (a .needs) known (fits-alone-of-together J a b joined-fit) t (omega arith)
+              (omega arith))
               hp (rw same at hp))
               (λ e. each i j (eqb-false p q e) (together-by-number t (omega arith) l) hp hq)
               (decided (eqb p q)),

@@ -64,7 +64,8 @@ module _ (job : held.Job) where
     misfit-lowers xs e able = lowering-none J (ActionDone J i) xs (able .kept) (λ f. absurd (true≢false (sym f ∙ e)))
 
     -- the needs are unreachable
-    pub late-lowers : (xs : List ℕ) (time : ℕ) → EndsAt (job .facts) (getD (job .actions) i beyond) xs time → time ≡ none
+    pub late-lowers : (xs : List ℕ) (time : ℕ) → EndsAt (job .facts) (getD (job .actions) i beyond) xs time
+        → time ≡ none
         → LowersAction job i xs xs false
     late-lowers xs time ends late able =
         let is = is-action job i known in
@@ -86,7 +87,8 @@ module _ (job : held.Job) where
         let both-and-one = lowering-then J (BothSettled J i) (OneSettled J i)
         (λ xs. BothSettled J i xs × OneSettled J i xs) ws xs ys b c first second (λ x y. (x, y)) in
         let third = each (lowerable-on J _ ws ys (c || b) able both-and-one) in
-        lowering-then J (λ xs. BothSettled J i xs × OneSettled J i xs) (EachSettled J i) (ActionDone J i) ws ys zs (c || b) d
+        lowering-then J (λ xs. BothSettled J i xs × OneSettled J i xs) (EachSettled J i) (ActionDone J i) ws ys zs
+        (c || b) d
         both-and-one third (λ x y f. record { both = x .0; one = x .1; each = y })
 
   -- ---- the start set, and all actions
@@ -97,5 +99,6 @@ module _ (job : held.Job) where
       → LowersActions job ys zs c → Sweeps job xs zs (c || b)
   sweeps xs ys zs b c start actions able =
       let first = start J able refl (start-offered xs) in
-      lowering-then J (AllAtMost (J .facts) (J .start) (J .start) 0 (J .facts)) (ActionsDone J) (Settled J) xs ys zs b c first
+      lowering-then J (AllAtMost (J .facts) (J .start) (J .start) 0 (J .facts)) (ActionsDone J) (Settled J) xs ys zs
+      b c first
       (actions (lowerable-on J _ xs ys b able first)) (λ x y. record { start = x; actions = y })

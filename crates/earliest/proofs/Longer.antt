@@ -71,7 +71,8 @@ module _ (J : Job) where
         fits = fit-swapped (actionOf J j) (actionOf J i) ∙ c .fits;
         longer = omega arith;
         from = c .bothFrom;
-        ready = timeOf-part J T needs-j (union needs-i needs-j) (c .bothFrom) (in-union-right needs-i needs-j) (c .bothReady);
+        ready = timeOf-part J T needs-j (union needs-i needs-j) (c .bothFrom) (in-union-right needs-i needs-j)
+            (c .bothReady);
         ends = end;
         bothFrom = c .bothFrom;
         bothReady = rw (union-comm needs-j needs-i) (c .bothReady);

@@ -30,7 +30,8 @@ all-as xs ys r facts facts′ set set′ other other′ t t′ e f g h l = rw (�
 
 -- the end computed from the value is the end of the action
 end-of-value : (J : Job) (facts i : ℕ) (n : Counts) (action : value.Action) (xs : List ℕ) (set ready time : ℕ)
-    → IsAction J facts i n action → SameTime ready (setNumber xs set facts) → time ≡ afterNumber (action .duration) ready
+    → IsAction J facts i n action → SameTime ready (setNumber xs set facts)
+    → time ≡ afterNumber (action .duration) ready
     → time ≡ endNumber J xs (actionOf J i) set
 end-of-value J facts i n action xs set ready time is e f =
     rw (is .same, is .sameFacts) (f ∙ same-after ready (setNumber xs set facts) e (action .duration))
@@ -66,7 +67,8 @@ module _ (facts : ℕ) (xs ys : List ℕ) (r : Bool) where
   -- (ii)
   pub carried-lowers : (action : value.Action) (q ready time : ℕ)
       → has (union (action .adds) (action .deletes)) q ≡ false
-      → SameTime ready (setNumber xs (union (action .needs) (single q)) facts) → time ≡ afterNumber (action .duration) ready
+      → SameTime ready (setNumber xs (union (action .needs) (single q)) facts)
+      → time ≡ afterNumber (action .duration) ready
       → action .duration < 256 → LowersRow facts xs ys q (action .adds) time r → LowersCarried facts action q xs ys r
   carried-lowers action q ready time untouched e f byte lowers J i n able is fits here =
       let needs : action .needs ≡ actionOf J i .needs = ap (λ (a : Action). a .needs) (sym (is .same)) in
@@ -83,7 +85,8 @@ module _ (facts : ℕ) (xs ys : List ℕ) (r : Bool) where
   -- (iii)
   pub pair-lowers : (a b : value.Action) (bothReady first second time : ℕ) → EndsAt facts a xs first
       → SameTime bothReady (setNumber xs (union (a .needs) (b .needs)) facts)
-      → second ≡ afterNumber (b .duration) bothReady → time ≡ max first second → LowersAll facts xs ys (a .adds) (b .adds) time r → LowersPair facts a b xs ys r
+      → second ≡ afterNumber (b .duration) bothReady → time ≡ max first second
+      → LowersAll facts xs ys (a .adds) (b .adds) time r → LowersPair facts a b xs ys r
   pair-lowers a b bothReady first second time at f h k lowers J i j n able is-a is-b joined =
       let needs-a : a .needs ≡ actionOf J i .needs = ap (λ (a : Action). a .needs) (sym (is-a .same)) in
       let needs-b : b .needs ≡ actionOf J j .needs = ap (λ (a : Action). a .needs) (sym (is-b .same)) in
@@ -91,7 +94,8 @@ module _ (facts : ℕ) (xs ys : List ℕ) (r : Bool) where
       let adds-b : b .adds ≡ actionOf J j .adds = ap (λ (a : Action). a .adds) (sym (is-b .same)) in
       let ends-a = end-of-value J facts i n a xs (actionOf J i .needs) (setNumber xs (a .needs) facts) first is-a
       (inl (ap (λ (set : ℕ). setNumber xs set facts) needs-a)) (at .0) in
-      let ends-b = end-of-value J facts j n b xs (union (actionOf J i .needs) (actionOf J j .needs)) bothReady second is-b
+      let ends-b = end-of-value J facts j n b xs (union (actionOf J i .needs) (actionOf J j .needs)) bothReady
+      second is-b
       (same-time-as xs facts _ _ bothReady (ap₂ union needs-a needs-b) f) h in
       let ends : time ≡ bothEndNumber J xs (actionOf J i) (actionOf J j) = k ∙ ap₂ max ends-a ends-b in
       lowering-weaker J _ (PairSettled J i j) xs ys r

@@ -49,7 +49,8 @@ module _ (J : Job) (xs : List ℕ) (able : Lowerable J xs) (settled : Settled J 
       timeOf-part J (tableIn xs) set (union set (single q)) from (in-union-left set (single q)) h
 
   -- (ii): action i adds p and carries q; where it adds q too, (i) is no later
-  carried : (p q t i : ℕ) → p < J .facts → q < J .facts → Alone J (tableIn xs) t (union (actionOf J i .needs) (single q)) i
+  carried : (p q t i : ℕ) → p < J .facts → q < J .facts
+      → Alone J (tableIn xs) t (union (actionOf J i .needs) (single q)) i
       → has (actionOf J i .adds) p ≡ true → has (actionOf J i .deletes) q ≡ false
       → (ends : ℕ) × (entryAt xs q p ≤ ends) × ((ends ≤ t) × (ends < none))
   carried p q t i a b alone hp hq =
@@ -64,7 +65,8 @@ module _ (J : Job) (xs : List ℕ) (able : Lowerable J xs) (settled : Settled J 
       (λ e. (
         _,
         acts .one q b (has-union (actionOf J i .adds) (actionOf J i .deletes) q ∙ or-neither e hq) p a hp,
-        number-by-alone J xs able i (union (actionOf J i .needs) (single q)) (alone .known) (acts .both .0) (alone .from) t
+        number-by-alone J xs able i (union (actionOf J i .needs) (single q)) (alone .known) (acts .both .0)
+            (alone .from) t
             (alone .ready) (alone .ends),
       ))
       (decided (has (actionOf J i .adds) q))

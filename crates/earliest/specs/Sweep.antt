@@ -51,7 +51,7 @@ PairSettled J i j xs =
     let b = actionOf J j in
     AllAtMost (J .facts) (a .adds) (b .adds) (bothEndNumber J xs a b) (J .facts) xs
 
--- of actions i and j with durations d and e, i is the longer one; of two equally long ones the one with the higher number
+-- i is the longer one of actions i and j, with durations d and e; of two equally long ones the one with the higher number
 abbrev pub isLonger : ℕ → ℕ → ℕ → ℕ → Bool
 isLonger d e i j = ltb e d || (eqb d e && ltb j i)
 
@@ -146,16 +146,19 @@ LowersJoined facts pools available i j a b xs ys changed =
 
 -- a valid job's table
 abbrev pub LowersEach : held.Job → ℕ → List ℕ → List ℕ → Bool → Type 0
-LowersEach job i xs ys changed = Lowerable (jobIn job) xs → Lowering (jobIn job) (EachSettled (jobIn job) i) xs ys changed
+LowersEach job i xs ys changed =
+    Lowerable (jobIn job) xs → Lowering (jobIn job) (EachSettled (jobIn job) i) xs ys changed
 
 abbrev pub LowersAction : held.Job → ℕ → List ℕ → List ℕ → Bool → Type 0
-LowersAction job i xs ys changed = Lowerable (jobIn job) xs → Lowering (jobIn job) (ActionDone (jobIn job) i) xs ys changed
+LowersAction job i xs ys changed =
+    Lowerable (jobIn job) xs → Lowering (jobIn job) (ActionDone (jobIn job) i) xs ys changed
 
 abbrev pub ActionsDone : Job → List ℕ → Type 0
 ActionsDone J xs = (i : ℕ) → i < length (J .actions) → ActionDone J i xs
 
 abbrev pub LowersActions : held.Job → List ℕ → List ℕ → Bool → Type 0
-LowersActions job xs ys changed = Lowerable (jobIn job) xs → Lowering (jobIn job) (ActionsDone (jobIn job)) xs ys changed
+LowersActions job xs ys changed =
+    Lowerable (jobIn job) xs → Lowering (jobIn job) (ActionsDone (jobIn job)) xs ys changed
 
 abbrev pub Sweeps : held.Job → List ℕ → List ℕ → Bool → Type 0
 Sweeps job xs ys changed = Lowerable (jobIn job) xs → Lowering (jobIn job) (Settled (jobIn job)) xs ys changed

@@ -10,11 +10,15 @@ use Rattle.earliest.proofs.allowed.is_longer.Tie as tie
 
 returns : tie.Need-returns
 returns c =
-    rw (le-ltb (c .before .args .other) (c .before .args .duration) (omega arith), eq-eqb (c .before .args .duration) (c .before .args .other) (c .if1 .taken))
+    let d = c .before .args .duration in
+    let e = c .before .args .other in
+    rw (le-ltb e d (omega arith), eq-eqb d e (c .if1 .taken))
 
 returns-2 : tie.Need-returns-2
 returns-2 c =
-    rw (ne-eqb (c .before .args .duration) (c .before .args .other) (c .if1 .left)) (sym (or-false (ltb (c .before .args .other) (c .before .args .duration))))
+    let d = c .before .args .duration in
+    let e = c .before .args .other in
+    rw (ne-eqb d e (c .if1 .left)) (sym (or-false (ltb e d)))
 
 pub is-longer-spec : {M : Type 1} → statement M
 is-longer-spec = tie.close (tie.spec returns returns-2)

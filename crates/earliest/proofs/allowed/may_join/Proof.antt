@@ -19,7 +19,8 @@ returns c =
     let c-args = c .before .before .args in
     let c-is-longer = c .before .is-longer in
     λ J n has is-a is-b.
-    sym (not-joined-shorter J (c-args .i) (c-args .j) (rw (is-a, is-b) (sym (c-is-longer .ensures) ∙ not-true (c-is-longer .result) (c .if1 .taken))))
+    sym (not-joined-shorter J (c-args .i) (c-args .j) (rw (is-a, is-b)
+    (sym (c-is-longer .ensures) ∙ not-true (c-is-longer .result) (c .if1 .taken))))
 
 hinders-requires : tie.Need-hinders-requires
 hinders-requires c κs = search needs
@@ -31,7 +32,8 @@ returns-2 : tie.Need-returns-2
 returns-2 c =
     let c-args = c .before .before .before .before .before .args in
     λ J n has is-a is-b.
-    sym (not-joined-clashing J (c-args .i) (c-args .j) (rw (is-a, is-b) (sym (ap₂ _||_ (c .before .before .hinders .ensures n) (c .before .hinders2 .ensures n)) ∙ c .if2 .taken)))
+    sym (not-joined-clashing J (c-args .i) (c-args .j) (rw (is-a, is-b)
+    (sym (ap₂ _||_ (c .before .before .hinders .ensures n) (c .before .hinders2 .ensures n)) ∙ c .if2 .taken)))
 
 fit-together-requires : tie.Need-fit-together-requires
 fit-together-requires c κs = search needs
@@ -44,8 +46,10 @@ returns-3 c =
     let c-hinders = c .before .before .before .hinders in
     λ J n has is-a is-b.
     c .fit-together .ensures ∙ fit-together-in J n _ _ has (c-args .a) (c-args .b)
-    ∙ sym (joined-when-fitting J (c-args .i) (c-args .j) (rw (is-a, is-b) (sym (c-is-longer .ensures) ∙ not-false (c-is-longer .result) (c-if1 .left)))
-    (rw (is-a, is-b) (sym (ap₂ _||_ (c-hinders .ensures n) (c .before .before .hinders2 .ensures n)) ∙ c .before .if2 .left)) ∙ ap₂ (fitTogether J) is-a is-b)
+    ∙ sym (joined-when-fitting J (c-args .i) (c-args .j) (rw (is-a, is-b)
+    (sym (c-is-longer .ensures) ∙ not-false (c-is-longer .result) (c-if1 .left)))
+    (rw (is-a, is-b) (sym (ap₂ _||_ (c-hinders .ensures n) (c .before .before .hinders2 .ensures n))
+    ∙ c .before .if2 .left)) ∙ ap₂ (fitTogether J) is-a is-b)
 
 pub may-join-spec : {M : Type 1} → statement M
 may-join-spec =

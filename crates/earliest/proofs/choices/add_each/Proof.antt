@@ -21,7 +21,8 @@ returns c =
     let c-args = c .before .before .before .before .before .args in
     let c-pre = c .before .before .before .before .before .pre in
     let at = c-args in
-    let both = same-time-as (at .table .now) (at .facts) _ _ _ (c .before .before .union .ensures .0) (c .before .set-time .ensures) in
+    let both = same-time-as (at .table .now) (at .facts) _ _ _ (c .before .before .union .ensures .0)
+    (c .before .set-time .ensures) in
     (c-pre .0, pair-late (at .facts) (at .table .now) (at .a) (at .b) _ both (c .if1 .taken))
 
 end-requires : tie.Need-end-requires

@@ -20,7 +20,8 @@ returns c =
     let c-args = c .before .before .before .before .args in
     let c-pre = c .before .before .before .before .pre in
     let at = c-args in
-    let touched = ap (λ (s : ℕ). has s (at .q)) (sym (c .before .before .union .ensures .0)) ∙ sym (c .before .has .ensures) ∙ c .if1 .taken in
+    let touched = ap (λ (s : ℕ). has s (at .q)) (sym (c .before .before .union .ensures .0))
+    ∙ sym (c .before .has .ensures) ∙ c .if1 .taken in
     (c-pre .0, carries-nothing (at .facts) (at .table .now) (at .action) (at .q) touched)
 
 single-requires : tie.Need-single-requires
@@ -60,9 +61,13 @@ returns-2 c =
     let lowers = c .before .before .lower-row .ensures in
     let at = c-args in
     let untouched = ap (λ (s : ℕ). has s (at .q)) (sym (c-union .ensures .0)) ∙ sym (c-has .ensures) ∙ c-if1 .left in
-    let set : c-union2 .result ≡ union (at .action .needs) (single (at .q)) = c-union2 .ensures .0 ∙ ap (union (at .action .needs)) (c-single .ensures) in
-    let ready = same-time-as (at .table .now) (at .facts) _ _ _ set (c-set-time .ensures) in
-    (lowers .0, carried-lowers (at .facts) _ _ _ (at .action) (at .q) _ _ untouched ready (c-after .ensures .0) (c-after .ensures .1) (lowers .1))
+    let set : c-union2 .result ≡ union (at .action .needs) (single (at .q)) =
+    c-union2 .ensures .0 ∙ ap (union (at .action .needs)) (c-single .ensures) in
+    let ready = same-time-as (at .table .now) (at .facts) _ _ _ set (c-set-time .ensures) in (
+      lowers .0,
+      carried-lowers (at .facts) _ _ _ (at .action) (at .q) _ _ untouched ready (c-after .ensures .0)
+          (c-after .ensures .1) (lowers .1),
+    )
 
 pub carry-spec : {M : Type 1} → statement M
 carry-spec =

@@ -13,8 +13,11 @@ after-requires : tie.Need-after-requires
 after-requires c κs = search needs
 
 returns : tie.Need-returns
-returns c =
-    (c .after .ensures .0 ∙ same-after (c .before .set-time .result) _ (c .before .set-time .ensures) (c .before .before .before .args .action .duration), c .after .ensures .1)
+returns c = (
+  c .after .ensures .0 ∙ same-after (c .before .set-time .result) _ (c .before .set-time .ensures)
+      (c .before .before .before .args .action .duration),
+  c .after .ensures .1,
+)
 
 pub end-spec : {M : Type 1} → statement M
 end-spec = tie.close (tie.spec set-time-requires after-requires returns)

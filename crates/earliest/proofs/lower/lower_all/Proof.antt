@@ -19,8 +19,11 @@ abbrev μ-loop : tie.MeasureT-loop
 
 returns : tie.Need-returns Inv-loop μ-loop
 returns c =
-    let at = c .before .before .args in
-    (c .before .before .pre .0, all-unreachable (at .facts) (at .set) (at .other) (at .time) (at .table .now) (c .if1 .taken))
+    let at = c .before .before .args in (
+      c .before .before .pre .0,
+      all-unreachable (at .facts) (at .set) (at .other) (at .time) (at .table .now)
+          (c .if1 .taken),
+    )
 
 next-requires : tie.Need-next-requires Inv-loop μ-loop
 next-requires c κs = tt
@@ -62,7 +65,8 @@ loop-again c =
     let member = c-loop .inv .1 (omega arith) in
     swept-on _ _ _ _ _ p (c .next2 .result) xs _ b _ (c-loop .inv) (omega arith) (omega arith) (c .next2 .ensures)
     (lowers .0)
-    (λ J able. all-step (at .facts) (at .set) (at .time) _ (at .other) p xs _ b _ member (omega arith) (lowers .1) J able _)
+    (λ J able. all-step (at .facts) (at .set) (at .time) _ (at .other) p xs _ b _ member (omega arith)
+    (lowers .1) J able _)
 
 same-length : tie.Need-same-length Inv-loop μ-loop
 same-length c =

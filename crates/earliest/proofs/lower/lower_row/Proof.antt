@@ -19,8 +19,11 @@ abbrev μ-loop : tie.MeasureT-loop
 
 returns : tie.Need-returns Inv-loop μ-loop
 returns c =
-    let at = c .before .before .args in
-    (c .before .before .pre .0, row-unreachable (at .facts) (at .p) (at .set) (at .time) (at .table .now) (c .if1 .taken))
+    let at = c .before .before .args in (
+      c .before .before .pre .0,
+      row-unreachable (at .facts) (at .p) (at .set) (at .time) (at .table .now)
+          (c .if1 .taken),
+    )
 
 next-requires : tie.Need-next-requires Inv-loop μ-loop
 next-requires c κs = tt

@@ -23,7 +23,8 @@ read xs first low high whole e l k =
     ap (λ (k : ℕ). getD xs k 0) place ∙ getD-inside xs (entryOf low high) 0 none (omega arith)
 
 abbrev Inv-loop : tie.InvT-loop
-Inv-loop table set high first latest₀ low₀ latest low = Counted set (λ p. getD table (entryOf p high) none) (suc high) low latest
+Inv-loop table set high first latest₀ low₀ latest low =
+    Counted set (λ p. getD table (entryOf p high) none) (suc high) low latest
 
 abbrev μ-loop : tie.MeasureT-loop
 μ-loop table set high first latest₀ low₀ latest low = 64 - low
@@ -67,8 +68,10 @@ returns c =
     let c-loop = c .before .before .before .before .loop in
     let c-later = c .before .later in
     let h = c-pre in
-    let value = read (c-args .table .now) (c-entry .result) (c-loop .low) (c-args .high) (h .0) (c-entry .ensures .0) (omega arith) (h .1) in
-    counted-late _ _ _ (c-loop .low) (c-loop .latest) _ (c-later .result) (c-loop .inv) (omega arith) (omega arith) (inl value)
+    let value = read (c-args .table .now) (c-entry .result) (c-loop .low) (c-args .high) (h .0) (c-entry .ensures .0)
+    (omega arith) (h .1) in
+    counted-late _ _ _ (c-loop .low) (c-loop .latest) _ (c-later .result) (c-loop .inv) (omega arith) (omega arith)
+    (inl value)
     (c-later .ensures) (c .if1 .taken)
 
 add-next : tie.Need-add-next Inv-loop μ-loop
@@ -92,7 +95,8 @@ loop-again c =
     let c-loop = c .before .before .before .before .before .loop in
     let c-later = c .before .before .later in
     let h = c-pre in
-    let value = read (c-args .table .now) (c-entry .result) (c-loop .low) (c-args .high) (h .0) (c-entry .ensures .0) (omega arith) (h .1) in
+    let value = read (c-args .table .now) (c-entry .result) (c-loop .low) (c-args .high) (h .0) (c-entry .ensures .0)
+    (omega arith) (h .1) in
     counted-on _ _ _ (c-loop .low) (c-loop .latest) _ (c-later .result) (c .next2 .result) (c-loop .inv) (omega arith)
     (omega arith) (inl value) (c-later .ensures) (c .before .if1 .left) (c .next2 .ensures)
 
