@@ -1,31 +1,29 @@
 -- The choices as the code tries them: the number that it computes for a choice is the minute at which the choice ends.
 -- Assumes nothing.
-use Prim.Native.Nat.{ℕ, _+_, _*_, _≤_, _<_, max}
+use Prim.Native.Nat.{ℕ, _+_, _*_, _≤_, _<_}
 use mathlib.Core.Path.{_≡_, sym, ap, _∙_}
 use mathlib.Core.Bool.{Bool, true, false, not, _&&_, _||_, true≢false}
 use mathlib.Core.Logic.{_⊎_, ⊎-elim}
 use mathlib.Core.List.{List}
 use native.Mathlib.Omega.{arith}
-use lib.Dec.{eqb, ltb}
+use lib.Dec.{eqb}
 use lib.ListN.{length, getD}
 use borrow.Author.Tests.{eqb-true, eqb-false, not-true, ltb-false, le-ltb}
 use Rattle.lists.proofs.Bools.{and-left, and-right, or-left, or-right}
 use Rattle.facts.specs.FactSet.{has, union, single}
 use Rattle.facts.proofs.Membership.{has-union}
-use Rattle.facts.proofs.SetLaws.{in-union-left}
 use Rattle.job.specs.Job.{Action, Job}
 use Rattle.job.specs.Valid.{over}
 use Rattle.timeline.specs.Timeline.{hinders}
 use Rattle.timeline.proofs.Tests.{decided}
 use Rattle.timeline.proofs.Places.{below-none, none-below}
-use Rattle.times.specs.Time.{Time}
 use Rattle.times.specs.Earliest.{timeOf, actionOf, fitsAlone, fitTogether}
 use Rattle.times.specs.Numbers.{none, tableIn}
-use Rattle.times.proofs.Times.{By, by-timeOf, timeOf-by}
-use Rattle.times.proofs.Choices.{Alone, Together, Reached, both, one, other, each, eachOther}
+use Rattle.times.proofs.Times.{By}
+use Rattle.times.proofs.Choices.{Alone, Together, both, one, other, each}
 use Rattle.times.proofs.Kept.{finiteIn}
-use Rattle.earliest.specs.Numbers.{setNumber, afterNumber}
-use Rattle.earliest.specs.Lowering.{Lowerable, Offered, RowOffered, AllOffered}
+use Rattle.earliest.specs.Numbers.{setNumber}
+use Rattle.earliest.specs.Lowering.{Lowerable, RowOffered, AllOffered}
 use Rattle.earliest.specs.Sweep.{endNumber, bothEndNumber, isLonger, mayJoin}
 use Rattle.earliest.proofs.SetTimes.{number-by-set, set-by-number, number-of-reachable, number-within-finite}
 use Rattle.earliest.proofs.SetTimes.{after-finite, finite-of-after}

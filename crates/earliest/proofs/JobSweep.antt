@@ -1,14 +1,13 @@
 -- Sweeps over a job value: its actions, its start set, and one action after the other.
 -- Assumes nothing.
-use Prim.Native.Nat.{ℕ, _+_, _≤_, _<_}
+use Prim.Native.Nat.{ℕ, _<_}
 use mathlib.Core.Path.{_≡_, refl, sym, _∙_}
 use mathlib.Core.Bool.{Bool, true, false, _||_, true≢false}
 use mathlib.Core.List.{List}
 use native.Mathlib.Omega.{arith}
-use lib.ListN.{length, getD}
+use lib.ListN.{getD}
 use Rattle.lists.proofs.Tabulate.{length-tabulate, getD-tabulate}
 use Rattle.job.specs.declared.Action as value
-use Rattle.job.specs.declared.Counts.{Counts}
 use Rattle.job.specs.declared.Job as held
 use Rattle.job.specs.Job.{Job, jobIn, actionAt, beyond}
 use Rattle.timeline.specs.Step.{noAction}
@@ -16,9 +15,9 @@ use Rattle.times.specs.Earliest.{actionOf, fitsAlone}
 use Rattle.times.specs.Numbers.{none}
 use Rattle.times.proofs.Choices.{atStart}
 use Rattle.earliest.specs.Numbers.{setNumber}
-use Rattle.earliest.specs.Lowering.{Lowerable, Lowering, AllAtMost, AllOffered, LowersAll}
-use Rattle.earliest.specs.Sweep.{BothSettled, OneSettled, EachSettled, ActionSettled, ActionDone, Settled}
-use Rattle.earliest.specs.Sweep.{mayJoin, HasPools, IsAction, MayJoin, JoinedSettled, LowersJoined, LowersPair}
+use Rattle.earliest.specs.Lowering.{AllAtMost, AllOffered, LowersAll}
+use Rattle.earliest.specs.Sweep.{BothSettled, OneSettled, EachSettled, ActionDone, Settled}
+use Rattle.earliest.specs.Sweep.{HasPools, IsAction, MayJoin, JoinedSettled, LowersJoined, LowersPair}
 use Rattle.earliest.specs.Sweep.{EndsAt, LowersBoth, LowersOne, LowersEach, LowersAction}
 use Rattle.earliest.specs.Sweep.{ActionsDone, LowersActions, Sweeps}
 use Rattle.earliest.proofs.SetTimes.{late-of-after}

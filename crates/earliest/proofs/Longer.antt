@@ -15,8 +15,8 @@ use Rattle.job.specs.Job.{Action, Job}
 use Rattle.job.specs.Valid.{over}
 use Rattle.timeline.proofs.Below.{below-same}
 use Rattle.timeline.proofs.Tests.{or-cases, le-or-lt}
-use Rattle.times.specs.Earliest.{Table, timeOf, actionOf, fitTogether}
-use Rattle.times.proofs.Times.{By, timeOf-part}
+use Rattle.times.specs.Earliest.{Table, actionOf, fitTogether}
+use Rattle.times.proofs.Times.{timeOf-part}
 use Rattle.times.proofs.Choices.{Together}
 use Rattle.earliest.specs.Sweep.{isLonger}
 

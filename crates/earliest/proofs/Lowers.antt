@@ -9,11 +9,11 @@ use native.Mathlib.Omega.{arith}
 use Rattle.facts.specs.FactSet.{has, union, single}
 use Rattle.job.specs.declared.Action as value
 use Rattle.job.specs.declared.Counts.{Counts}
-use Rattle.job.specs.Job.{Action, Job, actionIn}
-use Rattle.times.specs.Earliest.{actionOf, fitsAlone}
+use Rattle.job.specs.Job.{Action, Job}
+use Rattle.times.specs.Earliest.{actionOf}
 use Rattle.earliest.specs.Numbers.{setNumber, afterNumber, SameTime}
 use Rattle.earliest.specs.Lowering.{LowersRow, LowersAll}
-use Rattle.earliest.specs.Sweep.{endNumber, bothEndNumber, mayJoin, IsAction, EndsAt}
+use Rattle.earliest.specs.Sweep.{endNumber, bothEndNumber, IsAction, EndsAt}
 use Rattle.earliest.specs.Sweep.{BothSettled, CarriedSettled, PairSettled}
 use Rattle.earliest.specs.Sweep.{LowersBoth, LowersCarried, LowersPair}
 use Rattle.earliest.proofs.SetTimes.{same-after, same-time-as}

@@ -5,7 +5,6 @@ use mathlib.Core.Path.{_≡_, refl, ap}
 use mathlib.Core.Bool.{Bool, true, false, cond}
 use mathlib.Core.Logic.{⊎-elim}
 use mathlib.Core.List.{List}
-use native.Mathlib.Nat.{le-refl}
 use native.Mathlib.Omega.{arith}
 use lib.Dec.{ltb}
 use lib.ListN.{getD}
@@ -13,7 +12,6 @@ use borrow.Author.Tests.{ltb-true, ltb-false, le-ltb, lt-ltb}
 use Rattle.facts.specs.FactSet.{has, Subset}
 use Rattle.job.specs.Job.{Job}
 use Rattle.pairs.specs.Pairs.{entryOf}
-use Rattle.timeline.proofs.Tests.{decided}
 use Rattle.times.specs.Time.{Time, at, unreachable}
 use Rattle.times.specs.Earliest.{timeOf}
 use Rattle.times.specs.Numbers.{none, tableIn}

@@ -1,12 +1,12 @@
 -- A sweep in which no entry fell: the table solves the equations.
 -- Assumes nothing.
-use Prim.Native.Nat.{ℕ, _+_, _≤_, _<_, min, max}
+use Prim.Native.Nat.{ℕ, _≤_, _<_, min, max}
 use mathlib.Core.Path.{_≡_, ap, ap₂, sym, _∙_}
 use mathlib.Core.Bool.{Bool, true, false, not}
 use mathlib.Core.Logic.{⊎-elim}
 use mathlib.Core.List.{List}
 use native.Mathlib.Omega.{arith}
-use lib.ListN.{length, getD}
+use lib.ListN.{getD}
 use Rattle.facts.specs.FactSet.{has, union, single}
 use Rattle.facts.proofs.Membership.{has-union}
 use Rattle.facts.proofs.SetLaws.{in-union-left}

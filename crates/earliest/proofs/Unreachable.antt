@@ -1,7 +1,7 @@
 -- What is unreachable lowers nothing: no entry is later than the number for unreachable.
 -- Assumes nothing.
 use Prim.Native.Nat.{ℕ, _≤_, _<_, min, max}
-use mathlib.Core.Path.{_≡_, sym, ap, _∙_}
+use mathlib.Core.Path.{_≡_}
 use mathlib.Core.Bool.{false}
 use mathlib.Core.Logic.{⊎-elim}
 use mathlib.Core.List.{List}
@@ -13,9 +13,9 @@ use Rattle.job.specs.declared.Action as value
 use Rattle.job.specs.Job.{Action, Job}
 use Rattle.times.specs.Earliest.{actionOf}
 use Rattle.times.specs.Numbers.{none}
-use Rattle.earliest.specs.Numbers.{setNumber, afterNumber, SameTime}
+use Rattle.earliest.specs.Numbers.{setNumber, SameTime}
 use Rattle.earliest.specs.Lowering.{Lowerable, EntryAtMost, RowAtMost, AllAtMost, LowersRow, LowersAll}
-use Rattle.earliest.specs.Sweep.{endNumber, BothSettled, OneSettled, PairSettled, EachSettled, ActionSettled}
+use Rattle.earliest.specs.Sweep.{endNumber, PairSettled, ActionSettled}
 use Rattle.earliest.specs.Sweep.{LowersPair}
 use Rattle.earliest.proofs.SetTimes.{number-of-part}
 use Rattle.earliest.proofs.LoweringLaws.{lowering-none, entry-at-most-sentinel}

@@ -1,6 +1,6 @@
 -- `may_join` meets its contract, test by test.
 -- Assumes nothing.
-use mathlib.Core.Path.{_≡_, sym, ap, ap₂, _∙_}
+use mathlib.Core.Path.{sym, ap₂, _∙_}
 use mathlib.Core.Bool.{_||_}
 use borrow.Author.Tests.{not-true, not-false}
 use Rattle.timeline.specs.Timeline.{hinders}

@@ -1,6 +1,5 @@
 -- `by_action` meets its contract: an action that does not fit, or whose needs are unreachable, is no choice.
 -- Assumes nothing.
-use Prim.Native.Nat.{_<_}
 use mathlib.Core.Path.{sym, ap, _∙_}
 use lib.ListN.{getD}
 use borrow.Author.Tests.{not-true, not-false}
