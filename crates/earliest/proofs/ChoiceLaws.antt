@@ -10,8 +10,9 @@ use lib.Dec.{eqb}
 use lib.ListN.{length, getD}
 use borrow.Author.Tests.{eqb-true, eqb-false, not-true, ltb-false, le-ltb}
 use Rattle.lists.proofs.Bools.{and-left, and-right, or-left, or-right}
-use Rattle.facts.specs.FactSet.{has, union, single}
+use Rattle.facts.specs.FactSet.{has, union, difference, single}
 use Rattle.facts.proofs.Membership.{has-union}
+use Rattle.facts.proofs.SetLaws.{in-difference-parts}
 use Rattle.job.specs.Job.{Action, Job}
 use Rattle.job.specs.Valid.{over}
 use Rattle.timeline.specs.Timeline.{hinders}
@@ -176,20 +177,14 @@ module _ (J : Job) (xs : List ℕ) (able : Lowerable J xs) where
         let n = end-within-finite j both-needs known-too (omega arith) (omega arith) in
         omega arith
 
-    -- a fact that both add comes about by the longer one alone
-    pub pair-offered : a .duration ≤ 255 → AllOffered J xs (bothEndNumber J xs a b) (a .adds) (b .adds)
+    pub pair-offered : a .duration ≤ 255
+        → AllOffered J xs (bothEndNumber J xs a b) (difference (a .adds) (b .adds)) (difference (b .adds) (a .adds))
     pair-offered short p m hp q n hq l =
-        let t : ℕ = bothEndNumber J xs a b in (
-          ⊎-elim
-              (λ e.
-              let same = eqb-true p q e in
-              both i (alone-by-number i (a .needs) known (fits-alone-of-together J a b joined-fit) t (omega arith)
-              (omega arith))
-              hp (rw same at hp))
-              (λ e. each i j (eqb-false p q e) (together-by-number t (omega arith) l) hp hq)
-              (decided (eqb p q)),
-          both-end-within-finite short l,
-        )
+        let only-p = in-difference-parts (a .adds) (b .adds) p hp in
+        let only-q = in-difference-parts (b .adds) (a .adds) q hq in
+        let unlike : p ≡ q → ⊥ = λ e. true≢false (sym (rw e at (only-p .0)) ∙ only-q .1) in
+        let t : ℕ = bothEndNumber J xs a b in
+        (each i j unlike (together-by-number t (omega arith) l) (only-p .0) (only-q .0), both-end-within-finite short l)
 
     pub number-by-together : a .duration ≤ 255 → (t : ℕ) → Together J (tableIn xs) t i j
         → (bothEndNumber J xs a b ≤ t) × (bothEndNumber J xs a b < none)

@@ -2,14 +2,18 @@
 -- Assumes nothing.
 use Prim.Native.Nat.{ℕ, _≤_, _<_, max}
 use mathlib.Core.Path.{_≡_, refl, sym, ap, ap₂, _∙_}
-use mathlib.Core.Bool.{Bool, true, false, true≢false}
-use mathlib.Core.Logic.{inl}
+use mathlib.Core.Bool.{Bool, true, false, _||_, true≢false}
+use mathlib.Core.Logic.{inl, ⊎-elim}
 use mathlib.Core.List.{List}
 use native.Mathlib.Omega.{arith}
-use Rattle.facts.specs.FactSet.{has, union, single}
+use lib.Dec.{eqb}
+use borrow.Author.Tests.{eqb-true}
+use Rattle.facts.specs.FactSet.{has, union, difference, single}
+use Rattle.facts.proofs.Membership.{has-zero}
 use Rattle.job.specs.declared.Action as value
 use Rattle.job.specs.declared.Counts.{Counts}
 use Rattle.job.specs.Job.{Action, Job}
+use Rattle.timeline.proofs.Tests.{or-cases}
 use Rattle.times.specs.Earliest.{actionOf}
 use Rattle.earliest.specs.Numbers.{setNumber, afterNumber, SameTime}
 use Rattle.earliest.specs.Lowering.{LowersRow, LowersAll}
@@ -49,6 +53,23 @@ carries-nothing facts xs action q touched J i n able is fits here =
     lowering-none J (CarriedSettled J i q) xs (able .kept)
     (λ untouched. absurd (true≢false (sym touched ∙ (rw (is .same) at untouched))))
 
+-- where one of two actions adds all that the other does, nothing is left for them together
+pub nothing-apart : (facts : ℕ) (xs : List ℕ) (a b : value.Action) (onlyA onlyB : ℕ)
+    → onlyA ≡ difference (a .adds) (b .adds) → onlyB ≡ difference (b .adds) (a .adds)
+    → (eqb onlyA 0 || eqb onlyB 0) ≡ true → LowersPair facts a b xs xs false
+nothing-apart facts xs a b onlyA onlyB x y none J i j n able is-a is-b joined =
+    let adds-a : actionOf J i .adds ≡ a .adds = ap (λ (a : Action). a .adds) (is-a .same) in
+    let adds-b : actionOf J j .adds ≡ b .adds = ap (λ (a : Action). a .adds) (is-b .same) in
+    lowering-none J (PairSettled J i j) xs (able .kept)
+    (λ p l hp q k hq.
+    absurd
+    (⊎-elim (λ z. empty p onlyA (eqb-true onlyA 0 z) (ap₂ difference adds-a adds-b ∙ sym x) hp)
+    (λ z. empty q onlyB (eqb-true onlyB 0 z) (ap₂ difference adds-b adds-a ∙ sym y) hq)
+    (or-cases (eqb onlyA 0) (eqb onlyB 0) none)))
+  where
+    empty : (p only : ℕ) → only ≡ 0 → {set : ℕ} → set ≡ only → has set p ≡ true → ⊥
+    empty p only e f h = true≢false (sym h ∙ ap (λ (s : ℕ). has s p) (f ∙ e) ∙ has-zero p)
+
 module _ (facts : ℕ) (xs ys : List ℕ) (r : Bool) where
   -- (i)
   pub both-lowers : (action : value.Action) (time : ℕ) → EndsAt facts action xs time
@@ -83,11 +104,12 @@ module _ (facts : ℕ) (xs ys : List ℕ) (r : Bool) where
       (λ settled other. settled)
 
   -- (iii)
-  pub pair-lowers : (a b : value.Action) (bothReady first second time : ℕ) → EndsAt facts a xs first
+  pub pair-lowers : (a b : value.Action) (onlyA onlyB bothReady first second time : ℕ)
+      → onlyA ≡ difference (a .adds) (b .adds) → onlyB ≡ difference (b .adds) (a .adds) → EndsAt facts a xs first
       → SameTime bothReady (setNumber xs (union (a .needs) (b .needs)) facts)
       → second ≡ afterNumber (b .duration) bothReady → time ≡ max first second
-      → LowersAll facts xs ys (a .adds) (b .adds) time r → LowersPair facts a b xs ys r
-  pair-lowers a b bothReady first second time at f h k lowers J i j n able is-a is-b joined =
+      → LowersAll facts xs ys onlyA onlyB time r → LowersPair facts a b xs ys r
+  pair-lowers a b onlyA onlyB bothReady first second time x y at f h k lowers J i j n able is-a is-b joined =
       let needs-a : a .needs ≡ actionOf J i .needs = ap (λ (a : Action). a .needs) (sym (is-a .same)) in
       let needs-b : b .needs ≡ actionOf J j .needs = ap (λ (a : Action). a .needs) (sym (is-b .same)) in
       let adds-a : a .adds ≡ actionOf J i .adds = ap (λ (a : Action). a .adds) (sym (is-a .same)) in
@@ -99,6 +121,7 @@ module _ (facts : ℕ) (xs ys : List ℕ) (r : Bool) where
       (same-time-as xs facts _ _ bothReady (ap₂ union needs-a needs-b) f) h in
       let ends : time ≡ bothEndNumber J xs (actionOf J i) (actionOf J j) = k ∙ ap₂ max ends-a ends-b in
       lowering-weaker J _ (PairSettled J i j) xs ys r
-      (all-as xs ys r _ _ _ _ _ _ _ _ (sym (is-a .sameFacts)) adds-a adds-b ends lowers J able refl
+      (all-as xs ys r _ _ _ _ _ _ _ _ (sym (is-a .sameFacts)) (x ∙ ap₂ difference adds-a adds-b)
+      (y ∙ ap₂ difference adds-b adds-a) ends lowers J able refl
       (pair-offered J xs able i j (is-a .known) (is-b .known) joined (byte-duration J facts i n a is-a (at .1))))
       (λ settled. settled)

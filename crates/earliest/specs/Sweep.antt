@@ -7,7 +7,7 @@ use mathlib.Core.List.{List}
 use lib.Dec.{eqb, ltb}
 use lib.ListN.{length, getD}
 use Rattle.lists.specs.Lists.{firsts}
-use Rattle.facts.specs.FactSet.{has, union, single}
+use Rattle.facts.specs.FactSet.{has, union, difference, single}
 use Rattle.job.specs.declared.Action as value
 use Rattle.job.specs.declared.Job as held
 use Rattle.job.specs.declared.Counts.{Counts}
@@ -44,14 +44,16 @@ OneSettled J i xs = (q : ℕ) → q < J .facts → CarriedSettled J i q xs
 abbrev pub bothEndNumber : Job → List ℕ → Action → Action → ℕ
 bothEndNumber J xs a b = max (endNumber J xs a (a .needs)) (endNumber J xs b (union (a .needs) (b .needs)))
 
--- choice (iii): the entries of what action i adds with what action j adds
+-- choice (iii): the entries of what only action i adds with what only action j adds
 abbrev pub PairSettled : Job → ℕ → ℕ → List ℕ → Type 0
 PairSettled J i j xs =
     let a = actionOf J i in
     let b = actionOf J j in
-    AllAtMost (J .facts) (a .adds) (b .adds) (bothEndNumber J xs a b) (J .facts) xs
+    AllAtMost (J .facts) (difference (a .adds) (b .adds)) (difference (b .adds) (a .adds)) (bothEndNumber J xs a b)
+    (J .facts) xs
 
--- i is the longer one of actions i and j, with durations d and e; of two equally long ones the one with the higher number
+-- i is the longer one of actions i and j, with durations d and e; of two equally long ones the one with the higher
+-- number
 abbrev pub isLonger : ℕ → ℕ → ℕ → ℕ → Bool
 isLonger d e i j = ltb e d || (eqb d e && ltb j i)
 

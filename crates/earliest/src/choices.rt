@@ -68,16 +68,21 @@ pub fn add_one(table: &mut [u32], facts: u8, action: Action) -> bool
     changed
 }
 
-// Choice (iii): the longer action a adds one fact, and b the other.
+// Choice (iii): the longer action a adds one fact, and b the other, unless one of them adds both.
 pub fn add_each(table: &mut [u32], facts: u8, a: Action, b: Action) -> bool
     requires { ⌜ (length (now table) ≡ 2080) × (facts ≤ 64) ⌝ }
     ensures { λ r. ⌜ (length (now (table .exit)) ≡ 2080)
         × LowersPair facts a b (now (table .entry)) (now (table .exit)) r ⌝ }
 {
+    let only_a = facts::difference(a.adds, b.adds);
+    let only_b = facts::difference(b.adds, a.adds);
+    if (only_a == 0) | (only_b == 0) {
+        return false;
+    }
     let both_ready = set_time::set_time(table, facts, facts::union(a.needs, b.needs));
     if set_time::LATEST < both_ready {
         return false;
     }
     let time = set_time::later(end(table, facts, a), after(b.duration, both_ready));
-    lower::lower_all(table, facts, a.adds, b.adds, time)
+    lower::lower_all(table, facts, only_a, only_b, time)
 }
