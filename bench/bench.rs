@@ -88,7 +88,7 @@ fn time_goal(what: &str, rounds: u32, job: &plain::Job) {
     row(what, proved, plain);
 }
 
-/// Compares the proved and the plain answers on jobs made by code, and times four.
+/// Compares the proved and the plain answers on jobs made by code, and times five.
 fn earliest_times() {
     let mut r = days::Random(1);
     for _ in 0..3000 {
@@ -101,7 +101,8 @@ fn earliest_times() {
     time_goal("earliest time in a project of 20 tasks", 20, &days::project(&mut r));
     time_goal("earliest time in a chain of 64", 5, &plain::read(&largest()).ok().unwrap());
     time_goal("earliest time, 64 actions that add half of 64 facts", 1, &days::dense(&mut r));
-    time_goal("earliest time, 64 sweeps over large sets", 1, &days::worst());
+    time_goal("earliest time, 64 sweeps over large sets", 1, &days::nested());
+    time_goal("earliest time, all reachable and falling", 1, &days::falling());
 }
 
 /// Times the earliest time of the goal for each job file in a folder.

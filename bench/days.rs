@@ -95,10 +95,19 @@ pub fn dense(r: &mut Random) -> Job {
     job(64, 0, u64::MAX, (0..64).map(action).collect())
 }
 
-/// The most sweeps over large sets: action i needs every fact above i and adds fact i and every one above. All lengths
-/// agree, so that every two actions are a choice both ways round.
-pub fn worst() -> Job {
+/// Many sweeps over large sets: action i needs every fact above i and adds fact i and every one above, all with one
+/// length.
+pub fn nested() -> Job {
     let above = |i: u64| (u64::MAX << i) << 1;
     let action = |i: u64| Action { duration: 255, needs: above(i), adds: u64::MAX << i, ..Action::default() };
     job(64, 0, u64::MAX, (0..64).map(action).collect())
+}
+
+/// Many sweeps in which every set is reachable: one long action adds all facts, and action i adds fact i sooner, with
+/// every fact above it as needs.
+pub fn falling() -> Job {
+    let above = |i: u64| (u64::MAX << i) << 1;
+    let mut actions = vec![Action { duration: 255, adds: u64::MAX, ..Action::default() }];
+    actions.extend((1..64).map(|i| Action { duration: 2, needs: above(i), adds: 1 << i, ..Action::default() }));
+    job(64, 0, u64::MAX, actions)
 }

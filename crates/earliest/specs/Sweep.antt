@@ -52,8 +52,7 @@ PairSettled J i j xs =
     AllAtMost (J .facts) (difference (a .adds) (b .adds)) (difference (b .adds) (a .adds)) (bothEndNumber J xs a b)
     (J .facts) xs
 
--- i is the longer one of actions i and j, with durations d and e; of two equally long ones the one with the higher
--- number
+-- of actions i and j with durations d and e, i is the longer one, or as long and has the higher number
 abbrev pub isLonger : ℕ → ℕ → ℕ → ℕ → Bool
 isLonger d e i j = ltb e d || (eqb d e && ltb j i)
 
