@@ -20,7 +20,7 @@ use Rattle.timeline.proofs.Places.{Place, Member}
 use Rattle.times.specs.Earliest.{actionOf, timeOf}
 use Rattle.times.specs.Numbers.{tableIn}
 use Rattle.times.proofs.Times.{By}
-use Rattle.earliest.specs.Numbers.{setNumber}
+use Rattle.earliest.specs.Numbers.{setNumber, SameTime}
 use Rattle.earliest.specs.Sweep.{Filled}
 use Rattle.earliest.proofs.SetTimes.{number-by-set}
 use Rattle.regression.specs.Wanted.{wantedAt}
@@ -115,26 +115,28 @@ module _ (J : Job) (sets numbers : List ℕ) (frame : Frame) (described : Descri
 
 -- ---- a set that cannot be there by then
 module _ (J : Job) (frame : Frame) (times : List ℕ) (filled : Filled J times) (facts : J .facts ≡ frame .facts) where
-  not-by : (set time m : ℕ) → time ≡ setNumber times set (frame .facts) → m < time → By (timeOf J (tableIn times) set) m → ⊥
-  not-by set time m e l h =
+  not-by : (set time m : ℕ) → SameTime time (setNumber times set (frame .facts)) → m ≤ 530400 → m < time
+      → By (timeOf J (tableIn times) set) m → ⊥
+  not-by set time m e c l h =
       let n = number-by-set J times (filled .able) set m h in
-      let f = e ∙ ap (setNumber times set) (sym facts) in
-      omega arith
+      let f = ap (setNumber times set) facts in
+      ⊎-elim (λ same. omega arith) (λ late. let late = late .1 in omega arith) e
 
   pub dead-when-late : (st : State) → Stands J frame st → (time : ℕ)
-      → time ≡ setNumber times (union (st .wanted) (st .at .across)) (frame .facts) → st .minute < time
+      → SameTime time (setNumber times (union (st .wanted) (st .at .across)) (frame .facts)) → st .minute ≤ 530400
+      → st .minute < time
       → DeadFor J frame (Until (frame .first) (st .minute)) (chosen J (st .steps))
-  dead-when-late st stands time e l =
+  dead-when-late st stands time e c l =
       dead-when-too-early J (frame .first) (frame .goal) (frame .horizon) _
       (times-bound J (frame .first) (frame .goal) (frame .horizon) (tableIn times) (filled .solves)) (chosen J (st .steps))
       (st .minute) (st .minute) (le-refl (st .minute)) (stands .inTime)
       (λ h.
-      not-by (union (st .wanted) (st .at .across)) time (st .minute) e l
+      not-by (union (st .wanted) (st .at .across)) time (st .minute) e c l
       (rw (stands .wants, stands .at .across) h))
 
-  pub dead-when-rushed : (L : List Step) (m time : ℕ) → time ≡ setNumber times (runningNeeds m L) (frame .facts) → m < time
-      → (t : ℕ) → DeadFor J frame (Until (frame .first) t) L
-  dead-when-rushed L m time e l t =
+  pub dead-when-rushed : (L : List Step) (m time : ℕ) → SameTime time (setNumber times (runningNeeds m L) (frame .facts))
+      → m ≤ 530400 → m < time → (t : ℕ) → DeadFor J frame (Until (frame .first) t) L
+  dead-when-rushed L m time e c l t =
       dead-when-running-too-early J (frame .first) (frame .goal) (frame .horizon) _
       (times-bound J (frame .first) (frame .goal) (frame .horizon) (tableIn times) (filled .solves)) L
-      (Until (frame .first) t) m (not-by (runningNeeds m L) time m e l)
+      (Until (frame .first) t) m (not-by (runningNeeds m L) time m e c l)

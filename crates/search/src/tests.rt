@@ -82,7 +82,7 @@ fn reached(
     until: u32,
 ) -> bool
     requires { ⌜ Lent (now sets) (now numbers) (frame .actions) × Known (frame .actions) steps
-        × (length (now times) ≡ 2080) × (frame .facts ≤ 64) ⌝ }
+        × (length (now times) ≡ 2080) × (frame .facts ≤ 64) × (until < 65536) ⌝ }
     ensures { λ r. ⌜ DeadUnlessReached (now (sets .entry)) (now (numbers .entry)) (now (times .entry)) frame steps r ⌝ }
 {
     if start < from {

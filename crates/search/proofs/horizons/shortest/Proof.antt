@@ -3,6 +3,7 @@
 use Prim.Native.Nat.{ℕ, _%_, _≤_, _<_}
 use mathlib.Core.Path.{_≡_, sym, ap, _∙_}
 use mathlib.Core.Bool.{true≢false}
+use mathlib.Core.Logic.{⊎-elim}
 use borrow.Author.Tests.{not-true, not-false}
 use Rattle.leaf.specs.declared.Answer.{Answer}
 use Rattle.search.proofs.Bounds.{none-before-goal}
@@ -24,15 +25,18 @@ nothing-requires c κs = tt
 
 returns : tie.Need-returns
 returns c =
+    let c-pre = c .before .before .before .before .before .before .before .before .pre in
     let c-args = c .before .before .before .before .before .before .before .before .args in
     let c-set-time = c .before .before .before .set-time in
     let none = ap (λ (a : Answer). a .found) (c .nothing .ensures) in
     let w = c .before .before .wide .ensures .0 in
     let time = c-set-time .ensures in
+    let h = c-pre .horizon in
     record {
       found = λ e. absurd (true≢false (sym e ∙ none));
       none = λ e J task passed bytes accepted.
-          let bound = none-before-goal J _ _ _ _ (c-args .frame) task passed bytes accepted in omega arith;
+          let bound = none-before-goal J _ _ _ _ (c-args .frame) task passed bytes accepted in
+          ⊎-elim (λ same. omega arith) (λ late. let n = late .1 in omega arith) time;
     }
 
 cast-ascend : tie.Need-cast-ascend
@@ -109,7 +113,8 @@ returns-4 c =
         down .raised J task passed
             (up .raised J task passed
             (λ bytes accepted.
-            let bound = none-before-goal J _ _ _ _ (c-args .frame) task passed bytes accepted in omega arith)),
+            let bound = none-before-goal J _ _ _ _ (c-args .frame) task passed bytes accepted in
+            ⊎-elim (λ same. omega arith) (λ late. let n = late .0 in omega arith) time)),
       );
       none = λ e. absurd (true≢false (sym (down .still) ∙ e));
     }

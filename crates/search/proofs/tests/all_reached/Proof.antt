@@ -37,7 +37,8 @@ reached-requires : tie.Need-reached-requires Inv-loop μ-loop
 reached-requires c κs =
     let at8 = c .before .before .before .before .before .before .before .before in
     let c-pre = at8 .before .before .pre in
-    c-pre
+    let c-wide2 = c .before .before .before .before .wide2 in
+    let h = c-pre in let w = c-wide2 .ensures .1 in (h .0, h .1, h .2, h .3, w)
 
 returns : tie.Need-returns Inv-loop μ-loop
 returns c =

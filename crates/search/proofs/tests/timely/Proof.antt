@@ -1,9 +1,7 @@
 -- `timely` meets its contract: what must hold comes later than the minute.
 -- Assumes nothing.
-use Prim.Native.Nat.{ℕ}
-use mathlib.Core.Path.{ap, _∙_}
 use borrow.Author.Tests.{leb-false}
-use Rattle.earliest.specs.Numbers.{setNumber}
+use Rattle.earliest.proofs.SetTimes.{same-time-as}
 use Rattle.search.proofs.StateTests.{dead-when-late}
 use native.Mathlib.Omega.{arith}
 use borrow.Author.Needs.{needs}
@@ -27,8 +25,9 @@ returns c =
     let at = c-args in
     let w = c .wide .ensures .0 in
     let late = leb-false (c-set-time .result) (c .wide .result) e in
-    let time = c-set-time .ensures ∙ ap (λ (set : ℕ). setNumber (at .times .now) set (at .frame .facts)) (c .before .before .union .ensures .0) in
-    dead-when-late J (at .frame) (at .times .now) filled (described .facts) (at .st) stands (c-set-time .result) time (omega arith)
+    let small = c .wide .ensures .1 in
+    let time = same-time-as (at .times .now) (at .frame .facts) _ _ (c-set-time .result) (c .before .before .union .ensures .0) (c-set-time .ensures) in
+    dead-when-late J (at .frame) (at .times .now) filled (described .facts) (at .st) stands (c-set-time .result) time (omega arith) (omega arith)
 
 pub timely-spec : {M : Type 1} → statement M
 timely-spec = tie.close (tie.spec union-requires set-time-requires wide-requires returns)
