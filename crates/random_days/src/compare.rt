@@ -1,0 +1,92 @@
+// Both planners on one job. The planner's plan is also checked, and so are the bytes that it leaves.
+use checker::Checked;
+use job::Job;
+use planner::Planned;
+use second::Makespan;
+
+// What a byte of the slice holds before.
+const FILL: u8 = 170;
+
+// The bytes of a slice for every plan.
+const ROOM: usize = 96;
+
+// The most steps of a plan, and the bytes of one.
+const STEPS: usize = 32;
+
+const STEP: usize = 3;
+
+// What both planners say of a job, or that they differ.
+pub enum Outcome {
+    Ends(u32),
+    NoPlan,
+    TooLarge, // for the second planner
+    Differs,
+}
+
+// The first bytes, so many, or all where there are fewer.
+fn front(bytes: &[u8], length: usize) -> &[u8] {
+    if length <= bytes.len() {
+        &bytes[0..length]
+    } else {
+        bytes
+    }
+}
+
+// Whether every byte from a place on is as before.
+fn kept(slice: &[u8], from: usize) -> bool {
+    let mut i = from;
+    while i < slice.len() {
+        if slice[i] != FILL {
+            return false;
+        }
+        i += 1;
+    }
+    true
+}
+
+// Whether the checker accepts the plan with this end.
+fn accepted(job: Job, plan: &[u8], end: u32) -> bool {
+    match checker::check(job, plan) {
+        Checked::Ends(last) => last == end,
+        Checked::Refused(_) => false,
+    }
+}
+
+// Whether so many steps at the front of the slice are accepted with this end, and the rest is as before.
+fn handed_out(job: Job, slice: &[u8], end: u32, steps: usize) -> bool {
+    if STEPS < steps {
+        return false;
+    }
+    let size = steps * STEP;
+    accepted(job, front(slice, size), end) & kept(slice, size)
+}
+
+// Whether the planner ends at this minute too.
+fn same_end(job: Job, end: u32) -> bool {
+    let mut slice = [FILL; ROOM];
+    match planner::plan(job, &mut slice) {
+        Planned::Ends(last, steps) => (last == end) & handed_out(job, &slice, end, steps),
+        Planned::Refused(_) => false,
+    }
+}
+
+// Whether the planner finds no plan either.
+fn no_plan(job: Job) -> bool {
+    let mut slice = [FILL; ROOM];
+    match planner::plan(job, &mut slice) {
+        Planned::Ends(_, _) => false,
+        Planned::Refused(why) => (job::refusal::number(why) == 22) & kept(&slice, 0),
+    }
+}
+
+fn unless_differs(same: bool, outcome: Outcome) -> Outcome {
+    if same { outcome } else { Outcome::Differs }
+}
+
+pub fn compare(job: Job) -> Outcome {
+    match second::shortest(job) {
+        Makespan::Ends(end) => unless_differs(same_end(job, end), Outcome::Ends(end)),
+        Makespan::NoPlan => unless_differs(no_plan(job), Outcome::NoPlan),
+        Makespan::TooLarge => Outcome::TooLarge,
+    }
+}

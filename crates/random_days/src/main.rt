@@ -1,0 +1,9 @@
+// The planner against the plain second planner on random small jobs: a line for each seed at which they differ, and
+// totals.
+mod compare; // both planners on one job
+mod random; // both on many jobs
+mod show; // the lines of the output
+
+fn main() {
+    random::days();
+}
