@@ -84,7 +84,8 @@ pub record Rises (file sets numbers times : List ℕ) (frame : Frame) (from : �
       → (bytes : List ℕ) → Accepted J (frame .goal) bytes → frame .horizon < end (stepsIn J bytes)
 
 -- between the bounds: the lower one rises, or the plan ends earlier
-pub record Narrows (file sets numbers times : List ℕ) (frame : Frame) (from : ℕ) (best : Answer) (r : Rise) : Type 0 where
+pub record Narrows (file sets numbers times : List ℕ) (frame : Frame) (from : ℕ) (best : Answer) (r : Rise)
+    : Type 0 where
   pub found : FoundBy file sets numbers times frame best → FoundBy file sets numbers times frame (r .answer)
   pub raised : Raised file sets numbers times frame from (r .low)
   pub closer : (r .answer .end + from < best .end + r .low) × (r .answer .end ≤ best .end) × (from ≤ r .low)

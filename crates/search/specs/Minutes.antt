@@ -55,7 +55,8 @@ pub record Is (x : Step) (number start stop needs adds : ℕ) : Type 0 where
 -- one step more
 abbrev pub JoinsStep : List ℕ → List ℕ → ℕ → ℕ → ℕ → Minute → Minute → Type 0
 JoinsStep sets numbers t i start m r =
-    (J : Job) → DescribesAction J sets numbers i → (L : List Step) → MinuteOf t L m → MinuteOf t (stepOf J i start ∷ L) r
+    (J : Job) → DescribesAction J sets numbers i → (L : List Step) → MinuteOf t L m
+    → MinuteOf t (stepOf J i start ∷ L) r
 
 -- all chosen steps
 abbrev pub LooksAt : List ℕ → List ℕ → ℕ → Steps → ℕ → Minute → Type 0

@@ -36,7 +36,8 @@ pub record Taken (sets numbers : List ℕ) (st : State) (i : ℕ) (r : State) : 
 -- a state of which the test is false is a dead end
 abbrev pub DeadUnless : List ℕ → State → Bool → Type 0
 DeadUnless sets st test =
-    test ≡ false → (numbers : List ℕ) (frame : Frame) → Known (frame .actions) (st .steps) → DeadBy sets numbers frame st
+    test ≡ false → (numbers : List ℕ) (frame : Frame) → Known (frame .actions) (st .steps)
+    → DeadBy sets numbers frame st
 
 -- ---- back to the event minute before
 

@@ -77,7 +77,8 @@ pub record Safe (sets numbers : List ℕ) (frame : Frame) (st : State) : Type 0 
 -- what the sets of action i say of it
 pub record SetsAllow (sets : List ℕ) (st : State) (i : ℕ) (allow : Bool) : Type 0 where
   pub apart : allow ≡ true → meets (clashesAt sets i) (st .at .running) ≡ false
-  pub barred : allow ≡ false → (numbers : List ℕ) (frame : Frame) → i < frame .actions → Known (frame .actions) (st .steps)
+  pub barred : allow ≡ false → (numbers : List ℕ) (frame : Frame) → i < frame .actions
+      → Known (frame .actions) (st .steps)
       → BarredBy sets numbers frame st i
 
 -- an action that may stop at the state's minute has room, fits and does not run in the minute before; one that may not

@@ -23,7 +23,8 @@ fn until(frame: Frame, horizon: u16) -> Frame
 // A plan that ends by the frame's horizon.
 fn solve(sets: &[u64], numbers: &[u32], times: &[u32], file: &[u8], frame: Frame) -> Answer
     requires { ⌜ Whole (now sets) (now numbers) (now times) frame ⌝ }
-    ensures { λ r. ⌜ Solves (now (file .entry)) (now (sets .entry)) (now (numbers .entry)) (now (times .entry)) frame r ⌝ }
+    ensures { λ r. ⌜ Solves (now (file .entry)) (now (sets .entry)) (now (numbers .entry)) (now (times .entry))
+        frame r ⌝ }
 {
     let steps = Steps::none();
     let at = minute::look(
@@ -75,7 +76,8 @@ fn longer(stride: u16) -> u16
 // From the minute `low` upwards with doubling strides, until a plan is found or the frame's horizon has none.
 fn ascend(sets: &[u64], numbers: &[u32], times: &[u32], file: &[u8], frame: Frame, low: u16) -> Rise
     requires { ⌜ Whole (now sets) (now numbers) (now times) frame × (low ≤ frame .horizon) ⌝ }
-    ensures { λ r. ⌜ Rises (now (file .entry)) (now (sets .entry)) (now (numbers .entry)) (now (times .entry)) frame low r ⌝ }
+    ensures { λ r. ⌜ Rises (now (file .entry)) (now (sets .entry)) (now (numbers .entry)) (now (times .entry))
+        frame low r ⌝ }
 {
     let mut bound = minute::wide(low);
     let mut horizon = low;
@@ -112,8 +114,8 @@ fn halve(
 ) -> Rise
     requires { ⌜ Whole (now sets) (now numbers) (now times) frame × (low < best .end) × (best .end ≤ frame .horizon)
         × (best .found ≡ true) ⌝ }
-    ensures { λ r. ⌜ Narrows (now (file .entry)) (now (sets .entry)) (now (numbers .entry)) (now (times .entry)) frame low
-        best r ⌝ }
+    ensures { λ r. ⌜ Narrows (now (file .entry)) (now (sets .entry)) (now (numbers .entry)) (now (times .entry))
+        frame low best r ⌝ }
 {
     let middle = low + (best.end - low) / 2;
     let horizon = (middle % 65_536) as u16;
@@ -147,9 +149,10 @@ fn descend(
     low: u32,
     best: Answer,
 ) -> Answer
-    requires { ⌜ Whole (now sets) (now numbers) (now times) frame × (best .end ≤ frame .horizon) × (best .found ≡ true) ⌝ }
-    ensures { λ r. ⌜ Descends (now (file .entry)) (now (sets .entry)) (now (numbers .entry)) (now (times .entry)) frame low
-        best r ⌝ }
+    requires { ⌜ Whole (now sets) (now numbers) (now times) frame × (best .end ≤ frame .horizon)
+        × (best .found ≡ true) ⌝ }
+    ensures { λ r. ⌜ Descends (now (file .entry)) (now (sets .entry)) (now (numbers .entry)) (now (times .entry))
+        frame low best r ⌝ }
 {
     let mut bound = low;
     let mut plan = best;
@@ -164,7 +167,8 @@ fn descend(
 // The shortest plan by the frame's horizon.
 pub fn shortest(sets: &[u64], numbers: &[u32], times: &[u32], file: &[u8], frame: Frame) -> Answer
     requires { ⌜ Whole (now sets) (now numbers) (now times) frame ⌝ }
-    ensures { λ r. ⌜ Shortest (now (file .entry)) (now (sets .entry)) (now (numbers .entry)) (now (times .entry)) frame r ⌝ }
+    ensures { λ r. ⌜ Shortest (now (file .entry)) (now (sets .entry)) (now (numbers .entry)) (now (times .entry))
+        frame r ⌝ }
 {
     let low = set_time::set_time(times, frame.facts, frame.goal);
     if minute::wide(frame.horizon) < low {

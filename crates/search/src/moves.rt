@@ -98,7 +98,8 @@ pub fn back(sets: &[u64], numbers: &[u32], frame: Frame, st: State) -> State
     requires { ⌜ Lent (now sets) (now numbers) (frame .actions) × Known (frame .actions) (st .steps)
         × (frame .first < st .minute) ⌝ }
     ensures { λ r. ⌜ Back (now (sets .entry)) (now (numbers .entry)) (frame .actions) (r .minute) st r
-        × (frame .first ≤ r .minute) × (r .minute < st .minute) × NoStartBetween (st .steps) (r .minute) (st .minute) ⌝ }
+        × (frame .first ≤ r .minute) × (r .minute < st .minute)
+        × NoStartBetween (st .steps) (r .minute) (st .minute) ⌝ }
 {
     let steps = st.steps;
     let s = event(steps, frame.first, st.minute);

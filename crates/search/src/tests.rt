@@ -27,7 +27,8 @@ fn adds_alone(sets: &[u64], i: u8, provided: u64, wanted: u64) -> bool
 
 // Whether each step that stops now adds a wanted fact that no other step provides.
 pub fn all_needed(sets: &[u64], actions: usize, st: State) -> bool
-    requires { ⌜ (length (now sets) ≡ 256) × Known actions (st .steps) × (actions ≤ 64) × (st .since ≤ st .steps .count) ⌝ }
+    requires { ⌜ (length (now sets) ≡ 256) × Known actions (st .steps) × (actions ≤ 64)
+        × (st .since ≤ st .steps .count) ⌝ }
     ensures { λ r. ⌜ DeadUnless (now (sets .entry)) st r ⌝ }
 {
     let steps = st.steps;

@@ -51,7 +51,8 @@ pub record DescribesAction (J : Job) (sets numbers : List ℕ) (i : ℕ) : Type 
   pub positive : 0 < actionOf J i .duration
   pub byte : actionOf J i .duration ≤ 255
   pub pools : (pool : ℕ) → pool < length (J .pools) → poolUseAt numbers i pool ≡ getD (actionOf J i .pools) pool 0
-  pub stores : (store : ℕ) → store < length (J .stores) → storeUseAt numbers i store ≡ getD (actionOf J i .stores) store 0
+  pub stores : (store : ℕ) → store < length (J .stores)
+      → storeUseAt numbers i store ≡ getD (actionOf J i .stores) store 0
 
 -- the tables and the frame describe the job
 pub record Describes (J : Job) (sets numbers : List ℕ) (frame : Frame) : Type 0 where
