@@ -28,7 +28,9 @@ use Rattle.tables.specs.declared.Frame.{Frame}
 use Rattle.tables.specs.declared.Steps.{Steps}
 use Rattle.search.specs.declared.state.State.{State}
 use Rattle.search.specs.declared.minute.Minute.{Minute}
+use Rattle.search.specs.declared.amounts.Uses.{Uses}
 use Rattle.search.specs.Minutes.{runsInto, MinuteOf}
+use Rattle.search.specs.Amounts.{UsesOf}
 use Rattle.search.specs.States.{AddedTwice, Stands, Safe, nextStep}
 use Rattle.search.specs.Moves.{startOf, Taken, NoStartBetween, Back}
 use Rattle.search.proofs.Chosen.{place-of-chosen, chosen-pushed, known-pushed}
@@ -36,6 +38,9 @@ use Rattle.search.proofs.BarredActions.{stops, wanted-still, lasting, n
 
 minute-as : (t t′ : ℕ) (L L′ : List Step) (m : Minute) → t ≡ t′ → L ≡ L′ → MinuteOf t L m → MinuteOf t′ L′ m
 minute-as t t′ L L′ m e f h = rw (← e, ← f) h
+
+uses-as : (J : Job) (t t′ : ℕ) (L L′ : List Step) (uses : Uses) → t ≡ t′ → L ≡ L′ → UsesOf J t L uses → UsesOf J t′ L′ uses
+uses-as J t t′ L L′ uses e f h = rw (← e, ← f) h
 
 twice-in-more : (t n : ℕ) (x : Step) (L : List Step) → AddedTwice t n L → AddedTwice t n (x ∷ L)
 twice-in-more t n x L a =
@@ -160,6 +165,9 @@ module _ (J : Job) (sets numbers : List ℕ) (frame : Frame) (described : Descri
           at = minute-as (st .minute) (r .minute) _ (chosen J (r .steps)) (r .at) (sym (taken .minute))
               (ap (λ (s : ℕ). stepOf J i s ∷ L) same-start ∙ sym chosen-taken)
               (taken .at J (described .each i known) L (stands .at));
+          uses = uses-as J (st .minute) (r .minute) _ (chosen J (r .steps)) (r .uses) (sym (taken .minute))
+              (ap (λ (s : ℕ). stepOf J i s ∷ L) same-start ∙ sym chosen-taken)
+              (taken .uses .joins J sets (described .each i known) L (stands .uses));
           twice = λ n h. twice-as (sym (taken .minute)) (sym chosen-taken) n (twice-now n h);
           enders = enders-as J frame (sym (taken .steps)) (sym (taken .minute)) (sym (taken .since)) enders-now;
         }
@@ -187,6 +195,8 @@ module _ (J : Job) (sets numbers : List ℕ) (frame : Frame) (described : Descri
             ∙ sym (wanted-back-to (frame .goal) (chosen J (st .steps)) (frame .horizon) (st .minute) in-time s earlier no-start)
             ∙ sym (ap₂ (λ (P : List Step) (t : ℕ). wantedAt (frame .goal) P (frame .horizon) t) chosen-back (back .minute));
         at = minute-as s (r .minute) _ (chosen J (r .steps)) (r .at) (sym (back .minute)) (sym chosen-back) at;
+        uses = uses-as J s (r .minute) _ (chosen J (r .steps)) (r .uses) (sym (back .minute)) (sym chosen-back)
+            (back .uses .looks J sets (described .each));
         twice = λ n h. absurd (true≢false (sym h ∙ ap (λ (set : ℕ). has set n) (back .twice) ∙ has-zero n));
         enders = λ k a b.
             let c = ap (λ (steps : Steps). steps .count) (back .steps) in let d = back .since in absurd (omega arith);

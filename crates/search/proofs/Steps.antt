@@ -47,6 +47,7 @@ module _ (sets numbers times : List ℕ) (frame : Frame) (st : State) (ready : R
           pools = ready .safe .pools;
           stores = ready .safe .stores;
           since = omega arith;
+          small = rw count (taken .uses .more (st .steps .count) (ready .safe .small));
         };
         timeCount = ready .timeCount;
         facts = ready .facts;
@@ -93,6 +94,7 @@ module _ (sets numbers times : List ℕ) (frame : Frame) (st : State) (ready : R
           pools = ready .safe .pools;
           stores = ready .safe .stores;
           since = omega arith;
+          small = rw count (back .uses .small);
         };
         timeCount = ready .timeCount;
         facts = ready .facts;

@@ -16,6 +16,7 @@ use Rattle.tables.specs.declared.Frame.{Frame}
 use Rattle.tables.specs.declared.Steps.{Steps}
 use Rattle.search.specs.declared.state.State.{State}
 use Rattle.search.specs.Minutes.{DescribesEach, JoinsStep, LooksAt}
+use Rattle.search.specs.Amounts.{JoinsUses, LooksUses}
 use Rattle.search.specs.States.{DeadBy}
 
 -- ---- an action stops at the state's minute
@@ -30,6 +31,7 @@ pub record Taken (sets numbers : List ℕ) (st : State) (i : ℕ) (r : State) : 
   pub minute : r .minute ≡ st .minute
   pub wanted : r .wanted ≡ st .wanted
   pub at : JoinsStep sets numbers (st .minute) i (startOf numbers st i) (st .at) (r .at)
+  pub uses : JoinsUses numbers (st .minute) i (startOf numbers st i) (st .uses) (r .uses)
   pub twice : (n : ℕ) → has (r .twice) n ≡ (has (st .twice) n || (has (st .at .added) n && has (addsAt sets i) n))
   pub since : r .since ≡ st .since
 
@@ -65,6 +67,7 @@ pub record Back (sets numbers : List ℕ) (actions s : ℕ) (st r : State) : Typ
   pub isGone : Gone sets numbers actions (st .steps) s (st .minute) gone
   pub wanted : r .wanted ≡ union (difference (st .wanted) gone) (r .at .needed)
   pub at : LooksAt sets numbers actions (st .steps) s (r .at)
+  pub uses : LooksUses numbers actions (st .steps) s (r .uses)
   pub twice : r .twice ≡ 0
   pub since : r .since ≡ st .steps .count
 

@@ -17,6 +17,7 @@ use Rattle.tables.specs.Tables.{Describes, Known, chosen, durationAt, clashesAt
 use Rattle.tables.specs.declared.Frame.{Frame}
 use Rattle.search.specs.declared.state.State.{State}
 use Rattle.search.specs.Minutes.{MinuteOf, Lent}
+use Rattle.search.specs.Amounts.{UsesOf, Small}
 
 -- two steps of different actions stop at minute t and add fact n
 pub record AddedTwice (t n : ℕ) (L : List Step) : Type 0 where
@@ -35,6 +36,7 @@ pub record Stands (J : Job) (frame : Frame) (st : State) : Type 0 where
   pub inTime : st .minute ≤ frame .horizon
   pub wants : st .wanted ≡ wantedAt (frame .goal) (chosen J (st .steps)) (frame .horizon) (st .minute)
   pub at : MinuteOf (st .minute) (chosen J (st .steps)) (st .at)
+  pub uses : UsesOf J (st .minute) (chosen J (st .steps)) (st .uses)
   pub twice : (n : ℕ) → has (st .twice) n ≡ true → AddedTwice (st .minute) n (chosen J (st .steps))
   pub enders : (k : ℕ) → st .since ≤ k → k < st .steps .count
       → (frame .first ≤ getD (st .steps .starts) k 0)
@@ -71,6 +73,7 @@ pub record Safe (sets numbers : List ℕ) (frame : Frame) (st : State) : Type 0 
   pub pools : frame .pools ≤ 4
   pub stores : frame .stores ≤ 4
   pub since : st .since ≤ st .steps .count
+  pub small : Small (st .steps .count) (st .uses)
 
 -- ---- what inner functions promise
 

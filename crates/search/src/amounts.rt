@@ -1,111 +1,109 @@
-// What the chosen steps and one more action use of pools and stores.
+// What the chosen steps use of pools and stores.
 ghost use mathlib.Core.Path.{_≡_};
-ghost use mathlib.Core.List.{List};
-ghost use Prim.Native.Nat.{ℕ, _+_, _*_, _^_, _≤_, _<_};
+ghost use mathlib.Core.Bool.{cond};
+ghost use Prim.Native.Nat.{_+_, _^_, _≤_, _<_};
 ghost use lib.ListN.{length};
-ghost use Rattle.tables.specs.Tables.{durationAt, poolUseAt, Known};
+ghost use Rattle.tables.specs.Tables.{durationAt, Known};
 ghost use Rattle.search.specs.Minutes.{Numbers};
-ghost use Rattle.search.specs.Amounts.{ShareOf, InUseOf, UseOf, UsedUpOf};
-ghost use Rattle.search.specs.Amounts.{ExceedsPools, ExceedsStores};
+ghost use Rattle.search.specs.Amounts.{Sums, Added, Small, UsesNothing, JoinsUses, LooksUses, exceeds};
 use crate::minute;
-use tables::Frame;
+use job::Job;
 use tables::Steps;
 
-// An amount of 32 bits as a number of 64.
-fn wide(amount: u32) -> u64
-    ensures { λ r. ⌜ (r ≡ amount) × (r < 2 ^ 32) ⌝ }
-{
-    amount as u64
+// What the chosen steps use: of each pool in the minute before and in the minute now, and of each store over all.
+pub struct Uses {
+    pub before: [u64; Job::POOLS],
+    pub now: [u64; Job::POOLS],
+    pub spent: [u64; Job::STORES],
 }
 
-// How much of the pool action i uses.
-fn share_of(numbers: &[u32], i: u8, pool: usize) -> u64
-    requires { ⌜ (length (now numbers) ≡ 576) × (i < 64) × (pool < 4) ⌝ }
-    ensures { λ r. ⌜ (r ≡ poolUseAt (now (numbers .entry)) i pool) × (r < 2 ^ 32) ⌝ }
+// An amount of 32 bits as a number of 64, where it counts.
+fn amount(counts: bool, number: u32) -> u64
+    ensures { λ r. ⌜ (r ≡ cond counts number 0) × (r < 2 ^ 32) ⌝ }
 {
-    wide(numbers[i as usize * 9 + 1 + pool])
-}
-
-// What the step has of the pool in the minute.
-fn share(numbers: &[u32], i: u8, start: u16, pool: usize, t: u32) -> u64
-    requires { ⌜ (length (now numbers) ≡ 576) × (i < 64) × (pool < 4) × (durationAt (now numbers) i ≤ 255) ⌝ }
-    ensures { λ r. ⌜ (r < 2 ^ 32) × ShareOf (now (numbers .entry)) i start pool t r ⌝ }
-{
-    if t < minute::wide(start) {
-        return 0;
+    if counts {
+        return number as u64;
     }
-    if minute::stop(numbers, i, start) <= t {
-        return 0;
-    }
-    share_of(numbers, i, pool)
+    0
 }
 
-// How much of the pool the chosen steps have in the minute.
-fn in_use(numbers: &[u32], actions: usize, steps: Steps, pool: usize, t: u32) -> u64
-    requires { ⌜ Numbers (now numbers) actions × Known actions steps × (pool < 4) ⌝ }
-    ensures { λ r. ⌜ (r ≤ 2 ^ 37) × InUseOf (now (numbers .entry)) actions steps pool t r ⌝ }
+// The sums with the table's four amounts from place `at` on, where they count.
+fn plus(numbers: &[u32], at: usize, counts: bool, sums: [u64; Job::POOLS]) -> [u64; Job::POOLS]
+    requires { ⌜ (at + 4 ≤ length (now numbers)) × (length (now numbers) ≤ 576) × Sums 32 sums ⌝ }
+    ensures { λ r. ⌜ Added (now (numbers .entry)) at counts sums r ⌝ }
 {
-    let mut sum: u64 = 0;
+    let mut out = sums;
     let mut k = 0;
-    while k < steps.count {
-        sum = share(numbers, steps.numbers[k], steps.starts[k], pool, t) + sum;
+    while k < Job::POOLS {
+        out[k] = amount(counts, numbers[at + k]) + out[k];
         k += 1;
     }
-    sum
+    out
 }
 
-// How much of the store action i uses up.
-fn use_of(numbers: &[u32], i: u8, store: usize) -> u64
-    requires { ⌜ (length (now numbers) ≡ 576) × (i < 64) × (store < 4) ⌝ }
-    ensures { λ r. ⌜ (r < 2 ^ 32) × UseOf (now (numbers .entry)) i store r ⌝ }
+// What is used with one more step of an action.
+pub fn joined(numbers: &[u32], uses: Uses, t: u32, i: u8, start: u16) -> Uses
+    requires { ⌜ (length (now numbers) ≡ 576) × (i < 64) × (durationAt (now numbers) i ≤ 255) × Small 32 uses ⌝ }
+    ensures { λ r. ⌜ JoinsUses (now (numbers .entry)) t i start uses r ⌝ }
 {
-    wide(numbers[i as usize * 9 + 5 + store])
+    let at = i as usize * 9;
+    let from = minute::wide(start);
+    let stop = minute::stop(numbers, i, start);
+    let before = uses.before;
+    let now = uses.now;
+    let spent = uses.spent;
+    let more_before = plus(numbers, at + 1, (from < t) & (t <= stop), before);
+    let more_now = plus(numbers, at + 1, (from <= t) & (t < stop), now);
+    let more_spent = plus(numbers, at + 5, true, spent);
+    Uses {
+        before: more_before,
+        now: more_now,
+        spent: more_spent,
+    }
 }
 
-// How much of the store the chosen steps use up.
-fn used_up(numbers: &[u32], actions: usize, steps: Steps, store: usize) -> u64
-    requires { ⌜ Numbers (now numbers) actions × Known actions steps × (store < 4) ⌝ }
-    ensures { λ r. ⌜ (r ≤ 2 ^ 37) × UsedUpOf (now (numbers .entry)) actions steps store r ⌝ }
+// Nothing is used.
+fn none() -> Uses
+    ensures { λ r. ⌜ UsesNothing r ⌝ }
 {
-    let mut sum: u64 = 0;
+    Uses {
+        before: [0u64; Job::POOLS],
+        now: [0u64; Job::POOLS],
+        spent: [0u64; Job::STORES],
+    }
+}
+
+// What the chosen steps use.
+pub fn look(numbers: &[u32], actions: usize, steps: Steps, t: u32) -> Uses
+    requires { ⌜ Numbers (now numbers) actions × Known actions steps ⌝ }
+    ensures { λ r. ⌜ LooksUses (now (numbers .entry)) actions steps t r ⌝ }
+{
+    let mut uses = none();
     let mut k = 0;
     while k < steps.count {
-        sum = use_of(numbers, steps.numbers[k], store) + sum;
+        uses = joined(numbers, uses, t, steps.numbers[k], steps.starts[k]);
         k += 1;
     }
-    sum
+    uses
 }
 
-// Whether the chosen steps and action i use more of some pool in the minute than there is.
-pub fn exceeds_pools(numbers: &[u32], frame: Frame, steps: Steps, i: u8, t: u32) -> bool
-    requires { ⌜ Numbers (now numbers) (frame .actions) × Known (frame .actions) steps × (i < frame .actions)
-        × (frame .pools ≤ 4) ⌝ }
-    ensures { λ r. ⌜ ((sets : List ℕ) → ExceedsPools sets (now (numbers .entry)) frame steps i t r) ⌝ }
+// Whether the sums and the table's amounts from place `at` on are over one of the first limits.
+pub fn exceeds(
+    numbers: &[u32],
+    at: usize,
+    sums: [u64; Job::POOLS],
+    limits: [u32; Job::POOLS],
+    count: usize,
+) -> bool
+    requires { ⌜ (at + 4 ≤ length (now numbers)) × (length (now numbers) ≤ 576) × Sums 32 sums × (count ≤ 4) ⌝ }
+    ensures { λ r. ⌜ r ≡ exceeds (now (numbers .entry)) at sums limits count ⌝ }
 {
-    let mut pool = 0;
-    while pool < frame.pools {
-        let more = share_of(numbers, i, pool);
-        if wide(frame.available[pool]) < in_use(numbers, frame.actions, steps, pool, t) + more {
+    let mut k = 0;
+    while k < count {
+        if amount(true, limits[k]) < sums[k] + amount(true, numbers[at + k]) {
             return true;
         }
-        pool += 1;
-    }
-    false
-}
-
-// Whether the chosen steps and action i use up more of some store than there is.
-pub fn exceeds_stores(numbers: &[u32], frame: Frame, steps: Steps, i: u8) -> bool
-    requires { ⌜ Numbers (now numbers) (frame .actions) × Known (frame .actions) steps × (i < frame .actions)
-        × (frame .stores ≤ 4) ⌝ }
-    ensures { λ r. ⌜ ((sets : List ℕ) → ExceedsStores sets (now (numbers .entry)) frame steps i r) ⌝ }
-{
-    let mut store = 0;
-    while store < frame.stores {
-        let more = use_of(numbers, i, store);
-        if wide(frame.stocks[store]) < used_up(numbers, frame.actions, steps, store) + more {
-            return true;
-        }
-        store += 1;
+        k += 1;
     }
     false
 }

@@ -3,6 +3,7 @@ ghost use mathlib.Core.Path.{_≡_};
 ghost use mathlib.Core.Bool.{true};
 ghost use Prim.Native.Nat.{_≤_, _<_};
 ghost use Rattle.search.specs.Horizons.{until, Whole, Solves, Rises, Narrows, Descends, Shortest};
+use crate::amounts;
 use crate::minute;
 use crate::regress;
 use crate::state::State;
@@ -20,25 +21,25 @@ fn until(frame: Frame, horizon: u16) -> Frame
     other
 }
 
-// A plan that ends by the frame's horizon.
+// A plan that ends by the frame's horizon. With no minute left there are no steps; this second call of `finish` also
+// keeps its large frame out of the recursion, where a function called once would be inlined.
 fn solve(sets: &[u64], numbers: &[u32], times: &[u32], file: &[u8], frame: Frame) -> Answer
     requires { ⌜ Whole (now sets) (now numbers) (now times) frame ⌝ }
     ensures { λ r. ⌜ Solves (now (file .entry)) (now (sets .entry)) (now (numbers .entry)) (now (times .entry))
         frame r ⌝ }
 {
     let steps = Steps::none();
-    let at = minute::look(
-        sets,
-        numbers,
-        frame.actions,
-        steps,
-        minute::wide(frame.horizon),
-    );
+    if frame.horizon <= frame.first {
+        return leaf::finish(file, frame, steps);
+    }
+    let minute = minute::wide(frame.horizon);
+    let at = minute::look(sets, numbers, frame.actions, steps, minute);
     let st = State {
         steps: steps,
         minute: frame.horizon,
         wanted: frame.goal,
         at: at,
+        uses: amounts::look(numbers, frame.actions, steps, minute),
         twice: 0,
         since: 0,
     };

@@ -4,7 +4,9 @@ ghost use Prim.Native.Nat.{_-_, _≤_, _<_};
 ghost use lib.ListN.{length};
 ghost use Rattle.tables.specs.Tables.{durationAt, Known};
 ghost use Rattle.search.specs.Minutes.{Lent};
+ghost use Rattle.search.specs.Amounts.{Small};
 ghost use Rattle.search.specs.Moves.{Taken, NoStartBetween, GoneOf, Gone, Back};
+use crate::amounts;
 use crate::minute;
 use crate::state::State;
 use tables::Frame;
@@ -22,17 +24,19 @@ pub fn start_of(numbers: &[u32], i: u8, stop: u16) -> u16
 // The state with action i stopping at its minute.
 pub fn take(sets: &[u64], numbers: &[u32], st: State, i: u8) -> State
     requires { ⌜ (length (now sets) ≡ 256) × (length (now numbers) ≡ 576) × (i < 64) × (st .steps .count < 32)
-        × (durationAt (now numbers) i ≤ 255) × (durationAt (now numbers) i ≤ st .minute) ⌝ }
+        × (durationAt (now numbers) i ≤ 255) × (durationAt (now numbers) i ≤ st .minute) × Small 32 (st .uses) ⌝ }
     ensures { λ r. ⌜ Taken (now (sets .entry)) (now (numbers .entry)) st i r ⌝ }
 {
     let start = start_of(numbers, i, st.minute);
+    let minute = minute::wide(st.minute);
     let steps = st.steps;
     let again = facts::common(st.at.added, sets[i as usize * 4 + 1]);
     State {
         steps: steps.push(i, start),
         minute: st.minute,
         wanted: st.wanted,
-        at: minute::joined(sets, numbers, st.at, minute::wide(st.minute), i, start),
+        at: minute::joined(sets, numbers, st.at, minute, i, start),
+        uses: amounts::joined(numbers, st.uses, minute, i, start),
         twice: facts::union(st.twice, again),
         since: st.since,
     }
@@ -118,6 +122,7 @@ pub fn back(sets: &[u64], numbers: &[u32], frame: Frame, st: State) -> State
         minute: s,
         wanted: facts::union(facts::difference(st.wanted, added), at.needed),
         at: at,
+        uses: amounts::look(numbers, frame.actions, steps, minute),
         twice: 0,
         since: steps.count,
     }

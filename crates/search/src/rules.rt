@@ -46,7 +46,9 @@ fn movable(sets: &[u64], numbers: &[u32], frame: Frame, st: State, i: u8) -> boo
     if facts::meets(sets[at + 3], st.at.starting) {
         return false;
     }
-    !amounts::exceeds_pools(numbers, frame, st.steps, i, minute::wide(st.minute))
+    let sums = st.uses.now;
+    let available = frame.available;
+    !amounts::exceeds(numbers, i as usize * 9 + 1, sums, available, frame.pools)
 }
 
 // Whether action i leaves the pools and stores enough.
@@ -54,10 +56,15 @@ fn affordable(sets: &[u64], numbers: &[u32], frame: Frame, st: State, i: u8) -> 
     requires { ⌜ Safe (now sets) (now numbers) frame st × (i < frame .actions) × (0 < st .minute) ⌝ }
     ensures { λ r. ⌜ (r ≡ false → BarredBy (now (sets .entry)) (now (numbers .entry)) frame st i) ⌝ }
 {
-    if amounts::exceeds_pools(numbers, frame, st.steps, i, minute::wide(st.minute) - 1) {
+    let at = i as usize * 9;
+    let before = st.uses.before;
+    let available = frame.available;
+    if amounts::exceeds(numbers, at + 1, before, available, frame.pools) {
         return false;
     }
-    !amounts::exceeds_stores(numbers, frame, st.steps, i)
+    let spent = st.uses.spent;
+    let stocks = frame.stocks;
+    !amounts::exceeds(numbers, at + 5, spent, stocks, frame.stores)
 }
 
 // Whether action i may stop at the state's minute.

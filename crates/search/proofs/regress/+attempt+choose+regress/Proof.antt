@@ -10,6 +10,7 @@ use Rattle.tables.specs.Tables.{chosen}
 use Rattle.leaf.specs.declared.Answer.{Answer}
 use Rattle.search.specs.States.{Stands, DeadFor, MayStop}
 use Rattle.search.specs.Search.{TaskOf, OpenFrom}
+use Rattle.search.proofs.AmountLaws.{small-with-more}
 use Rattle.search.proofs.Completeness.{dead-from, dead-past-barred, dead-until}
 use Rattle.search.proofs.Steps.{ready-taken, stands-taken, dead-when-taken-open, dead-when-taken-until}
 use Rattle.search.proofs.Steps.{ready-back, stands-back, dead-when-back, dead-when-unfinished}
@@ -86,7 +87,8 @@ attempt-take-requires t c κs =
     let few = lent .amounts .few in
     let known = h .1 in
     let fits = h .2 .fits refl in
-    (lent .setCount, lent .amounts .numberCount, omega arith, h .2 .room refl, lent .amounts .short _ known, omega arith)
+    let small = small-with-more _ 32 _ (ready .safe .known .few) (ready .safe .small) in
+    (lent .setCount, lent .amounts .numberCount, omega arith, h .2 .room refl, lent .amounts .short _ known, omega arith, small)
 
 attempt-all-needed-requires : (t : ℕ) → attempt-lts.Need-all-needed-requires (
   take-reads.Asked,

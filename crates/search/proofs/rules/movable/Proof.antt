@@ -1,10 +1,10 @@
 -- `movable` meets its contract: what is true of it is that nothing blocks the action.
 -- Assumes nothing.
-use mathlib.Core.Path.{_≡_, sym, ap, _∙_}
+use mathlib.Core.Path.{_≡_, sym, _∙_}
 use mathlib.Core.Bool.{true≢false}
 use borrow.Author.Tests.{not-true}
 use Rattle.tables.specs.Tables.{chosen}
-use Rattle.search.specs.Amounts.{exceedsPools}
+use Rattle.search.proofs.AmountLaws.{sums-of-more, exceeds-as-pools}
 use Rattle.search.proofs.BarredActions.{barred-when-free}
 use native.Mathlib.Omega.{arith}
 use borrow.Author.Needs.{needs}
@@ -52,30 +52,39 @@ meets-requires-2 c κs = tt
 returns-3 : tie.Need-returns-3
 returns-3 c = λ e. absurd (true≢false (sym e))
 
-wide-requires : tie.Need-wide-requires
-wide-requires c κs = tt
+mul-exceeds : tie.Need-mul-exceeds
+mul-exceeds c = search needs
 
-exceeds-pools-requires : tie.Need-exceeds-pools-requires
-exceeds-pools-requires c κs =
+add-exceeds : tie.Need-add-exceeds
+add-exceeds c = search needs
+
+exceeds-requires : tie.Need-exceeds-requires
+exceeds-requires c κs =
     let at8 = c .before .before .before .before .before .before .before .before in
-    let c-pre = at8 .before .before .before .before .pre in
-    let h = c-pre in (h .0 .lent .amounts, h .0 .known, h .1, h .0 .pools)
+    let c-pre = at8 .before .before .before .before .before .pre in
+    let safe = c-pre .0 in
+    let known = c-pre .1 in
+    let n = safe .lent .amounts .numberCount in
+    let f = safe .lent .amounts .few in
+    (omega arith, omega arith, sums-of-more _ 32 _ (safe .known .few) (safe .small .now), safe .pools)
 
 returns-4 : tie.Need-returns-4
 returns-4 c =
     let at8 = c .before .before .before .before .before .before .before .before in
-    let c-pre = at8 .before .before .before .before .before .pre in
-    let c-args = at8 .before .before .before .before .before .args in
-    let c-meets = c .before .before .before .before .before .before .meets in
-    let c-if2 = c .before .before .before .before .before .if2 in
-    let c-meets2 = c .before .before .before .meets2 in
+    let c-pre = at8 .before .before .before .before .before .before .pre in
+    let c-args = at8 .before .before .before .before .before .before .args in
+    let c-meets = c .before .before .before .before .before .before .before .meets in
+    let c-if2 = c .before .before .before .before .before .before .if2 in
+    let c-meets2 = c .before .before .before .before .meets2 in
+    let c-if3 = c .before .before .before .if3 in
     λ e J described stands fits.
     let h = c-pre in
     let at = c-args in
-    let room = ap (exceedsPools J (chosen J (at .st .steps)) (at .i)) (sym (c .before .wide .ensures .0))
-    ∙ sym (c .exceeds-pools .ensures (at .sets .now) J described) ∙ not-true (c .exceeds-pools .result) e in
-    barred-when-free J (at .sets .now) _ (at .frame) described (at .st) (h .0 .known) stands (at .i) (h .1) fits
-    (sym (c-meets .ensures .0) ∙ c-if2 .left) (sym (c-meets2 .ensures .0) ∙ c .before .before .if3 .left) (omega arith) room
+    let safe = h .0 in
+    let room = sym (exceeds-as-pools J (at .sets .now) _ (at .frame) described (chosen J (at .st .steps)) (at .i) (h .1)
+    (safe .pools) (at .st .minute) (at .st .uses .now) (stands .uses .now)) ∙ sym (c .exceeds .ensures) ∙ not-true (c .exceeds .result) e in
+    barred-when-free J (at .sets .now) _ (at .frame) described (at .st) (safe .known) stands (at .i) (h .1) fits
+    (sym (c-meets .ensures .0) ∙ c-if2 .left) (sym (c-meets2 .ensures .0) ∙ c-if3 .left) (omega arith) room
 
 pub movable-spec : {M : Type 1} → statement M
 movable-spec =
@@ -93,6 +102,7 @@ movable-spec =
     shared-slice-read-meets-2
     meets-requires-2
     returns-3
-    wide-requires
-    exceeds-pools-requires
+    mul-exceeds
+    add-exceeds
+    exceeds-requires
     returns-4)
