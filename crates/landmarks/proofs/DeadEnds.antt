@@ -1,0 +1,80 @@
+-- Dead ends by landmarks: what must hold at a minute takes more than the stores, or the number of steps, have left.
+-- Assumes nothing.
+use Prim.Native.Nat.{ℕ, _+_, _*_, _<_, _≤_}
+use mathlib.Core.Path.{_≡_, ap}
+use mathlib.Core.List.{List, _++_}
+use native.Mathlib.Nat.{mul-add, mul-le-mul-left}
+use native.Mathlib.Omega.{arith}
+use lib.ListN.{length, getD}
+use Rattle.facts.specs.FactSet.{has, Subset}
+use Rattle.job.specs.Job.{Action, Job}
+use Rattle.timeline.specs.Step.{Step, total}
+use Rattle.timeline.specs.Timeline.{held, storeUse, storeCap, usedUp}
+use Rattle.timeline.proofs.Places.{EachStep, place-append, total-append}
+use Rattle.times.specs.Earliest.{actionOf}
+use Rattle.times.proofs.PlanSteps.{own-action}
+use Rattle.regression.specs.Tests.{mustHold}
+use Rattle.regression.specs.DeadEnd.{NormalPlan, Until, Dead}
+use Rattle.regression.proofs.TailTests.{must-hold-holds}
+use Rattle.landmarks.specs.Landmarks.{Landmarks, marksOf, sumOver, Shares}
+use Rattle.landmarks.proofs.AddedOnTheWay.{AtHand, landmarks-added}
+use Rattle.landmarks.proofs.Sums.{shares-of-added, total-times, total-of-ones}
+
+-- an ordinary day: no step of L stops by t, and the start set is at hand
+pub at-hand-at-start : (J : Job) (t : ℕ) (E L : List Step) → EachStep (λ x. t < x .stop) L → AtHand J 0 t (J .start) E L
+at-hand-at-start J t E L later =
+    record { begun = λ n h. h; given = λ x Q i after early. let l = later x Q i in absurd (omega arith) }
+
+module _ (J : Job) (b goal T t : ℕ) (after : b ≤ t) (inTime : t ≤ T) (L : List Step) (atHand : ℕ)
+    (base : (E : List Step) → EachStep (Until b t) E → AtHand J b t atHand E L) (marks : ℕ → ℕ)
+    (landmarks : Landmarks J atHand marks) (n : ℕ) (share : ℕ → ℕ) where
+  -- what is still to be added
+  abbrev pub missing : ℕ
+  missing = marksOf marks n (mustHold goal T L t)
+
+  -- the steps still to be chosen weigh at least the shares of what is missing
+  shares-within : (weight : Action → ℕ) → Shares J atHand share n weight → (E : List Step) → EachStep (Until b t) E
+      → NormalPlan J b goal T (E ++ L) → sumOver share n missing ≤ total (λ x. weight (x .action)) E
+  shares-within weight shares E until normal =
+      shares-of-added share J atHand n weight shares E
+      (λ x Q i.
+      let inPlan = place-append L i in
+      (normal .plan .known x _ inPlan, own-action J T goal (E ++ L) (normal .plan) inPlan))
+      missing
+      (landmarks-added J b t atHand goal T E L (normal .plan) until (base E until) marks landmarks n _ after
+      (must-hold-holds J goal T E L (normal .plan .keeps) t (λ x Q i. until x Q i .2) t (omega arith) inTime))
+
+  -- weights of a scale, beside what the chosen steps have
+  exceeded : (scale cap used : ℕ) (weight : Action → ℕ) → Shares J atHand share n (λ a. scale * weight a)
+      → scale * cap < sumOver share n missing + scale * used
+      → ((E : List Step) → NormalPlan J b goal T (E ++ L) → total (λ x. weight (x .action)) E + used ≤ cap)
+      → Dead J b goal T (Until b t) L
+  exceeded scale cap used weight shares exceeds within E until normal =
+      let least = shares-within (λ a. scale * weight a) shares E until normal in
+      let scaled = total-times scale (λ x. weight (x .action)) E in
+      let both = mul-add scale (total (λ x. weight (x .action)) E) used in
+      let most = mul-le-mul-left scale (within E normal) in
+      omega arith
+
+  pub dead-when-store-short : (store : ℕ) → store < length (J .stores) → (scale : ℕ)
+      → Shares J atHand share n (λ a. scale * getD (a .stores) store 0)
+      → scale * storeCap J store < sumOver share n missing + scale * usedUp J store L → Dead J b goal T (Until b t) L
+  unfolding storeUse
+  dead-when-store-short store inside scale shares exceeds =
+      exceeded scale (storeCap J store) (usedUp J store L) (λ a. getD (a .stores) store 0) shares exceeds
+      (λ E normal.
+      let sum = total-append (storeUse J store) E L in
+      let within = normal .plan .keeps .stores store inside in
+      omega arith)
+
+  pub dead-when-steps-short : (scale : ℕ) → Shares J atHand share n (λ a. scale * 1)
+      → scale * 32 < sumOver share n missing + scale * length L → Dead J b goal T (Until b t) L
+  dead-when-steps-short scale shares exceeds =
+      exceeded scale 32 (length L) (λ a. 1) shares exceeds
+      (λ E normal.
+      let ones = total-of-ones E in
+      let sum = total-append (λ x. 1) E L in
+      let all = total-of-ones (E ++ L) in
+      let rest = total-of-ones L in
+      let few = normal .fewSteps in
+      omega arith)

@@ -1,0 +1,3 @@
+pub mod AddedOnTheWay
+pub mod Sums
+pub mod DeadEnds

@@ -1,0 +1,1 @@
+// Landmarks: what every plan that makes a fact true must add on the way, and what that takes at least.
