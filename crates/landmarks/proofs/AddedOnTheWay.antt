@@ -20,6 +20,15 @@ use Rattle.regression.specs.DeadEnd.{Until}
 use Rattle.regression.proofs.Gathered.{in-cond-parts}
 use Rattle.landmarks.specs.Landmarks.{Landmarks, marksOf}
 
+-- a landmark of a set is one of some fact of it
+pub mark-of : (marks : ℕ → ℕ) (n set p : ℕ) → has (marksOf marks n set) p ≡ true
+    → (q : ℕ) × (q < n) × (has set q ≡ true) × (has (marks q) p ≡ true)
+mark-of marks zero set p h = not-both h (has-zero p)
+mark-of marks (suc n) set p h =
+    ⊎-elim (λ e. let c = in-cond-parts (has set n) (marks n) p e in (n, omega arith, c .0, c .1))
+    (λ e. let r = mark-of marks n set p e in let l = r .1 in (r .0, omega arith, r .2, r .3))
+    (in-union-cases _ (marksOf marks n set) p h)
+
 -- a step of E adds p
 pub record AddedIn (E : List Step) (p : ℕ) : Type 0 where
   pub by : Step
@@ -49,13 +58,13 @@ module _ (J : Job) (b t atHand goal T : ℕ) (E L : List Step) (plan : PlanOf J 
       (append-cases E L (added .place)))
       (held-since (J .start) (E ++ L) q m b after holds)
 
-  module _ (marks : ℕ → ℕ) (landmarks : Landmarks J atHand marks) where
+  module _ (n : ℕ) (marks : ℕ → ℕ) (landmarks : Landmarks J atHand n marks) where
     -- by the minute, with one more than it as the falling number
-    landmark-by : (fuel m : ℕ) → m < fuel → (q p : ℕ) → b ≤ m → m ≤ t → has (held (J .start) (E ++ L) m) q ≡ true
-        → has (marks q) p ≡ true → AddedIn E p × (has atHand p ≡ false)
-    landmark-by zero m l q p after early holds mark = absurd (omega arith)
-    landmark-by (suc fuel) m l q p after early holds mark =
-        let fresh = landmarks .fresh q p mark in
+    landmark-by : (fuel m : ℕ) → m < fuel → (q p : ℕ) → q < n → b ≤ m → m ≤ t
+        → has (held (J .start) (E ++ L) m) q ≡ true → has (marks q) p ≡ true → AddedIn E p × (has atHand p ≡ false)
+    landmark-by zero m l q p below after early holds mark = absurd (omega arith)
+    landmark-by (suc fuel) m l q p below after early holds mark =
+        let fresh = landmarks .fresh q p below mark in
         let a = added-by-new m q after early holds fresh in
         let x : Step = a .0 in
         let inPlan = place-append L (a .2) in
@@ -70,24 +79,18 @@ module _ (J : Job) (b t atHand goal T : ℕ) (E L : List Step) (plan : PlanOf J 
           ap (has atHand) same ∙ fresh,
         ))
         (λ each.
-        let n = each (x .number) (plan .known x _ inPlan) (rw own at (a .4)) in
-        landmark-by fuel (x .start) (omega arith) (n .0) p begins (omega arith)
-        (needs-at J T goal (E ++ L) plan inPlan (x .start) (omega arith) lasts (n .0) (n .1)) (n .2))
-        (landmarks .why q p mark)
+        let need = each (x .number) (plan .known x _ inPlan) (rw own at (a .4)) in
+        landmark-by fuel (x .start) (omega arith) (need .0) p (need .1) begins (omega arith)
+        (needs-at J T goal (E ++ L) plan inPlan (x .start) (omega arith) lasts (need .0) (need .2)) (need .3))
+        (landmarks .why q p below mark)
 
-    pub landmark-added : (q p : ℕ) → b ≤ t → has (held (J .start) (E ++ L) t) q ≡ true → has (marks q) p ≡ true
-        → AddedIn E p × (has atHand p ≡ false)
-    landmark-added q p after holds mark = landmark-by (suc t) t (omega arith) q p after (omega arith) holds mark
+    pub landmark-added : (q p : ℕ) → q < n → b ≤ t → has (held (J .start) (E ++ L) t) q ≡ true
+        → has (marks q) p ≡ true → AddedIn E p × (has atHand p ≡ false)
+    landmark-added q p below after holds mark = landmark-by (suc t) t (omega arith) q p below after (omega arith) holds mark
 
     -- of all facts of a set
-    mark-of : (n set p : ℕ) → has (marksOf marks n set) p ≡ true → (q : ℕ) × (has set q ≡ true) × (has (marks q) p ≡ true)
-    mark-of zero set p h = not-both h (has-zero p)
-    mark-of (suc n) set p h =
-        ⊎-elim (λ e. let c = in-cond-parts (has set n) (marks n) p e in (n, c .0, c .1)) (mark-of n set p)
-        (in-union-cases _ (marksOf marks n set) p h)
-
-    pub landmarks-added : (n set : ℕ) → b ≤ t → Subset set (held (J .start) (E ++ L) t) → (p : ℕ)
+    pub landmarks-added : (set : ℕ) → b ≤ t → Subset set (held (J .start) (E ++ L) t) → (p : ℕ)
         → has (marksOf marks n set) p ≡ true → AddedIn E p × (has atHand p ≡ false)
-    landmarks-added n set after holds p h =
-        let m = mark-of n set p h in
-        landmark-added (m .0) p after (holds (m .0) (m .1)) (m .2)
+    landmarks-added set after holds p h =
+        let m = mark-of marks n set p h in
+        landmark-added (m .0) p (m .1) after (holds (m .0) (m .2)) (m .3)

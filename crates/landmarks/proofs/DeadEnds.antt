@@ -26,8 +26,8 @@ at-hand-at-start J t E L later =
     record { begun = λ n h. h; given = λ x Q i after early. let l = later x Q i in absurd (omega arith) }
 
 module _ (J : Job) (b goal T t : ℕ) (after : b ≤ t) (inTime : t ≤ T) (L : List Step) (atHand : ℕ)
-    (base : (E : List Step) → EachStep (Until b t) E → AtHand J b t atHand E L) (marks : ℕ → ℕ)
-    (landmarks : Landmarks J atHand marks) (n : ℕ) (share : ℕ → ℕ) where
+    (base : (E : List Step) → EachStep (Until b t) E → AtHand J b t atHand E L) (n : ℕ)
+    (marks : ℕ → ℕ) (landmarks : Landmarks J atHand n marks) (share : ℕ → ℕ) where
   -- what is still to be added
   abbrev pub missing : ℕ
   missing = marksOf marks n (mustHold goal T L t)
@@ -41,7 +41,7 @@ module _ (J : Job) (b goal T t : ℕ) (after : b ≤ t) (inTime : t ≤ T) (L : 
       let inPlan = place-append L i in
       (normal .plan .known x _ inPlan, own-action J T goal (E ++ L) (normal .plan) inPlan))
       missing
-      (landmarks-added J b t atHand goal T E L (normal .plan) until (base E until) marks landmarks n _ after
+      (landmarks-added J b t atHand goal T E L (normal .plan) until (base E until) n marks landmarks _ after
       (must-hold-holds J goal T E L (normal .plan .keeps) t (λ x Q i. until x Q i .2) t (omega arith) inTime))
 
   -- weights of a scale, beside what the chosen steps have

@@ -1,3 +1,4 @@
 pub mod AddedOnTheWay
 pub mod Sums
 pub mod DeadEnds
+pub mod TableLaws

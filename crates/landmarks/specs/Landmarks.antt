@@ -9,14 +9,14 @@ use Rattle.facts.specs.FactSet.{has, union, difference}
 use Rattle.job.specs.Job.{Action, Job}
 use Rattle.times.specs.Earliest.{actionOf}
 
--- One set for each fact. A fact at hand has no landmarks; a landmark of another fact is that fact itself, or, for each
--- action that adds it, a landmark of some fact that the action needs.
-pub record Landmarks (J : Job) (atHand : ℕ) (marks : ℕ → ℕ) : Type 0 where
-  pub fresh : (q p : ℕ) → has (marks q) p ≡ true → has atHand q ≡ false
-  pub why : (q p : ℕ) → has (marks q) p ≡ true
+-- One set for each fact below n. A fact at hand has no landmarks; a landmark of another fact is that fact itself, or, for
+-- each action that adds it, a landmark of some fact that the action needs.
+pub record Landmarks (J : Job) (atHand n : ℕ) (marks : ℕ → ℕ) : Type 0 where
+  pub fresh : (q p : ℕ) → q < n → has (marks q) p ≡ true → has atHand q ≡ false
+  pub why : (q p : ℕ) → q < n → has (marks q) p ≡ true
       → (p ≡ q)
       ⊎ ((i : ℕ) → i < length (J .actions) → has (actionOf J i .adds) q ≡ true
-      → (n : ℕ) × (has (actionOf J i .needs) n ≡ true) × (has (marks n) p ≡ true))
+      → (m : ℕ) × (m < n) × (has (actionOf J i .needs) m ≡ true) × (has (marks m) p ≡ true))
 
 -- the landmarks of the facts below n of a set
 abbrev pub marksOf : (ℕ → ℕ) → ℕ → ℕ → ℕ

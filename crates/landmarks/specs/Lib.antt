@@ -1,1 +1,2 @@
 pub mod Landmarks
+pub mod Tables

@@ -1,1 +1,2 @@
 // Landmarks: what every plan that makes a fact true must add on the way, and what that takes at least.
+pub mod marks; // the landmarks of each fact
