@@ -23,6 +23,7 @@ use Rattle.landmarks.specs.Landmarks.{Landmarks, marksOf}
 -- a landmark of a set is one of some fact of it
 pub mark-of : (marks : ℕ → ℕ) (n set p : ℕ) → has (marksOf marks n set) p ≡ true
     → (q : ℕ) × (q < n) × (has set q ≡ true) × (has (marks q) p ≡ true)
+unfolding marksOf
 mark-of marks zero set p h = not-both h (has-zero p)
 mark-of marks (suc n) set p h =
     ⊎-elim (λ e. let c = in-cond-parts (has set n) (marks n) p e in (n, omega arith, c .0, c .1))

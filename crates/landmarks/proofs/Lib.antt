@@ -2,3 +2,4 @@ pub mod AddedOnTheWay
 pub mod Sums
 pub mod DeadEnds
 pub mod TableLaws
+pub mod ShareLaws

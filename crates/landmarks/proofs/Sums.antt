@@ -23,6 +23,7 @@ module _ (share : ℕ → ℕ) where
   -- a set within two others together
   sum-of-cover : (n set a b : ℕ) → ((p : ℕ) → has set p ≡ true → (has a p ≡ true) ⊎ (has b p ≡ true))
       → sumOver share n set ≤ sumOver share n a + sumOver share n b
+  unfolding sumOver
   sum-of-cover zero set a b h = omega arith
   sum-of-cover (suc n) set a b h =
       let rest = sum-of-cover n set a b h in
@@ -38,6 +39,7 @@ module _ (share : ℕ → ℕ) where
       one true false false k = absurd (⊎-elim (λ e. true≢false (sym e)) (λ e. true≢false (sym e)) (k refl))
 
   sum-of-none : (n : ℕ) → sumOver share n 0 ≡ 0
+  unfolding sumOver
   sum-of-none zero = refl
   sum-of-none (suc n) = let rest = sum-of-none n in rw (has-zero n) (omega arith)
 

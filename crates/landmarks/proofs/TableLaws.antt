@@ -24,6 +24,7 @@ use Rattle.landmarks.proofs.AddedOnTheWay.{mark-of}
 -- ---- over the facts of a set, from one to the next
 module _ (marks : ℕ → ℕ) (set : ℕ) where
   marks-skip : (n m : ℕ) → n ≤ m → ((k : ℕ) → n ≤ k → k < m → has set k ≡ false) → marksOf marks m set ≡ marksOf marks n set
+  unfolding marksOf
   marks-skip n zero l none = let z : n ≡ 0 = omega arith in rw z
   marks-skip n (suc m) l none =
       ⊎-elim (λ e. rw e)
@@ -34,10 +35,12 @@ module _ (marks : ℕ → ℕ) (set : ℕ) where
       (eq-or-lt-of-le l)
 
   pub marks-at-first : (q : ℕ) → NextFact set 0 q → marksOf marks q set ≡ 0
+  unfolding marksOf
   marks-at-first q next = marks-skip 0 q (omega arith) (next .skipped)
 
   pub marks-on : (q r : ℕ) → q < 64 → has set q ≡ true → NextFact set (q + 1) r
       → marksOf marks r set ≡ union (marks q) (marksOf marks q set)
+  unfolding marksOf
   marks-on q r l here next =
       let e : q + 1 ≡ suc q = omega arith in
       marks-skip (q + 1) r (next .onward (omega arith)) (next .skipped)
@@ -46,6 +49,7 @@ module _ (marks : ℕ → ℕ) (set : ℕ) where
 
 module _ (share : ℕ → ℕ) (set : ℕ) where
   sum-skip : (n m : ℕ) → n ≤ m → ((k : ℕ) → n ≤ k → k < m → has set k ≡ false) → sumOver share m set ≡ sumOver share n set
+  unfolding sumOver
   sum-skip n zero l none = let z : n ≡ 0 = omega arith in rw z
   sum-skip n (suc m) l none =
       ⊎-elim (λ e. rw e)
@@ -56,10 +60,12 @@ module _ (share : ℕ → ℕ) (set : ℕ) where
       (eq-or-lt-of-le l)
 
   pub sum-at-first : (q : ℕ) → NextFact set 0 q → sumOver share q set ≡ 0
+  unfolding sumOver
   sum-at-first q next = sum-skip 0 q (omega arith) (next .skipped)
 
   pub sum-on : (q r : ℕ) → q < 64 → has set q ≡ true → NextFact set (q + 1) r
       → sumOver share r set ≡ share q + sumOver share q set
+  unfolding sumOver
   sum-on q r l here next =
       let e : q + 1 ≡ suc q = omega arith in
       sum-skip (q + 1) r (next .onward (omega arith)) (next .skipped)

@@ -19,12 +19,12 @@ pub record Landmarks (J : Job) (atHand n : ℕ) (marks : ℕ → ℕ) : Type 0 w
       → (m : ℕ) × (m < n) × (has (actionOf J i .needs) m ≡ true) × (has (marks m) p ≡ true))
 
 -- the landmarks of the facts below n of a set
-abbrev pub marksOf : (ℕ → ℕ) → ℕ → ℕ → ℕ
+unfoldable pub marksOf : (ℕ → ℕ) → ℕ → ℕ → ℕ
 marksOf marks zero set = 0
 marksOf marks (suc n) set = union (cond (has set n) (marks n) 0) (marksOf marks n set)
 
 -- the sum over the facts below n of a set
-abbrev pub sumOver : (ℕ → ℕ) → ℕ → ℕ → ℕ
+unfoldable pub sumOver : (ℕ → ℕ) → ℕ → ℕ → ℕ
 sumOver share zero set = 0
 sumOver share (suc n) set = cond (has set n) (share n) 0 + sumOver share n set
 

@@ -6,15 +6,40 @@ use mathlib.Core.Bool.{Bool, true, cond, not}
 use mathlib.Core.List.{List}
 use lib.Dec.{ltb}
 use lib.ListN.{length, getD}
-use Rattle.facts.specs.FactSet.{has, union, single, Subset}
+use Rattle.facts.specs.FactSet.{has, union, difference, single, Subset}
 use Rattle.job.specs.Job.{Job}
-use Rattle.tables.specs.Tables.{needsAt, addsAt}
+use Rattle.tables.specs.Tables.{needsAt, addsAt, durationAt, poolUseAt, storeUseAt}
 use Rattle.tables.specs.Filled.{SameBefore}
-use Rattle.landmarks.specs.Landmarks.{marksOf}
+use Rattle.landmarks.specs.Landmarks.{marksOf, sumOver}
 
 -- where the table of sets has the landmarks of fact q
 abbrev pub markAt : List ℕ → ℕ → ℕ
 markAt sets q = getD sets (256 + q) 0
+
+-- the numbers of the table from a place on, as the shares of the facts
+abbrev pub shareFrom : List ℕ → ℕ → ℕ → ℕ
+shareFrom numbers at p = getD numbers (at + p) 0
+
+-- where the table of numbers has the row of a store, 0 to 3, or of a pool, 4 to 7
+abbrev pub rowAt : ℕ → ℕ
+rowAt row = 576 + row * 64
+
+-- what action i uses of the row's store, or its minutes times what it uses of the row's pool
+abbrev pub weightAt : List ℕ → ℕ → ℕ → ℕ
+weightAt numbers i row =
+    cond (ltb row 4) (storeUseAt numbers i row) (poolUseAt numbers i (row - 4) * durationAt numbers i)
+
+-- the shares of what action i adds are within its weight, in parts of 2,520
+abbrev pub WithinAt : List ℕ → List ℕ → ℕ → ℕ → ℕ → Type 0
+WithinAt sets numbers start row i =
+    sumOver (shareFrom numbers (rowAt row)) 64 (difference (addsAt sets i) start) ≤ 2520 * weightAt numbers i row
+
+-- and those of every action; in every row
+abbrev pub Within : List ℕ → List ℕ → ℕ → ℕ → ℕ → Type 0
+Within sets numbers actions start row = (i : ℕ) → i < actions → WithinAt sets numbers start row i
+
+abbrev pub WithinAll : List ℕ → List ℕ → ℕ → ℕ → Type 0
+WithinAll sets numbers actions start = (row : ℕ) → row < 8 → Within sets numbers actions start row
 
 -- ---- what inner functions promise
 
@@ -27,6 +52,11 @@ pub record KeptBefore (at n : ℕ) (xs ys : List ℕ) : Type 0 where
 pub record Begun (n start all : ℕ) (xs ys : List ℕ) : Type 0 where
   pub kept : KeptBefore 256 384 xs ys
   pub put : (q : ℕ) → q < n → markAt ys q ≡ cond (not (has start q)) all 0
+
+-- n times the number from the place on, and before it the entries of xs
+pub record PutFrom (n at number : ℕ) (xs ys : List ℕ) : Type 0 where
+  pub kept : KeptBefore at 1152 xs ys
+  pub put : (k : ℕ) → k < n → getD ys (at + k) 0 ≡ number
 
 -- r is within all, and within the landmarks of what action i needs, if it adds q
 pub record Through (sets : List ℕ) (i q all r : ℕ) : Type 0 where

@@ -17,7 +17,7 @@ use Rattle.tables.specs.Filled.{Filled, frameOf}
 use Rattle.tables.proofs.Describing.{describes}
 use Rattle.earliest.specs.Sweep as earliest
 use Rattle.leaf.specs.Answer.{FileOf}
-use Rattle.search.specs.Minutes.{Lent}
+use Rattle.tables.specs.Tables.{Lent}
 use Rattle.search.specs.Search.{TaskOf}
 use Rattle.search.specs.Horizons.{Whole}
 

@@ -47,8 +47,8 @@ fn solve(job: Job) -> Answer
     requires { ⌜ first (jobRows (jobIn job)) ≡ Pass ⌝ }
     ensures { λ r. ⌜ Solved (jobIn job) r ⌝ }
 {
-    let mut sets = [0u64; 256];
-    let mut numbers = [0u32; 576];
+    let mut sets = [0u64; Frame::SETS];
+    let mut numbers = [0u32; Frame::NUMBERS];
     tables::fill::fill(&mut sets, &mut numbers, job);
     let mut times = [set_time::NONE; Pair::COUNT];
     earliest::sweep::fill(&mut times, job);

@@ -11,10 +11,9 @@ use Rattle.timeline.specs.Step.{Step, stepOf}
 use Rattle.timeline.specs.Timeline.{inUse, storeCap, usedUp}
 use Rattle.timeline.specs.Accepted.{anyBelow}
 use Rattle.times.specs.Earliest.{actionOf}
-use Rattle.tables.specs.Tables.{DescribesAction, chosen}
+use Rattle.tables.specs.Tables.{DescribesAction, chosen, DescribesEach}
 use Rattle.tables.specs.declared.Steps.{Steps}
 use Rattle.search.specs.declared.amounts.Uses.{Uses}
-use Rattle.search.specs.Minutes.{DescribesEach}
 
 -- the sums are what the steps L use of each pool in the minute
 abbrev pub HoldsUse : Job → ℕ → List Step → List ℕ → Type 0

@@ -12,7 +12,7 @@ use Rattle.timeline.specs.Step.{Step, stepOf, unionOf}
 use Rattle.timeline.specs.Timeline.{addedAt}
 use Rattle.regression.specs.Wanted.{ifStarts, neededAt}
 use Rattle.regression.specs.Tests.{runningNeeds}
-use Rattle.tables.specs.Tables.{DescribesAction, durationAt, chosen}
+use Rattle.tables.specs.Tables.{DescribesAction, durationAt, chosen, DescribesEach}
 use Rattle.tables.specs.declared.Steps.{Steps}
 use Rattle.search.specs.declared.minute.Minute.{Minute}
 
@@ -28,21 +28,6 @@ pub record MinuteOf (t : ℕ) (L : List Step) (m : Minute) : Type 0 where
   pub needed : m .needed ≡ neededAt t L
   pub across : m .across ≡ runningNeeds t L
   pub added : m .added ≡ addedAt t L
-
--- a table of numbers that is long enough, with durations of one byte
-pub record Numbers (numbers : List ℕ) (actions : ℕ) : Type 0 where
-  pub numberCount : length numbers ≡ 576
-  pub few : actions ≤ 64
-  pub short : (i : ℕ) → i < actions → durationAt numbers i ≤ 255
-
--- and a table of sets
-pub record Lent (sets numbers : List ℕ) (actions : ℕ) : Type 0 where
-  pub setCount : length sets ≡ 256
-  pub amounts : Numbers numbers actions
-
--- the tables describe each action of the job
-abbrev pub DescribesEach : Job → List ℕ → List ℕ → ℕ → Type 0
-DescribesEach J sets numbers actions = (i : ℕ) → i < actions → DescribesAction J sets numbers i
 
 -- the step has these numbers and sets
 pub record Is (x : Step) (number start stop needs adds : ℕ) : Type 0 where

@@ -11,11 +11,11 @@ use Rattle.job.specs.Job.{Job}
 use Rattle.timeline.specs.Step.{stepOf}
 use Rattle.regression.specs.Wanted.{addedBetween}
 use Rattle.regression.specs.Tests.{runningNeeds}
-use Rattle.tables.specs.Tables.{DescribesAction, Known, addsAt, durationAt, chosen, pushed}
+use Rattle.tables.specs.Tables.{DescribesAction, Known, addsAt, durationAt, chosen, pushed, DescribesEach}
 use Rattle.tables.specs.declared.Frame.{Frame}
 use Rattle.tables.specs.declared.Steps.{Steps}
 use Rattle.search.specs.declared.state.State.{State}
-use Rattle.search.specs.Minutes.{DescribesEach, JoinsStep, LooksAt}
+use Rattle.search.specs.Minutes.{JoinsStep, LooksAt}
 use Rattle.search.specs.Amounts.{JoinsUses, LooksUses}
 use Rattle.search.specs.States.{DeadBy}
 

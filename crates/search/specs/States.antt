@@ -13,10 +13,10 @@ use Rattle.timeline.proofs.Places.{Member}
 use Rattle.times.specs.Earliest.{actionOf}
 use Rattle.regression.specs.Wanted.{wantedAt}
 use Rattle.regression.specs.DeadEnd.{Until, Open, Dead, stepStopping}
-use Rattle.tables.specs.Tables.{Describes, Known, chosen, durationAt, clashesAt}
+use Rattle.tables.specs.Tables.{Describes, Known, chosen, durationAt, clashesAt, Lent}
 use Rattle.tables.specs.declared.Frame.{Frame}
 use Rattle.search.specs.declared.state.State.{State}
-use Rattle.search.specs.Minutes.{MinuteOf, Lent}
+use Rattle.search.specs.Minutes.{MinuteOf}
 use Rattle.search.specs.Amounts.{UsesOf, Small}
 
 -- two steps of different actions stop at minute t and add fact n

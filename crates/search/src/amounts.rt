@@ -3,8 +3,7 @@ ghost use mathlib.Core.Path.{_≡_};
 ghost use mathlib.Core.Bool.{cond};
 ghost use Prim.Native.Nat.{_+_, _^_, _≤_, _<_};
 ghost use lib.ListN.{length};
-ghost use Rattle.tables.specs.Tables.{durationAt, Known};
-ghost use Rattle.search.specs.Minutes.{Numbers};
+ghost use Rattle.tables.specs.Tables.{durationAt, Known, Numbers};
 ghost use Rattle.search.specs.Amounts.{Sums, Added, Small, UsesNothing, JoinsUses, LooksUses, exceeds};
 use crate::minute;
 use job::Job;
@@ -29,7 +28,7 @@ fn amount(counts: bool, number: u32) -> u64
 
 // The sums with the table's four amounts from place `at` on, where they count.
 fn plus(numbers: &[u32], at: usize, counts: bool, sums: [u64; Job::POOLS]) -> [u64; Job::POOLS]
-    requires { ⌜ (at + 4 ≤ length (now numbers)) × (length (now numbers) ≤ 576) × Sums 32 sums ⌝ }
+    requires { ⌜ (at + 4 ≤ length (now numbers)) × (length (now numbers) ≤ 1152) × Sums 32 sums ⌝ }
     ensures { λ r. ⌜ Added (now (numbers .entry)) at counts sums r ⌝ }
 {
     let mut out = sums;
@@ -43,7 +42,7 @@ fn plus(numbers: &[u32], at: usize, counts: bool, sums: [u64; Job::POOLS]) -> [u
 
 // What is used with one more step of an action.
 pub fn joined(numbers: &[u32], uses: Uses, t: u32, i: u8, start: u16) -> Uses
-    requires { ⌜ (length (now numbers) ≡ 576) × (i < 64) × (durationAt (now numbers) i ≤ 255) × Small 32 uses ⌝ }
+    requires { ⌜ (length (now numbers) ≡ 1152) × (i < 64) × (durationAt (now numbers) i ≤ 255) × Small 32 uses ⌝ }
     ensures { λ r. ⌜ JoinsUses (now (numbers .entry)) t i start uses r ⌝ }
 {
     let at = i as usize * 9;
@@ -95,7 +94,7 @@ pub fn exceeds(
     limits: [u32; Job::POOLS],
     count: usize,
 ) -> bool
-    requires { ⌜ (at + 4 ≤ length (now numbers)) × (length (now numbers) ≤ 576) × Sums 32 sums × (count ≤ 4) ⌝ }
+    requires { ⌜ (at + 4 ≤ length (now numbers)) × (length (now numbers) ≤ 1152) × Sums 32 sums × (count ≤ 4) ⌝ }
     ensures { λ r. ⌜ r ≡ exceeds (now (numbers .entry)) at sums limits count ⌝ }
 {
     let mut k = 0;

@@ -4,8 +4,8 @@ ghost use mathlib.Core.List.{List, [], _∷_};
 ghost use Prim.Native.Nat.{ℕ, _+_, _*_, _≤_, _<_};
 ghost use lib.ListN.{length};
 ghost use Rattle.timeline.specs.Step.{Step};
-ghost use Rattle.tables.specs.Tables.{durationAt, Known};
-ghost use Rattle.search.specs.Minutes.{MinuteOf, Lent, Is, JoinsStep, LooksAt};
+ghost use Rattle.tables.specs.Tables.{durationAt, Known, Lent};
+ghost use Rattle.search.specs.Minutes.{MinuteOf, Is, JoinsStep, LooksAt};
 use tables::Steps;
 
 // Sets of a minute: by their numbers the actions that run in the minute before and those that start now, and facts.
@@ -55,7 +55,7 @@ fn with_step(m: Minute, t: u32, number: u8, start: u32, stop: u32, needs: u64, a
 
 // The sets of the minute with one more step of an action.
 pub fn joined(sets: &[u64], numbers: &[u32], m: Minute, t: u32, i: u8, start: u16) -> Minute
-    requires { ⌜ (length (now sets) ≡ 256) × (length (now numbers) ≡ 576) × (i < 64)
+    requires { ⌜ (length (now sets) ≡ 384) × (length (now numbers) ≡ 1152) × (i < 64)
         × (durationAt (now numbers) i ≤ 255) ⌝ }
     ensures { λ r. ⌜ JoinsStep (now (sets .entry)) (now (numbers .entry)) t i start m r ⌝ }
 {

@@ -4,8 +4,7 @@ ghost use Prim.Native.Nat.{ℕ, _≤_, _<_};
 ghost use lib.ListN.{length};
 ghost use mathlib.Core.List.{List};
 ghost use Rattle.facts.specs.FactSet.{difference, meets};
-ghost use Rattle.tables.specs.Tables.{addsAt, durationAt, Known};
-ghost use Rattle.search.specs.Minutes.{Lent};
+ghost use Rattle.tables.specs.Tables.{addsAt, durationAt, Known, Lent};
 ghost use Rattle.search.specs.Moves.{DeadUnless, NeedOf, NeedsAt};
 ghost use Rattle.search.specs.Timed.{DeadUnlessReached, DeadUnlessTimely};
 use crate::minute;
@@ -16,7 +15,7 @@ use tables::Steps;
 
 // Whether action i adds a wanted fact that is not provided.
 fn adds_alone(sets: &[u64], i: u8, provided: u64, wanted: u64) -> bool
-    requires { ⌜ (length (now sets) ≡ 256) × (i < 64) ⌝ }
+    requires { ⌜ (length (now sets) ≡ 384) × (i < 64) ⌝ }
     ensures { λ r. ⌜ r ≡ meets (difference (addsAt (now (sets .entry)) i) provided) wanted ⌝ }
 {
     facts::meets(
@@ -27,7 +26,7 @@ fn adds_alone(sets: &[u64], i: u8, provided: u64, wanted: u64) -> bool
 
 // Whether each step that stops now adds a wanted fact that no other step provides.
 pub fn all_needed(sets: &[u64], actions: usize, st: State) -> bool
-    requires { ⌜ (length (now sets) ≡ 256) × Known actions (st .steps) × (actions ≤ 64)
+    requires { ⌜ (length (now sets) ≡ 384) × Known actions (st .steps) × (actions ≤ 64)
         × (st .since ≤ st .steps .count) ⌝ }
     ensures { λ r. ⌜ DeadUnless (now (sets .entry)) st r ⌝ }
 {
@@ -45,7 +44,7 @@ pub fn all_needed(sets: &[u64], actions: usize, st: State) -> bool
 
 // What a step of action i needs, if it runs in minute t.
 fn need_of(sets: &[u64], numbers: &[u32], i: u8, start: u16, t: u32) -> u64
-    requires { ⌜ (length (now sets) ≡ 256) × (length (now numbers) ≡ 576) × (i < 64)
+    requires { ⌜ (length (now sets) ≡ 384) × (length (now numbers) ≡ 1152) × (i < 64)
         × (durationAt (now numbers) i ≤ 255) ⌝ }
     ensures { λ r. ⌜ NeedOf (now (sets .entry)) (now (numbers .entry)) i start t r ⌝ }
 {

@@ -1,4 +1,4 @@
--- A job in tables: four sets and nine numbers for each action.
+-- A job in tables: four sets and nine numbers for each action, with room behind them for sets and numbers of the facts.
 -- Assumes nothing.
 use Prim.Native.Nat.{ℕ, zero, suc, _+_, _*_, _≤_, _<_}
 use mathlib.Core.Path.{_≡_}
@@ -54,6 +54,10 @@ pub record DescribesAction (J : Job) (sets numbers : List ℕ) (i : ℕ) : Type 
   pub stores : (store : ℕ) → store < length (J .stores)
       → storeUseAt numbers i store ≡ getD (actionOf J i .stores) store 0
 
+-- the tables describe each action of the job
+abbrev pub DescribesEach : Job → List ℕ → List ℕ → ℕ → Type 0
+DescribesEach J sets numbers actions = (i : ℕ) → i < actions → DescribesAction J sets numbers i
+
 -- the tables and the frame describe the job
 pub record Describes (J : Job) (sets numbers : List ℕ) (frame : Frame) : Type 0 where
   pub facts : J .facts ≡ frame .facts
@@ -63,12 +67,23 @@ pub record Describes (J : Job) (sets numbers : List ℕ) (frame : Frame) : Type 
   pub available : (pool : ℕ) → pool < frame .pools → getD (frame .available) pool 0 ≡ getD (J .pools) pool 0
   pub stocks : (store : ℕ) → store < frame .stores → getD (frame .stocks) store 0 ≡ getD (J .stores) store 0
   pub inTime : frame .horizon ≤ J .deadline
-  pub each : (i : ℕ) → i < frame .actions → DescribesAction J sets numbers i
+  pub each : DescribesEach J sets numbers (frame .actions)
+
+-- a table of numbers that is long enough, with durations of one byte
+pub record Numbers (numbers : List ℕ) (actions : ℕ) : Type 0 where
+  pub numberCount : length numbers ≡ 1152
+  pub few : actions ≤ 64
+  pub short : (i : ℕ) → i < actions → durationAt numbers i ≤ 255
+
+-- and a table of sets
+pub record Lent (sets numbers : List ℕ) (actions : ℕ) : Type 0 where
+  pub setCount : length sets ≡ 384
+  pub amounts : Numbers numbers actions
 
 -- the tables are long enough, and the frame within the limits
 pub record Sized (sets numbers : List ℕ) (frame : Frame) : Type 0 where
-  pub setCount : length sets ≡ 256
-  pub numberCount : length numbers ≡ 576
+  pub setCount : length sets ≡ 384
+  pub numberCount : length numbers ≡ 1152
   pub facts : frame .facts ≤ 64
   pub actions : frame .actions ≤ 64
   pub pools : frame .pools ≤ 4

@@ -4,8 +4,7 @@ use Prim.Native.Nat.{ℕ, _+_, _-_, _≤_, suc}
 use mathlib.Core.Path.{_≡_}
 use mathlib.Core.List.{List}
 use Rattle.job.specs.Job.{Job}
-use Rattle.tables.specs.Tables.{chosenTo}
-use Rattle.search.specs.Minutes.{DescribesEach}
+use Rattle.tables.specs.Tables.{chosenTo, DescribesEach}
 use Rattle.search.specs.Amounts.{Small, UsesOf}
 use Rattle.search.proofs.AmountLaws.{small-with-more}
 use native.Mathlib.Omega.{arith}

@@ -4,8 +4,8 @@ use Prim.Native.Nat.{_+_, _-_, _≤_, suc}
 use mathlib.Core.Path.{_≡_}
 use lib.ListN.{getD}
 use Rattle.job.specs.Job.{Job}
-use Rattle.tables.specs.Tables.{chosenTo}
-use Rattle.search.specs.Minutes.{MinuteOf, DescribesEach}
+use Rattle.tables.specs.Tables.{chosenTo, DescribesEach}
+use Rattle.search.specs.Minutes.{MinuteOf}
 use native.Mathlib.Omega.{arith}
 use Rattle.search.proofs.minute.look.Statement.{statement}
 use Rattle.search.proofs.minute.look.Tie as tie

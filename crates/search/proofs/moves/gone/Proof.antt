@@ -5,8 +5,7 @@ use mathlib.Core.Path.{_≡_, refl, ap₂, _∙_}
 use Rattle.facts.specs.FactSet.{union}
 use Rattle.job.specs.Job.{Job}
 use Rattle.regression.specs.Wanted.{addedBetween}
-use Rattle.tables.specs.Tables.{chosenTo}
-use Rattle.search.specs.Minutes.{DescribesEach}
+use Rattle.tables.specs.Tables.{chosenTo, DescribesEach}
 use native.Mathlib.Omega.{arith}
 use Rattle.search.proofs.moves.gone.Statement.{statement}
 use Rattle.search.proofs.moves.gone.Tie as tie

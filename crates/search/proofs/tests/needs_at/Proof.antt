@@ -5,8 +5,7 @@ use mathlib.Core.Path.{_≡_, refl, ap₂, _∙_}
 use Rattle.facts.specs.FactSet.{union}
 use Rattle.job.specs.Job.{Job}
 use Rattle.regression.specs.Tests.{runningNeeds}
-use Rattle.tables.specs.Tables.{chosenTo}
-use Rattle.search.specs.Minutes.{DescribesEach}
+use Rattle.tables.specs.Tables.{chosenTo, DescribesEach}
 use native.Mathlib.Omega.{arith}
 use Rattle.search.proofs.tests.needs_at.Statement.{statement}
 use Rattle.search.proofs.tests.needs_at.Tie as tie
