@@ -30,6 +30,7 @@ use Rattle.search.specs.declared.amounts.Uses.{Uses}
 use Rattle.search.specs.Minutes.{LooksAt}
 use Rattle.search.specs.Amounts.{LooksUses}
 use Rattle.search.specs.States.{Stands, DeadFor}
+use Rattle.search.specs.Missing.{Fresh}
 use Rattle.search.specs.Search.{Ready, Answered, NoneFrom}
 use Rattle.search.specs.Horizons.{Whole, Solves}
 
@@ -87,6 +88,9 @@ module _ (sets numbers times : List ℕ) (frame : Frame) (whole : Whole sets num
         notBefore = omega arith;
       }
 
+  pub fresh-at-first : Fresh st
+  fresh-at-first = begins .since ∙ ap (λ (s : Steps). s .count) (sym (begins .steps))
+
   pub stands-at-first : (J : Job) → Describes J sets numbers frame → Stands J frame st
   stands-at-first J described =
       let no-steps : chosen J (st .steps) ≡ [] = ap (chosen J) (begins .steps) in
@@ -98,6 +102,7 @@ module _ (sets numbers times : List ℕ) (frame : Frame) (whole : Whole sets num
         uses = rw (begins .minute) (begins .uses .looks J sets (described .each));
         twice = λ n h. absurd (true≢false (sym h ∙ ap (λ (set : ℕ). has set n) (begins .twice) ∙ has-zero n));
         enders = λ k a b. let c = ap (λ s. s .count) (begins .steps) in absurd (omega arith);
+        later = λ k l. let c = begins .since in absurd (omega arith);
       }
 
   -- a dead end there: no plan ends by the horizon

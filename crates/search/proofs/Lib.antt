@@ -4,6 +4,7 @@ pub mod Chosen
 mod BarredActions
 mod StateLaws
 mod StateTests
+mod MissingLaws
 mod Completeness
 mod Steps
 mod HorizonLaws

@@ -16,7 +16,7 @@ use Rattle.facts.specs.FactSet.{has, union, difference, meets, single}
 use Rattle.facts.proofs.Membership.{has-zero}
 use Rattle.job.specs.Job.{Job}
 use Rattle.timeline.specs.Step.{Step, stepOf}
-use Rattle.timeline.proofs.Tests.{or-cases, and-both}
+use Rattle.timeline.proofs.Tests.{or-cases, and-both, le-or-lt}
 use Rattle.timeline.proofs.Places.{here, there, EachStep}
 use Rattle.times.specs.Earliest.{actionOf}
 use Rattle.times.proofs.Singles.{in-single}
@@ -67,6 +67,15 @@ enders-as : (J : Job) (frame : Frame) {steps steps′ : Steps} {t t′ since sin
     → since ≡ since′ → Enders J frame steps t since → Enders J frame steps′ t′ since′
 enders-as J frame e f g h = rw (← e, ← f, ← g) h
 
+-- the steps before `since` stop after the minute
+abbrev Later : Job → Steps → ℕ → ℕ → Type 0
+Later J steps t since =
+    (k : ℕ) → k < since → t < getD (steps .starts) k 0 + actionOf J (getD (steps .numbers) k 0) .duration
+
+later-as : (J : Job) {steps steps′ : Steps} {t t′ since since′ : ℕ} → steps ≡ steps′ → t ≡ t′ → since ≡ since′
+    → Later J steps t since → Later J steps′ t′ since′
+later-as J e f g h = rw (← e, ← f, ← g) h
+
 twice-as : {t t′ : ℕ} {L L′ : List Step} → t ≡ t′ → L ≡ L′ → (n : ℕ) → AddedTwice t n L → AddedTwice t′ n L′
 twice-as e f n h = rw (← e, ← f) h
 
@@ -84,7 +93,8 @@ module _ (J : Job) (sets numbers : List ℕ) (frame : Frame) (described : Descri
       ∙ chosen-pushed J (st .steps) (frame .actions) i (startOf numbers st i) known-steps room
       ∙ ap (λ (s : ℕ). stepOf J i s ∷ chosen J (st .steps)) same-start
 
-  module _ (stands : Stands J frame st) (apart : meets (clashesAt sets i) (st .at .running) ≡ false) where
+  module _ (stands : Stands J frame st) (apart : meets (clashesAt sets i) (st .at .running) ≡ false)
+      (ordered : st .since ≤ st .steps .count) where
     fits-in-job : frame .first + actionOf J i .duration ≤ st .minute
     fits-in-job = let d = described .each i known .duration in omega arith
 
@@ -154,6 +164,15 @@ module _ (J : Job) (sets numbers : List ℕ) (frame : Frame) (described : Descri
         (stands .enders k a (omega arith)))
         (eq-or-lt-of-le b)
 
+    later-now : Later J (pushed (st .steps) i (startOf numbers st i)) (st .minute) (st .since)
+    later-now k l =
+        let other : k ≡ st .steps .count → ⊥ = λ e. omega arith in
+        rw (
+          getD-set-other (st .steps .numbers) (st .steps .count) k i 0 other,
+          getD-set-other (st .steps .starts) (st .steps .count) k (startOf numbers st i) 0 other,
+        )
+        (stands .later k l)
+
     pub taken-stands : Stands J frame r
     taken-stands =
         record {
@@ -170,6 +189,7 @@ module _ (J : Job) (sets numbers : List ℕ) (frame : Frame) (described : Descri
               (taken .uses .joins J sets (described .each i known) L (stands .uses));
           twice = λ n h. twice-as (sym (taken .minute)) (sym chosen-taken) n (twice-now n h);
           enders = enders-as J frame (sym (taken .steps)) (sym (taken .minute)) (sym (taken .since)) enders-now;
+          later = later-as J (sym (taken .steps)) (sym (taken .minute)) (sym (taken .since)) later-now;
         }
 
 -- ---- back to an event minute
@@ -182,6 +202,13 @@ module _ (J : Job) (sets numbers : List ℕ) (frame : Frame) (described : Descri
 
   pub chosen-back : chosen J (r .steps) ≡ chosen J (st .steps)
   chosen-back = ap (chosen J) (back .steps)
+
+  -- the steps that stopped at the minute left are later too
+  later-left : Later J (st .steps) s (st .steps .count)
+  later-left k l =
+      ⊎-elim (λ after. let e = stands .enders k after l in let stop = e .1 in omega arith)
+      (λ before. let e = stands .later k before in omega arith)
+      (le-or-lt (st .since) k)
 
   pub back-stands : Stands J frame r
   back-stands =
@@ -200,4 +227,5 @@ module _ (J : Job) (sets numbers : List ℕ) (frame : Frame) (described : Descri
         twice = λ n h. absurd (true≢false (sym h ∙ ap (λ (set : ℕ). has set n) (back .twice) ∙ has-zero n));
         enders = λ k a b.
             let c = ap (λ (steps : Steps). steps .count) (back .steps) in let d = back .since in absurd (omega arith);
+        later = later-as J (sym (back .steps)) (sym (back .minute)) (sym (back .since)) later-left;
       }

@@ -20,6 +20,7 @@ use Rattle.leaf.specs.Answer.{Finishes}
 use Rattle.search.specs.declared.state.State.{State}
 use Rattle.search.specs.States.{Stands, Safe, DeadFor, nextStep, MayStop, NextAction}
 use Rattle.search.specs.Moves.{Taken, Back, NoStartBetween}
+use Rattle.search.specs.Missing.{Fresh}
 use Rattle.search.specs.Search.{TaskOf, Ready, OpenFrom}
 use Rattle.search.proofs.Chosen.{known-pushed}
 use Rattle.search.proofs.StateLaws.{chosen-taken, taken-stands, chosen-back, back-stands}
@@ -58,7 +59,7 @@ module _ (sets numbers times : List ℕ) (frame : Frame) (st : State) (ready : R
     pub stands-taken : Stands J frame r
     stands-taken =
         taken-stands J sets numbers frame (task .described) st (ready .safe .known) i known (may .room refl) (may .fits refl) r
-        taken stands (may .apart refl)
+        taken stands (may .apart refl) (ready .safe .since)
 
     steps-taken : chosen J (r .steps) ≡ nextStep J st i ∷ chosen J (st .steps)
     steps-taken =
@@ -100,6 +101,9 @@ module _ (sets numbers times : List ℕ) (frame : Frame) (st : State) (ready : R
         facts = ready .facts;
         notBefore = notBefore;
       }
+
+  pub fresh-back : Fresh r
+  fresh-back = back .since ∙ ap (λ (s : Steps). s .count) (sym (back .steps))
 
   pub stands-back : (J : Job) (file : List ℕ) → TaskOf J file sets numbers times frame → Stands J frame st
       → Stands J frame r

@@ -3,5 +3,6 @@ pub mod Amounts
 pub mod States
 pub mod Moves
 pub mod Timed
+pub mod Missing
 pub mod Search
 pub mod Horizons

@@ -16,6 +16,7 @@ use Rattle.tables.specs.declared.Frame.{Frame}
 use Rattle.leaf.specs.declared.Answer.{Answer}
 use Rattle.leaf.specs.Answer.{FileOf, Found}
 use Rattle.search.specs.declared.state.State.{State}
+use Rattle.search.specs.Missing.{Marked}
 use Rattle.search.specs.States.{Stands, Safe, DeadFor, nextStep}
 
 -- everything that is lent is of this job
@@ -24,6 +25,7 @@ pub record TaskOf (J : Job) (file sets numbers times : List ℕ) (frame : Frame)
   pub described : Describes J sets numbers frame
   pub filled : Filled J times
   pub goal : foreign (J .facts) (frame .goal) ≡ false
+  pub marked : Marked J sets numbers frame
 
 -- all that is lent is safe to read, and the state is not before the first minute
 pub record Ready (sets numbers times : List ℕ) (frame : Frame) (st : State) : Type 0 where

@@ -17,7 +17,7 @@ pub struct Uses {
 }
 
 // An amount of 32 bits as a number of 64, where it counts.
-fn amount(counts: bool, number: u32) -> u64
+pub fn amount(counts: bool, number: u32) -> u64
     ensures { λ r. ⌜ (r ≡ cond counts number 0) × (r < 2 ^ 32) ⌝ }
 {
     if counts {

@@ -6,7 +6,9 @@ ghost use Prim.Native.Nat.{_+_, _≤_, _<_};
 ghost use Rattle.regression.specs.DeadEnd.{Until};
 ghost use Rattle.tables.specs.Tables.{chosen};
 ghost use Rattle.search.specs.States.{nextStep, MayStop};
+ghost use Rattle.search.specs.Missing.{Fresh};
 ghost use Rattle.search.specs.Search.{Ready, OpenFrom, Answered, NoneFrom};
+use crate::missing;
 use crate::moves;
 use crate::rules;
 use crate::state::State;
@@ -86,7 +88,7 @@ pub fn regress(
     frame: Frame,
     st: State,
 ) -> Answer
-    requires { ⌜ Ready (now sets) (now numbers) (now times) frame st ⌝ }
+    requires { ⌜ Ready (now sets) (now numbers) (now times) frame st × Fresh st ⌝ }
     ensures { λ r. ⌜ Answered (now (file .entry)) frame
         (NoneFrom (now (file .entry)) (now (sets .entry)) (now (numbers .entry)) (now (times .entry)) frame st
         (Until (frame .first) (st .minute)) (λ J. chosen J (st .steps))) r ⌝ }
@@ -97,6 +99,9 @@ pub fn regress(
     if st.minute <= frame.first {
         let steps = st.steps;
         return leaf::finish(file, frame, steps);
+    }
+    if !missing::stores_suffice(sets, numbers, frame, st) {
+        return leaf::nothing();
     }
     choose(sets, numbers, times, file, frame, st, 0)
 }

@@ -1,6 +1,7 @@
 -- `solve` meets its contract: the first state stands, and a dead end there leaves no plan.
 -- Assumes nothing.
-use Rattle.search.proofs.HorizonLaws.{known-none, begins-with-goal, ready-at-first, solved-by-regress, solved-by-finish}
+use Rattle.search.proofs.HorizonLaws.{known-none, begins-with-goal, ready-at-first, fresh-at-first}
+use Rattle.search.proofs.HorizonLaws.{solved-by-regress, solved-by-finish}
 use borrow.Author.Needs.{needs}
 use Rattle.search.proofs.horizons.solve.Statement.{statement}
 use Rattle.search.proofs.horizons.solve.Tie as tie
@@ -40,8 +41,8 @@ regress-requires c κs =
     let c-args = at8 .before .before .args in
     let c-pre = at8 .before .before .pre in
     let c-none = c .before .before .before .before .before .none in
-    ready-at-first _ _ _ (c-args .frame) (c-pre) _
-    (begins-with-goal _ _ (c-args .frame) _ _ _ _ (c-none .ensures) (c .before .before .wide .ensures .0) (c .before .look .ensures) (c .look2 .ensures))
+    let begins = begins-with-goal _ _ (c-args .frame) _ _ _ _ (c-none .ensures) (c .before .before .wide .ensures .0) (c .before .look .ensures) (c .look2 .ensures) in
+    (ready-at-first _ _ _ (c-args .frame) (c-pre) _ begins, fresh-at-first _ _ _ (c-args .frame) (c-pre) _ begins)
 
 returns-2 : tie.Need-returns-2
 returns-2 c =

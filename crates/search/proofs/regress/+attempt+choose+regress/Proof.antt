@@ -13,7 +13,7 @@ use Rattle.search.specs.Search.{TaskOf, OpenFrom}
 use Rattle.search.proofs.AmountLaws.{small-with-more}
 use Rattle.search.proofs.Completeness.{dead-from, dead-past-barred, dead-until}
 use Rattle.search.proofs.Steps.{ready-taken, stands-taken, dead-when-taken-open, dead-when-taken-until}
-use Rattle.search.proofs.Steps.{ready-back, stands-back, dead-when-back, dead-when-unfinished}
+use Rattle.search.proofs.Steps.{ready-back, fresh-back, stands-back, dead-when-back, dead-when-unfinished}
 use Prim.Native.Nat.{ℕ, _<_}
 use borrow.Fn.Kinds.{In}
 use borrow.Fn.PlainCycle.{Measures, is, falls, and}
@@ -37,6 +37,7 @@ use Rattle.search.proofs.tests.all_reached.Reads as all-reached-reads
 use Rattle.search.proofs.tests.timely.Reads as timely-reads
 use Rattle.search.proofs.regress.+attempt+choose+regress.{statement}
 use Rattle.search.proofs.regress.+attempt+choose+regress.Tie.{close}
+use Rattle.search.proofs.missing.stores_suffice.Reads as stores-suffice-reads
 
 abbrev μ-attempt : Measures 4 attempt-kinds.ps ℕ
 μ-attempt κs a = a .1 .1 .1 .1 .1 .0 .minute * 200 + 2 * (64 - a .1 .1 .1 .1 .1 .1 .0)
@@ -514,7 +515,9 @@ choose-regress-requires t c κs =
     let h = c-pre .1 in
     let b = c .back .ensures in
     let earlier = b .2 in
-    (omega arith, ready-back _ _ _ (c-args .frame) (c-args .st) (h .0) _ (b .0) (b .1) (b .2) (b .3))
+    (omega arith,
+    (ready-back _ _ _ (c-args .frame) (c-args .st) (h .0) _ (b .0) (b .1) (b .2) (b .3),
+    fresh-back _ _ _ (c-args .frame) (c-args .st) (h .0) _ (b .0) (b .1) (b .2) (b .3)))
 
 choose-returns-2 : (t : ℕ) → choose-lts.Need-returns-2 (
   next-action-reads.Asked,
@@ -552,12 +555,14 @@ regress-timely-requires : (t : ℕ) → regress-lts.Need-timely-requires (
   nothing-reads.Learnt,
   finish-reads.Asked,
   finish-reads.Learnt,
+  stores-suffice-reads.Asked,
+  stores-suffice-reads.Learnt,
   choose-below t,
   choose.Post,
 ) (regress-at t) regress.Post
 regress-timely-requires t c κs =
     let c-pre = c .before .before .before .before .pre in
-    let h = c-pre .1 in (h .timeCount, h .facts)
+    let h = c-pre .1 .0 in (h .timeCount, h .facts)
 
 regress-nothing-requires : (t : ℕ) → regress-lts.Need-nothing-requires (
   timely-reads.Asked,
@@ -566,6 +571,8 @@ regress-nothing-requires : (t : ℕ) → regress-lts.Need-nothing-requires (
   nothing-reads.Learnt,
   finish-reads.Asked,
   finish-reads.Learnt,
+  stores-suffice-reads.Asked,
+  stores-suffice-reads.Learnt,
   choose-below t,
   choose.Post,
 ) (regress-at t) regress.Post
@@ -578,6 +585,8 @@ regress-returns : (t : ℕ) → regress-lts.Need-returns (
   nothing-reads.Learnt,
   finish-reads.Asked,
   finish-reads.Learnt,
+  stores-suffice-reads.Asked,
+  stores-suffice-reads.Learnt,
   choose-below t,
   choose.Post,
 ) (regress-at t) regress.Post
@@ -596,13 +605,15 @@ regress-finish-requires : (t : ℕ) → regress-lts.Need-finish-requires (
   nothing-reads.Learnt,
   finish-reads.Asked,
   finish-reads.Learnt,
+  stores-suffice-reads.Asked,
+  stores-suffice-reads.Learnt,
   choose-below t,
   choose.Post,
 ) (regress-at t) regress.Post
 regress-finish-requires t c κs =
     let at8 = c .before .before .before .before .before .before .before .before in
     let c-pre = at8 .before .before .pre in
-    c-pre .1 .safe .known .few
+    c-pre .1 .0 .safe .known .few
 
 regress-returns-2 : (t : ℕ) → regress-lts.Need-returns-2 (
   timely-reads.Asked,
@@ -611,6 +622,8 @@ regress-returns-2 : (t : ℕ) → regress-lts.Need-returns-2 (
   nothing-reads.Learnt,
   finish-reads.Asked,
   finish-reads.Learnt,
+  stores-suffice-reads.Asked,
+  stores-suffice-reads.Learnt,
   choose-below t,
   choose.Post,
 ) (regress-at t) regress.Post
@@ -618,10 +631,62 @@ regress-returns-2 t c =
     let at8 = c .before .before .before .before .before .before .before .before in
     let c-pre = at8 .before .before .before .pre in
     let c-args = at8 .before .before .before .args in
-    let h = c-pre .1 in
+    let h = c-pre .1 .0 in
     record {
       found = c .finish .ensures .found;
       dead = λ e J task stands. dead-when-unfinished J _ _ _ _ (c-args .frame) (c-args .st) _ h task (c .finish .ensures) (omega arith) e;
+    }
+
+regress-stores-suffice-requires : (t : ℕ) → regress-lts.Need-stores-suffice-requires (
+  timely-reads.Asked,
+  timely-reads.Learnt,
+  nothing-reads.Asked,
+  nothing-reads.Learnt,
+  finish-reads.Asked,
+  finish-reads.Learnt,
+  stores-suffice-reads.Asked,
+  stores-suffice-reads.Learnt,
+  choose-below t,
+  choose.Post,
+) (regress-at t) regress.Post
+regress-stores-suffice-requires t c κs =
+    let at8 = c .before .before .before .before .before .before .before .before in
+    let c-pre = at8 .before .pre in
+    (c-pre .1 .0 .safe, c-pre .1 .1)
+
+regress-nothing-requires-2 : (t : ℕ) → regress-lts.Need-nothing-requires-2 (
+  timely-reads.Asked,
+  timely-reads.Learnt,
+  nothing-reads.Asked,
+  nothing-reads.Learnt,
+  finish-reads.Asked,
+  finish-reads.Learnt,
+  stores-suffice-reads.Asked,
+  stores-suffice-reads.Learnt,
+  choose-below t,
+  choose.Post,
+) (regress-at t) regress.Post
+regress-nothing-requires-2 t c κs = tt
+
+regress-returns-3 : (t : ℕ) → regress-lts.Need-returns-3 (
+  timely-reads.Asked,
+  timely-reads.Learnt,
+  nothing-reads.Asked,
+  nothing-reads.Learnt,
+  finish-reads.Asked,
+  finish-reads.Learnt,
+  stores-suffice-reads.Asked,
+  stores-suffice-reads.Learnt,
+  choose-below t,
+  choose.Post,
+) (regress-at t) regress.Post
+regress-returns-3 t c =
+    let c-stores-suffice = c .before .before .stores-suffice in
+    let none = ap (λ (a : Answer). a .found) (c .nothing2 .ensures) in
+    record {
+      found = λ e. absurd (true≢false (sym e ∙ none));
+      dead = λ e J task stands.
+          c-stores-suffice .ensures (not-true (c-stores-suffice .result) (c .before .if3 .taken)) J (task .described) (task .marked) stands;
     }
 
 regress-choose-requires : (t : ℕ) → regress-lts.Need-choose-requires (
@@ -631,28 +696,32 @@ regress-choose-requires : (t : ℕ) → regress-lts.Need-choose-requires (
   nothing-reads.Learnt,
   finish-reads.Asked,
   finish-reads.Learnt,
+  stores-suffice-reads.Asked,
+  stores-suffice-reads.Learnt,
   choose-below t,
   choose.Post,
 ) (regress-at t) regress.Post
 regress-choose-requires t c κs =
     let at8 = c .before .before .before .before .before .before .before .before in
-    let c-pre = at8 .before .pre in
+    let c-pre = at8 .before .before .before .pre in
     let m = c-pre .0 in
-    (omega arith, (c-pre .1, omega arith, omega arith))
+    (omega arith, (c-pre .1 .0, omega arith, omega arith))
 
-regress-returns-3 : (t : ℕ) → regress-lts.Need-returns-3 (
+regress-returns-4 : (t : ℕ) → regress-lts.Need-returns-4 (
   timely-reads.Asked,
   timely-reads.Learnt,
   nothing-reads.Asked,
   nothing-reads.Learnt,
   finish-reads.Asked,
   finish-reads.Learnt,
+  stores-suffice-reads.Asked,
+  stores-suffice-reads.Learnt,
   choose-below t,
   choose.Post,
 ) (regress-at t) regress.Post
-regress-returns-3 t c =
+regress-returns-4 t c =
     let at8 = c .before .before .before .before .before .before .before .before in
-    let c-args = at8 .before .before .args in
+    let c-args = at8 .before .before .before .before .args in
     record {
       found = c .choose .ensures .found;
       dead = λ e J task stands. dead-until J (c-args .frame) (c-args .st) (c .choose .ensures .dead e J task stands);
@@ -719,6 +788,8 @@ pub +attempt+choose+regress-spec : {M : Type 1} → statement M
       nothing-reads.Learnt,
       finish-reads.Asked,
       finish-reads.Learnt,
+      stores-suffice-reads.Asked,
+      stores-suffice-reads.Learnt,
       choose-below t,
       choose.Post,
     )
@@ -729,5 +800,8 @@ pub +attempt+choose+regress-spec : {M : Type 1} → statement M
     (regress-returns t)
     (regress-finish-requires t)
     (regress-returns-2 t)
-    (regress-choose-requires t)
+    (regress-stores-suffice-requires t)
+    (regress-nothing-requires-2 t)
     (regress-returns-3 t)
+    (regress-choose-requires t)
+    (regress-returns-4 t)

@@ -1,0 +1,64 @@
+-- A fresh state for whose landmarks a store has too little left is a dead end.
+-- Assumes nothing.
+use Prim.Native.Nat.{ℕ, _+_, _*_, _≤_, _<_}
+use mathlib.Core.Path.{_≡_, sym, ap, ap₂, _∙_}
+use mathlib.Core.Bool.{false}
+use mathlib.Core.List.{List}
+use native.Mathlib.Omega.{arith}
+use lib.ListN.{length, getD}
+use borrow.Author.Tests.{leb-false}
+use Rattle.facts.specs.FactSet.{union}
+use Rattle.job.specs.Job.{Job}
+use Rattle.timeline.specs.Step.{Step}
+use Rattle.timeline.specs.Timeline.{storeCap, usedUp}
+use Rattle.timeline.proofs.Places.{EachStep}
+use Rattle.regression.specs.Tests.{mustHold}
+use Rattle.regression.specs.DeadEnd.{Until}
+use Rattle.tables.specs.Tables.{Describes, chosen}
+use Rattle.tables.specs.declared.Frame.{Frame}
+use Rattle.landmarks.specs.Landmarks.{marksOf, sumOver}
+use Rattle.landmarks.specs.Tables.{markAt, shareFrom, rowAt}
+use Rattle.landmarks.proofs.AddedOnTheWay.{AtHand}
+use Rattle.landmarks.proofs.DeadEnds.{at-hand-at-start, dead-when-store-short}
+use Rattle.search.specs.declared.state.State.{State}
+use Rattle.search.specs.States.{Stands, DeadFor}
+use Rattle.search.specs.Missing.{Marked, Fresh, fits}
+use Rattle.search.proofs.Chosen.{place-of-chosen}
+
+module _ (J : Job) (sets numbers : List ℕ) (frame : Frame) (described : Describes J sets numbers frame)
+    (marked : Marked J sets numbers frame) (st : State) (stands : Stands J frame st) (fresh : Fresh st) where
+  abbrev L : List Step
+  L = chosen J (st .steps)
+
+  later-steps : EachStep (λ x. st .minute < x .stop) L
+  later-steps x Q p =
+      let k = place-of-chosen J (st .steps) (st .steps .count) p in
+      let l = k .1 in
+      rw (k .2) (stands .later (k .0) (omega arith))
+
+  base : (E : List Step) → EachStep (Until (frame .first) (st .minute)) E
+      → AtHand J (frame .first) (st .minute) (J .start) E L
+  base E until = rw (marked .first) (at-hand-at-start J (st .minute) E L later-steps)
+
+  -- the landmarks of what must hold
+  missing-of : marksOf (markAt sets) 64 (union (st .wanted) (st .at .across))
+      ≡ marksOf (markAt sets) 64 (mustHold (frame .goal) (frame .horizon) L (st .minute))
+  missing-of = ap (marksOf (markAt sets) 64) (ap₂ union (stands .wants) (stands .at .across))
+
+  pub dead-when-store-exceeded : (store missing : ℕ) → store < 4 → store < frame .stores
+      → missing ≡ marksOf (markAt sets) 64 (union (st .wanted) (st .at .across))
+      → fits numbers store missing (getD (st .uses .spent) store 0) (getD (frame .stocks) store 0) ≡ false
+      → DeadFor J frame (Until (frame .first) (st .minute)) L
+  unfolding storeCap
+  dead-when-store-exceeded store missing few inside same fails =
+      let count = described .stores in
+      let first = marked .first in
+      let known : store < length (J .stores) = omega arith in
+      let stock = described .stocks store inside in
+      let used = stands .uses .spent store few known in
+      let more = leb-false
+      (sumOver (shareFrom numbers (rowAt store)) 64 missing + 2520 * getD (st .uses .spent) store 0)
+      (2520 * getD (frame .stocks) store 0) fails in
+      dead-when-store-short J (frame .first) (frame .goal) (frame .horizon) (st .minute) (omega arith) (stands .inTime) L
+      (J .start) base 64 (markAt sets) (marked .landmarks) (shareFrom numbers (rowAt store)) store known 2520
+      (marked .stores store few known) (rw (same ∙ missing-of, used, stock) at more)

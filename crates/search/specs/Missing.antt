@@ -1,0 +1,38 @@
+-- Tests of a state against what is missing: the landmarks of what must hold at its minute.
+-- Assumes nothing.
+use Prim.Native.Nat.{ℕ, _+_, _*_, _<_}
+use mathlib.Core.Path.{_≡_}
+use mathlib.Core.Bool.{Bool, false}
+use mathlib.Core.List.{List}
+use lib.Dec.{leb}
+use lib.ListN.{length, getD}
+use Rattle.job.specs.Job.{Job}
+use Rattle.regression.specs.DeadEnd.{Until}
+use Rattle.tables.specs.Tables.{Describes, chosen}
+use Rattle.tables.specs.declared.Frame.{Frame}
+use Rattle.landmarks.specs.Landmarks.{Landmarks, sumOver, Shares}
+use Rattle.landmarks.specs.Tables.{markAt, shareFrom, rowAt}
+use Rattle.search.specs.declared.state.State.{State}
+use Rattle.search.specs.States.{Stands, DeadFor}
+
+-- the tables have landmarks and shares of the job, on a day on which only the start set is at hand
+pub record Marked (J : Job) (sets numbers : List ℕ) (frame : Frame) : Type 0 where
+  pub first : frame .first ≡ 0
+  pub landmarks : Landmarks J (J .start) 64 (markAt sets)
+  pub stores : (store : ℕ) → store < 4 → store < length (J .stores)
+      → Shares J (J .start) (shareFrom numbers (rowAt store)) 64 (λ a. 2520 * getD (a .stores) store 0)
+
+-- the chosen steps all stop after the state's minute
+abbrev pub Fresh : State → Type 0
+Fresh st = st .since ≡ st .steps .count
+
+-- a fresh state of which the test is false is a dead end
+abbrev pub DeadUnlessSuffices : List ℕ → List ℕ → Frame → State → Bool → Type 0
+DeadUnlessSuffices sets numbers frame st test =
+    test ≡ false → (J : Job) → Describes J sets numbers frame → Marked J sets numbers frame → Stands J frame st
+    → DeadFor J frame (Until (frame .first) (st .minute)) (chosen J (st .steps))
+
+-- the row's shares of a set, and what is used besides, are within what there is
+abbrev pub fits : List ℕ → ℕ → ℕ → ℕ → ℕ → Bool
+fits numbers row missing used available =
+    leb (sumOver (shareFrom numbers (rowAt row)) 64 missing + 2520 * used) (2520 * available)
