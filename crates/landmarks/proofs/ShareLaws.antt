@@ -12,9 +12,11 @@ use lib.ListN.{length, getD, set}
 use lib.Seq.{getD-set-same, getD-set-other}
 use borrow.Author.Tests.{lt-ltb, le-ltb}
 use Rattle.facts.specs.FactSet.{has, difference}
+use Rattle.job.specs.Job.{Job}
 use Rattle.timeline.proofs.Tests.{le-or-lt}
-use Rattle.tables.specs.Tables.{addsAt, durationAt, Numbers}
-use Rattle.landmarks.specs.Landmarks.{sumOver}
+use Rattle.times.specs.Earliest.{actionOf}
+use Rattle.tables.specs.Tables.{addsAt, durationAt, DescribesEach, Numbers}
+use Rattle.landmarks.specs.Landmarks.{sumOver, Shares}
 use Rattle.landmarks.specs.Tables.{KeptBefore, PutFrom, shareFrom, rowAt, weightAt, WithinAt, Within, WithinAll}
 use Rattle.landmarks.proofs.TableLaws.{kept-at-first, kept-when-set}
 
@@ -110,3 +112,15 @@ rows-on sets start xs ys actions row few inside kept here before k l =
     ⊎-elim (λ e. let same : k ≡ row = omega arith in rw same here)
     (λ less. within-kept sets start xs ys actions (rowAt row) k few (omega arith) (omega arith) kept (before k (omega arith)))
     (eq-or-lt-of-le l)
+
+-- ---- what the test of a store's row says of the job
+pub stores-when-within : (J : Job) (sets numbers : List ℕ) (actions start : ℕ) → length (J .actions) ≡ actions
+    → DescribesEach J sets numbers actions → WithinAll sets numbers actions start → (store : ℕ) → store < 4
+    → store < length (J .stores)
+    → Shares J start (shareFrom numbers (rowAt store)) 64 (λ a. 2520 * getD (a .stores) store 0)
+stores-when-within J sets numbers actions start count described within store few inside i known =
+    let below : i < actions = omega arith in
+    let d = described i below in
+    let weight : weightAt numbers i store ≡ getD (actionOf J i .stores) store 0 =
+    rw (lt-ltb store 4 few) (d .stores store inside) in
+    rw (← d .adds, ← weight) (within store (omega arith) i below)

@@ -16,7 +16,7 @@ use Rattle.job.specs.Job.{Job}
 use Rattle.timeline.proofs.Tests.{not-both, decided}
 use Rattle.times.specs.Earliest.{actionOf}
 use Rattle.times.proofs.Singles.{only-in-single}
-use Rattle.tables.specs.Tables.{DescribesAction, needsAt, addsAt}
+use Rattle.tables.specs.Tables.{DescribesEach, needsAt, addsAt}
 use Rattle.landmarks.specs.Landmarks.{Landmarks, marksOf, sumOver}
 use Rattle.landmarks.specs.Tables.{markAt, KeptBefore, Begun, Through, ByAdders, ClosedAt, Closed}
 use Rattle.landmarks.proofs.AddedOnTheWay.{mark-of}
@@ -149,7 +149,7 @@ closed-when-empty xs ys actions start begun q l =
 
 -- ---- what the test says
 pub landmarks-when-closed : (J : Job) (sets numbers : List ℕ) (actions start : ℕ) → length (J .actions) ≡ actions
-    → ((i : ℕ) → i < actions → DescribesAction J sets numbers i) → Closed sets actions start
+    → DescribesEach J sets numbers actions → Closed sets actions start
     → Landmarks J start 64 (markAt sets)
 landmarks-when-closed J sets numbers actions start count described closed =
     record {

@@ -1,10 +1,11 @@
 -- The tables of a job that passes tests 3 to 11, with its frame: a task of the search.
 -- Assumes nothing.
-use Prim.Native.Nat.{ℕ, _≤_}
-use mathlib.Core.Path.{_≡_, refl, sym, subst}
+use Prim.Native.Nat.{ℕ, _+_, _*_, _≤_, _<_}
+use mathlib.Core.Path.{_≡_, refl, sym, ap, _∙_, subst}
 use mathlib.Core.List.{List}
 use native.Mathlib.Omega.{arith}
 use lib.ListN.{length}
+use Rattle.facts.specs.FactSet.{has}
 use Rattle.job.specs.declared.Job as held
 use Rattle.job.specs.declared.refusal.Verdict.the-variants.{Pass}
 use Rattle.job.specs.Job.{jobIn}
@@ -15,39 +16,81 @@ use Rattle.job.proofs.Rows.{fits-of-pass}
 use Rattle.tables.specs.declared.Frame.{Frame}
 use Rattle.tables.specs.Filled.{Filled, frameOf}
 use Rattle.tables.proofs.Describing.{describes}
+use Rattle.landmarks.specs.Tables.{KeptBefore, Closed, WithinAll}
+use Rattle.landmarks.proofs.TableLaws.{landmarks-when-closed}
+use Rattle.landmarks.proofs.ShareLaws.{stores-when-within}
 use Rattle.earliest.specs.Sweep as earliest
 use Rattle.leaf.specs.Answer.{FileOf}
-use Rattle.tables.specs.Tables.{Lent}
+use Rattle.tables.specs.Tables.{Numbers, Lent}
 use Rattle.search.specs.Search.{TaskOf}
 use Rattle.search.specs.Horizons.{Whole}
 
+-- the numbers of the actions, with durations of one byte
+pub numbers-of-job : (job : held.Job) (sets numbers : List ℕ) → first (jobRows (jobIn job)) ≡ Pass
+    → Filled job sets numbers → Numbers numbers (job .counts .actions)
+numbers-of-job job sets numbers passes filled =
+    record {
+      numberCount = filled .numberCount;
+      few = fits-of-pass job passes .2;
+      short = λ i l.
+          let n = filled .eachNumbers i l in
+          let d = n .duration in
+          let b = n .byte in
+          omega arith;
+    }
+
+-- the tables of the actions stay while those of the facts are filled
+pub filled-still : (job : held.Job) (sets numbers sets′ numbers′ : List ℕ) → first (jobRows (jobIn job)) ≡ Pass
+    → Filled job sets numbers → KeptBefore 256 384 sets sets′ → KeptBefore 576 1152 numbers numbers′
+    → Filled job sets′ numbers′
+filled-still job sets numbers sets′ numbers′ passes filled keptSets keptNumbers =
+    let fits = fits-of-pass job passes in
+    let limits = passed (jobIn job) passes in
+    record {
+      setCount = keptSets .size;
+      numberCount = keptNumbers .size;
+      eachSets = λ i l.
+          let f = filled .eachSets i l in
+          let few = fits .2 in
+          record {
+            needs = keptSets .same (i * 4) (omega arith) ∙ f .needs;
+            adds = keptSets .same (i * 4 + 1) (omega arith) ∙ f .adds;
+            deletes = keptSets .same (i * 4 + 2) (omega arith) ∙ f .deletes;
+            clash = λ j m. ap (λ (set : ℕ). has set j) (keptSets .same (i * 4 + 3) (omega arith)) ∙ f .clash j m;
+          };
+      eachNumbers = λ i l.
+          let f = filled .eachNumbers i l in
+          let few = fits .2 in
+          record {
+            duration = keptNumbers .same (i * 9) (omega arith) ∙ f .duration;
+            byte = f .byte;
+            pools = λ pool m. let p = limits .fewPools in keptNumbers .same (i * 9 + 1 + pool) (omega arith) ∙ f .pools pool m;
+            stores = λ store m. let p = limits .fewStores in keptNumbers .same (i * 9 + 5 + store) (omega arith) ∙ f .stores store m;
+          };
+    }
+
 module _ (job : held.Job) (sets numbers times : List ℕ) (passes : first (jobRows (jobIn job)) ≡ Pass)
-    (filled : Filled job sets numbers) (timed : earliest.Filled (jobIn job) times)
+    (filled : Filled job sets numbers) (closed : Closed sets (job .counts .actions) (job .start))
+    (within : WithinAll sets numbers (job .counts .actions) (job .start)) (timed : earliest.Filled (jobIn job) times)
     (frame : Frame) (same : frame ≡ frameOf job (job .goal) 0 (job .deadline)) where
   pub task-of-job : (file : List ℕ) → FileOf (jobIn job) file → TaskOf (jobIn job) file sets numbers times frame
   task-of-job file inFile =
+      let described = describes job sets numbers filled passes (job .goal) 0 (job .deadline) (omega arith) in
       subst (λ (f : Frame). TaskOf (jobIn job) file sets numbers times f) (sym same)
       (record {
         inFile = inFile;
-        described = describes job sets numbers filled passes (job .goal) 0 (job .deadline) (omega arith);
+        described = described;
         filled = timed;
         goal = passed (jobIn job) passes .goal .within;
+        marked = record {
+          first = refl;
+          landmarks = landmarks-when-closed (jobIn job) sets numbers _ (job .start) (described .actions) (described .each) closed;
+          stores = stores-when-within (jobIn job) sets numbers _ (job .start) (described .actions) (described .each) within;
+        };
       })
 
   lent : Lent sets numbers (job .counts .actions)
-  lent =
-      record {
-        setCount = filled .setCount;
-        amounts = record {
-          numberCount = filled .numberCount;
-          few = fits-of-pass job passes .2;
-          short = λ i l.
-              let n = filled .eachNumbers i l in
-              let d = n .duration in
-              let b = n .byte in
-              omega arith;
-        };
-      }
+  lent = record { setCount = filled .setCount; amounts = numbers-of-job job sets numbers passes filled }
 
   -- what the search requires of the tables and the frame
   pub whole-of-job : Whole sets numbers times frame

@@ -17,6 +17,8 @@ use job::refusal::Verdict;
 use job::validate::validate;
 use jobfile::Layout;
 use jobfile::Written;
+use landmarks::marks;
+use landmarks::shares;
 use leaf::Answer;
 use pairs::Pair;
 use search::horizons;
@@ -42,7 +44,7 @@ fn copy_plan(out: &mut [u8], answer: Answer)
     }
 }
 
-// A shortest plan for the job's goal, from the tables, the earliest times and the file of the job.
+// A shortest plan for the job's goal, from the tables with landmarks, the earliest times and the file of the job.
 fn solve(job: Job) -> Answer
     requires { ⌜ first (jobRows (jobIn job)) ≡ Pass ⌝ }
     ensures { λ r. ⌜ Solved (jobIn job) r ⌝ }
@@ -50,6 +52,9 @@ fn solve(job: Job) -> Answer
     let mut sets = [0u64; Frame::SETS];
     let mut numbers = [0u32; Frame::NUMBERS];
     tables::fill::fill(&mut sets, &mut numbers, job);
+    let actions = job.counts.actions;
+    marks::fill(&mut sets, actions, job.start);
+    shares::fill(&mut numbers, &sets, actions, job.start);
     let mut times = [set_time::NONE; Pair::COUNT];
     earliest::sweep::fill(&mut times, job);
     let mut file = [0u8; Layout::FILE];

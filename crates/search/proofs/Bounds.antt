@@ -54,11 +54,11 @@ module _ (file sets numbers times : List ℕ) (frame : Frame) (T : ℕ) (within 
         };
         filled = task .filled;
         goal = task .goal;
-      marked = record {
-        first = task .marked .first;
-        landmarks = task .marked .landmarks;
-        stores = task .marked .stores;
-      };
+        marked = record {
+          first = task .marked .first;
+          landmarks = task .marked .landmarks;
+          stores = task .marked .stores;
+        };
       }
 
   module _ (r : Answer) (solves : Solves file sets numbers times (until frame T) r) where

@@ -514,10 +514,13 @@ choose-regress-requires t c κs =
     let m = c-pre .0 in
     let h = c-pre .1 in
     let b = c .back .ensures in
-    let earlier = b .2 in
-    (omega arith,
-    (ready-back _ _ _ (c-args .frame) (c-args .st) (h .0) _ (b .0) (b .1) (b .2) (b .3),
-    fresh-back _ _ _ (c-args .frame) (c-args .st) (h .0) _ (b .0) (b .1) (b .2) (b .3)))
+    let earlier = b .2 in (
+      omega arith,
+      (
+        ready-back _ _ _ (c-args .frame) (c-args .st) (h .0) _ (b .0) (b .1) (b .2) (b .3),
+        fresh-back _ _ _ (c-args .frame) (c-args .st) (h .0) _ (b .0) (b .1) (b .2) (b .3),
+      ),
+    )
 
 choose-returns-2 : (t : ℕ) → choose-lts.Need-returns-2 (
   next-action-reads.Asked,
