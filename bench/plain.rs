@@ -1,5 +1,5 @@
 //! Plain Rust versions of the reader, the writer, the checker and the earliest times, written for speed and from the
-//! document alone. The benchmark compares the proved calls with these, and their answers with each other.
+//! document alone. The benchmarks compare the proved calls with these, and their answers with each other.
 
 #[derive(Clone, Copy, Default)]
 pub struct Action {
@@ -252,7 +252,7 @@ fn facts_of(mut set: u64) -> impl Iterator<Item = u32> {
 pub struct Times([u32; 2080]);
 
 impl Times {
-    fn of(&self, set: u64) -> u32 {
+    pub fn of(&self, set: u64) -> u32 {
         let mut latest = 0;
         for q in facts_of(set) {
             let row = entry(0, q);
