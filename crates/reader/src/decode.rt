@@ -1,17 +1,19 @@
 // The four bodies of a file whose lengths are right, as a job. Nothing is tested here.
 ghost use mathlib.Core.Path.{_≡_};
 ghost use mathlib.Core.List.{map};
-ghost use Prim.Native.Nat.{_/_, _%_, _≤_};
-ghost use lib.ListN.{length};
+ghost use Prim.Native.Nat.{_/_, _<_, _≤_};
+ghost use lib.ListN.{length, replicate};
 ghost use Rattle.lists.specs.Lists.{filled};
 ghost use Rattle.encoding.specs.Bytes.{fromBytes, split};
 ghost use Rattle.job.specs.Job.{unusedAction, actionValue, jobValue};
 ghost use Rattle.jobfile.specs.File.{actionSize, actionOf, jobOf};
+ghost use Rattle.reader.specs.View.{actionAt};
 use encoding::read_number;
 use job::Action;
 use job::Counts;
 use job::Job;
 use jobfile::Layout;
+use crate::view::ActionsView;
 
 // Amounts of 4 bytes each, at most four.
 fn amounts(bytes: &[u8]) -> [u32; Job::POOLS]
@@ -46,21 +48,36 @@ fn action(bytes: &[u8], pools: usize, stores: usize) -> Action
     }
 }
 
+// Action i of a body whose actions have so many bytes each.
+pub fn action_at(bytes: &[u8], size: usize, i: usize, pools: usize, stores: usize) -> Action
+    requires { ⌜ (pools ≤ 4) × (stores ≤ 4) × (size ≡ actionSize pools stores) × (i < length (now bytes) / size) ⌝ }
+    ensures { λ r. ⌜ r ≡ actionValue (actionAt (now (bytes .entry)) pools stores i) ⌝ }
+{
+    let end = (i + 1) * size;
+    let at = end - size;
+    action(&bytes[at..end], pools, stores)
+}
+
+// No actions: every place unused.
+fn no_actions() -> [Action; Job::ACTIONS]
+    ensures { λ r. ⌜ r ≡ replicate 64 unusedAction ⌝ }
+{
+    let unused = Action::unused();
+    [unused; Job::ACTIONS]
+}
+
 // All actions of a job with so many pools and stores.
 fn actions(bytes: &[u8], pools: usize, stores: usize) -> [Action; Job::ACTIONS]
     requires { ⌜ (pools ≤ 4) × (stores ≤ 4) × (length (now bytes) / actionSize pools stores ≤ 64) ⌝ }
     ensures { λ r. ⌜ r ≡ filled 64 unusedAction
         (map actionValue (split (actionSize pools stores) (actionOf pools stores) (now (bytes .entry)))) ⌝ }
 {
-    let size = Layout::action_size(pools, stores);
-    let count = bytes.len() / size;
-    let unused = Action::unused();
-    let mut out = [unused; Job::ACTIONS];
+    let view = ActionsView::over(bytes, Layout::action_size(pools, stores));
+    let count = view.count();
+    let mut out = no_actions();
     let mut i = 0;
     while i < count {
-        let at = i * size;
-        let next = at + size;
-        out[i] = action(&bytes[at..next], pools, stores);
+        out[i] = view.action(i, pools, stores);
         i += 1;
     }
     out
