@@ -1,1 +1,2 @@
 mod ContentsLaws
+mod WalkSteps

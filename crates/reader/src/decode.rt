@@ -8,12 +8,12 @@ ghost use Rattle.encoding.specs.Bytes.{fromBytes, split};
 ghost use Rattle.job.specs.Job.{unusedAction, actionValue, jobValue};
 ghost use Rattle.jobfile.specs.File.{actionSize, actionOf, jobOf};
 ghost use Rattle.reader.specs.View.{actionAt};
+use crate::view::ActionsView;
 use encoding::read_number;
 use job::Action;
 use job::Counts;
 use job::Job;
 use jobfile::Layout;
-use crate::view::ActionsView;
 
 // Amounts of 4 bytes each, at most four.
 fn amounts(bytes: &[u8]) -> [u32; Job::POOLS]

@@ -16,81 +16,90 @@ use prog.Memory.{Memory}
 use prog.Routine.{Routine}
 use prog.Wp.{Heap, Calls, Loops, WpFn, Tables}
 use ghost.Atoms.{Atoms}
-use contract.Lifetimes.{Lfts}
 use contract.Monad.{Fun}
 use contract.Running.{givenOf, tables, tablesOf}
 use types.Kit.{Given, ‵, _⊛_, _$_, _∵_, !, qed, by, move, suffices, frame, done}
 use types.Part.{whole, sub, look-in}
-use types.Run.{look, init, forget, stop, fld, from, load, of-opd, bin, assigns, returns, enter, alloc1, alloc0, params1, pass1, pass0, free1, free0}
+use types.Run.{look, init, forget, stop, fld, from, load, of-opd, bin, returns, enter, alloc1, alloc0}
+use types.Run.{params1, pass1, pass0, free1, free0}
 use sound.WpLaws.{WpFn-mono}
-use denote.RattleType.{RattleType, owns}
-use denote.Laws.{Is}
-use denote.Plain.{uint-makes}
-use denote.Builtin.{usize}
+use denote.RattleType.{owns}
 use denote.Ref.{now}
 use denote.Signature.{namedLft}
-use denote.Steps.{owned}
 use denote.Struct.Laws as LL
-use denote.Triple.Entry.{onEntry}
+use denote.Triple.Entry.{Args, Vals, onEntry}
 use denote.Triple.Spec.{Meets, tripleOf}
 use denote.Triple.Table.{entered}
-use denote.Triple.Walked.{says, needs, Stays, stay-none, walkOf, goes-none, Walks, ends-at, walked, walk-meets}
+use denote.Triple.Walked.{says, needs, Stays, stay-none, walkOf, goes-none, ends-at, walked, walk-meets}
 use denote.Exit.{yes}
 use Rattle.reader.specs.declared.view.ActionsView.{ActionsView}
+use Rattle.reader.proofs.WalkSteps.{View, view-typed, holds, sets, number}
 use Rattle.reader.proofs.view.ActionsView as T
 use Rattle.reader.proofs.view.ActionsView.Laws as T′
-use Rattle.reader.proofs.view.ActionsView.count.Key.{name as #reader·count}
+use Rattle.reader.proofs.view.ActionsView.count.Key.{name as #count}
 use Rattle.reader.proofs.view.ActionsView.count as count
 use Rattle.reader.proofs.view.ActionsView.count.Statement as stated
 use Rattle.reader.proofs.view.ActionsView.count.Code as code
 
--- the struct's type, over the signature's lifetimes
-abbrev B : Lfts 1 → RattleType
-B κs = T.the-row (namedLft 1 0 tt κs)
-
 abbrev stayed : Stays (count.ended .signature .params) (count.ended .kept)
-stayed = (stay-none B yes, tt)
+stayed = (stay-none View yes, tt)
 
-module _ {M : Type 1} (𝓤 : URA M) (H : Heap 𝓤) (A : Atoms 𝓤) (W : Given 𝓤 H A) (mem : Memory → SProp 𝓤) (run : Routine → Fun 𝓤) (κ : Lft) (q : Share) (d : ActionsView) (ok : 0 < d .size) where
-  abbrev mach : Val
-  mach = T′.lowered d
-
+module _ {M : Type 1} (𝓤 : URA M) (H : Heap 𝓤) (A : Atoms 𝓤) (W : Given 𝓤 H A) (mem : Memory → SProp 𝓤)
+    (run : Routine → Fun 𝓤) (κ : Lft) (q : Share) (d : ActionsView) (ok : 0 < d .size) where
   abbrev n : ℕ
   n = length (now (d .bytes)) / d .size
 
-  abbrev Post : Val → SProp 𝓤
-  Post = walkOf 𝓤 H A count.ended stayed (count.clauses 𝓤 H A mem run) .post (((κ, tt), (q, tt), tt, (d, tt), (mach ∷ [], tt)), tt)
+  abbrev x : Args count.signature (κ, tt)
+  x = (d, tt)
 
-  exits : n < 2 ^ 64 → ent 𝓤 (onEntry 𝓤 H A count.signature (κ, tt) (q, tt) (d, tt) (mach ∷ [], tt)) (Post (vint w64 n))
-  exits g =
-      qed W ((‵ (flft κ q) ⊛ ‵ ftrue) ∷ ‵ (owns (B (κ, tt) ∷ []) (d, tt) (mach ∷ [], tt)) ∷ []) ∵
-      suffices ! _ (ends-at 𝓤 H A count.ended stayed (count.clauses 𝓤 H A mem run) W (((κ, tt), (q, tt), tt, (d, tt), (mach ∷ [], tt)), tt) (vint w64 n) n (tt, tt) (tt, tt)) $ says ! refl $
-      frame ! $ frame ! $ owned ! usize (Is usize) (uint-makes 𝓤 H A W w64) n _ (refl, g) $ done !
+  abbrev at : Vals count.signature (κ, tt)
+  at = (T′.lowered d ∷ [], tt)
+
+  abbrev Post : Val → SProp 𝓤
+  Post = walkOf 𝓤 H A count.ended stayed (count.clauses 𝓤 H A mem run) .post (((κ, tt), (q, tt), tt, x, at), tt)
+
+  exits : n < 2 ^ 64 → ent 𝓤 (onEntry 𝓤 H A count.signature (κ, tt) (q, tt) x at) (Post (vint w64 n))
+  exits fits =
+      qed W ((‵ (flft κ q) ⊛ ‵ ftrue) ∷ ‵ (owns (View (κ, tt) ∷ []) x at) ∷ []) ∵
+      suffices ! _ (ends-at 𝓤 H A count.ended stayed (count.clauses 𝓤 H A mem run) W
+      (((κ, tt), (q, tt), tt, x, at), tt) (vint w64 n) n (tt, tt) (tt, tt)) $ says ! refl $
+      frame ! $ frame ! $ number ! n fits $ done !
 
   module _ (C : Calls 𝓤 H) (Λ : Loops 𝓤 H) where
-    walk : Holds (hasTy (T′.mir (named 0)) mach) × WT mach → ent 𝓤 (onEntry 𝓤 H A count.signature (κ, tt) (q, tt) (d, tt) (mach ∷ [], tt)) (WpFn 𝓤 H C Λ code.function (mach ∷ []) Post)
+    walk : Holds (hasTy (T′.mir (named 0)) (T′.lowered d)) × WT (T′.lowered d)
+        → ent 𝓤 (onEntry 𝓤 H A count.signature (κ, tt) (q, tt) x at)
+        (WpFn 𝓤 H C Λ code.function (T′.lowered d ∷ []) Post)
     walk wt =
-        qed W ((‵ (flft κ q) ⊛ ‵ ftrue) ∷ ‵ (owns (B (κ, tt) ∷ []) (d, tt) (mach ∷ [], tt)) ∷ []) ∵ enter ! C Λ code.function (mach ∷ []) _ $
-        alloc1 ! (λ l₀. alloc1 ! (λ l₁. alloc1 ! (λ l₂. alloc1 ! (λ l₃. alloc0 ! $ params1 ! $ pass1 ! (init ! 4 refl wt) $ pass0 ! $
-        assigns ! (of-opd ! (load ! (from ! (fld ! refl (fld ! refl (stop !)))) (look-in ! 4 (sub ! 1 refl (sub ! 0 refl (whole !)))))) (from ! (stop !)) (init ! 2 refl (tt, wt .1 .0 .1 .0)) $
-        assigns ! (of-opd ! (load ! (from ! (fld ! refl (stop !))) (look-in ! 4 (sub ! 1 refl (whole !))))) (from ! (stop !)) (init ! 0 refl (tt, wt .1 .1 .0)) $
-        assigns ! (bin ! (load ! (from ! (stop !)) (look ! 2 refl)) (load ! (from ! (stop !)) (look ! 0 refl)) ok) (from ! (stop !)) (init ! 6 refl (tt, fits-div (length (now (d .bytes))) (d .size) (wt .1 .0 .1 .0))) $
+        let fits = fits-div {w = w64} (length (now (d .bytes))) (d .size) (wt .1 .0 .1 .0) in
+        qed W ((‵ (flft κ q) ⊛ ‵ ftrue) ∷ ‵ (owns (View (κ, tt) ∷ []) x at) ∷ []) ∵
+        enter ! C Λ code.function (T′.lowered d ∷ []) _ $
+        alloc1 ! (λ l₀. alloc1 ! (λ l₁. alloc1 ! (λ l₂. alloc1 ! (λ l₃. alloc0 ! $ params1 ! $
+        pass1 ! (init ! 4 refl wt) $ pass0 ! $
+        -- [_3; …; _2; …; _1; …; room for _0; …]
+        sets ! (of-opd ! (load ! (from ! (fld ! refl (fld ! refl (stop !)))) (look-in ! 4
+        (sub ! 1 refl (sub ! 0 refl (whole !)))))) 2 refl (tt, wt .1 .0 .1 .0) $
+        sets ! (of-opd ! (load ! (from ! (fld ! refl (stop !))) (look-in ! 4 (sub ! 1 refl (whole !)))))
+        0 refl (tt, wt .1 .1 .0) $
+        sets ! (bin ! (holds ! 2 refl) (holds ! 0 refl) ok) 6 refl (tt, fits) $
         returns ! (look ! 6 refl) $ forget ! 0 refl $ forget ! 2 refl $ forget ! 4 refl $ forget ! 6 refl $
-        move ! (6 ∷ 7 ∷ []) $ free1 ! $ move ! (4 ∷ 5 ∷ []) $ free1 ! $ move ! (2 ∷ 3 ∷ []) $ free1 ! $ free1 ! $ free0 ! $ by ! (exits (fits-div (length (now (d .bytes))) (d .size) (wt .1 .0 .1 .0) .fits))))))
+        move ! (6 ∷ 7 ∷ 4 ∷ 5 ∷ 2 ∷ 3 ∷ []) $ free1 ! $ free1 ! $ free1 ! $ free1 ! $ free0 ! $
+        by ! (exits (fits .fits))))))
 
-module _ {M : Type 1} (𝓤 : URA M) (H : Heap 𝓤) (A : Atoms 𝓤) (W : Given 𝓤 H A) (mem : Memory → SProp 𝓤) (run : Routine → Fun 𝓤) where
-  count-walks : (C : Calls 𝓤 H) (Λ : Loops 𝓤 H) → Walks 𝓤 H A count.ended stayed (WpFn 𝓤 H C Λ code.function) (count.clauses 𝓤 H A mem run)
-  count-walks C Λ = walked 𝓤 H A count.ended stayed (count.clauses 𝓤 H A mem run) (WpFn 𝓤 H C Λ code.function) (λ κs. (LL.vals (T.the-type (namedLft 1 0 tt κs)) (T′.the-laws (namedLft 1 0 tt κs)), tt)) (λ κs. (LL.tells (T.the-type (namedLft 1 0 tt κs)) (T′.the-laws (namedLft 1 0 tt κs)), tt))
-      (λ κs qs bounds a g are. needs 𝓤 _ _
-      (λ ok. walk 𝓤 H A W mem run (κs .0) (qs .0) (a .0) ok C Λ (LL.lawful (T.the-type (namedLft 1 0 tt κs)) (T′.the-laws (namedLft 1 0 tt κs)) 𝓤 H A W .typed (a .0) _ (are .0) .0)))
-
-count-meets : {M : Type 1} (𝓤 : URA M) (H : Heap 𝓤) (A : Atoms 𝓤) → Given 𝓤 H A → (mem : Memory → SProp 𝓤) (run : Routine → Fun 𝓤) (𝓣 : Tables 𝓤 H)
+count-meets : {M : Type 1} (𝓤 : URA M) (H : Heap 𝓤) (A : Atoms 𝓤) → Given 𝓤 H A → (mem : Memory → SProp 𝓤)
+    (run : Routine → Fun 𝓤) (𝓣 : Tables 𝓤 H)
     → Meets 𝓤 H A count.signature (WpFn 𝓤 H (𝓣 .C) (𝓣 .Λ) code.function) (count.spec 𝓤 H A mem run)
-count-meets 𝓤 H A W mem run 𝓣 = walk-meets 𝓤 H A count.ended stayed W (goes-none 𝓤 H A W 1 B yes (λ κs x f. refl), tt) (count.clauses 𝓤 H A mem run) (WpFn 𝓤 H (𝓣 .C) (𝓣 .Λ) code.function) (WpFn-mono 𝓤 H (W .laws) 𝓣 code.function) (count-walks 𝓤 H A W mem run (𝓣 .C) (𝓣 .Λ))
+count-meets 𝓤 H A W mem run 𝓣 =
+    walk-meets 𝓤 H A count.ended stayed W (goes-none 𝓤 H A W 1 View yes (λ κs x f. refl), tt)
+    (count.clauses 𝓤 H A mem run) (WpFn 𝓤 H (𝓣 .C) (𝓣 .Λ) code.function) (WpFn-mono 𝓤 H (W .laws) 𝓣 code.function)
+    (walked 𝓤 H A count.ended stayed (count.clauses 𝓤 H A mem run) (WpFn 𝓤 H (𝓣 .C) (𝓣 .Λ) code.function)
+    (λ κs. (LL.vals (T.the-type (namedLft 1 0 tt κs)) (T′.the-laws (namedLft 1 0 tt κs)), tt))
+    (λ κs. (LL.tells (T.the-type (namedLft 1 0 tt κs)) (T′.the-laws (namedLft 1 0 tt κs)), tt))
+    (λ κs qs bounds a g are. needs 𝓤 _ _ (λ ok. walk 𝓤 H A W mem run (κs .0) (qs .0) (a .0) ok (𝓣 .C) (𝓣 .Λ)
+    (view-typed 𝓤 H A W (κs .0) (named 0) (a .0) _ (are .0)))))
 
 pub count-spec : {M : Type 1} → stated.statement M
 unfolding code.routine tablesOf
 count-spec 𝓤 H 𝓜 𝓖 𝓡 =
     entered 𝓤 H (tripleOf 𝓤 H (𝓖 .A) count.signature (count.spec 𝓤 H (𝓖 .A) (𝓜 .mem) (𝓡 .run)))
-    (tables 𝓤 H 𝓜 𝓡 code.env .C) (tables 𝓤 H 𝓜 𝓡 code.env .Λ) #reader·count code.function (code.unfolded 𝓤 H 𝓜 𝓡)
+    (tables 𝓤 H 𝓜 𝓡 code.env .C) (tables 𝓤 H 𝓜 𝓡 code.env .Λ) #count code.function (code.unfolded 𝓤 H 𝓜 𝓡)
     (count-meets 𝓤 H (𝓖 .A) (givenOf 𝓤 H 𝓜 𝓖) (𝓜 .mem) (𝓡 .run) (tablesOf 𝓤 H 𝓜 (tables 𝓤 H 𝓜 𝓡 code.env)))
