@@ -1,6 +1,7 @@
 // The reader: any bytes in; the job in them, or the first refusal of 1 to 11, out. One pass over the bytes.
+mod action; // one action of a body, taken apart
 mod decode; // the four bodies of a file to a job
-mod view; // the actions body, through a view of the lent file
+mod view; // the actions body, as a view of the lent file
 
 ghost use mathlib.Core.Path.{_≡_};
 ghost use mathlib.Core.Bool.{true, false};

@@ -6,7 +6,7 @@ ghost use lib.ListN.{length};
 ghost use Rattle.job.specs.Job.{actionValue};
 ghost use Rattle.jobfile.specs.File.{actionSize};
 ghost use Rattle.reader.specs.View.{actionAt};
-use crate::decode::action_at;
+use crate::action::action_at;
 use job::Action;
 
 pub struct ActionsView<'a> {

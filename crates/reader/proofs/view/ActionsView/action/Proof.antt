@@ -52,10 +52,10 @@ use Rattle.reader.proofs.WalkSteps.{lifetime, View, Bytes, bytesVal, vi
 use Rattle.reader.proofs.WalkSteps.{holds, sets, lands-in, number, view-copied, returned}
 use Rattle.reader.proofs.view.ActionsView as T
 use Rattle.reader.proofs.view.ActionsView.Laws as T′
-use Rattle.reader.proofs.decode.action_at as action-at
-use Rattle.reader.proofs.decode.action_at.Symbol as action-at-def
-use Rattle.reader.proofs.decode.action_at.Symbol.{name as #action-at}
-use Rattle.reader.proofs.decode.action_at.Met as action-at-thm
+use Rattle.reader.proofs.action.action_at as action-at
+use Rattle.reader.proofs.action.action_at.Symbol as action-at-def
+use Rattle.reader.proofs.action.action_at.Symbol.{name as #action-at}
+use Rattle.reader.proofs.action.action_at.Met as action-at-thm
 use Rattle.reader.proofs.view.ActionsView.action.Key.{name as #action}
 use Rattle.reader.proofs.view.ActionsView.action as action
 use Rattle.reader.proofs.view.ActionsView.action.Statement as stated
@@ -213,4 +213,4 @@ action-spec 𝓤 H 𝓜 𝓖 𝓡 =
     (tables 𝓤 H 𝓜 𝓡 code.env .C) (tables 𝓤 H 𝓜 𝓡 code.env .Λ) #action code.function (code.unfolded 𝓤 H 𝓜 𝓡)
     (action-meets 𝓤 H (𝓖 .A) (givenOf 𝓤 H 𝓜 𝓖) (𝓜 .mem) (𝓡 .run) (tablesOf 𝓤 H 𝓜 (tables 𝓤 H 𝓜 𝓡 code.env))
     (cited 𝓤 H (ActionAt 𝓤 H (𝓖 .A) (𝓜 .mem) (𝓡 .run)) 𝓜 𝓡 code.env #action-at action-at-def.routine
-    code.calls-reader·decode·action-at (action-at-thm.met 𝓤 H 𝓜 𝓖 𝓡)))
+    code.calls-reader·action·action-at (action-at-thm.met 𝓤 H 𝓜 𝓖 𝓡)))

@@ -6,8 +6,8 @@ use lib.ListN.{length}
 use Rattle.jobfile.specs.File.{actionOf}
 use native.Mathlib.Omega.{arith}
 use borrow.Author.Needs.{needs}
-use Rattle.reader.proofs.decode.action.Statement.{statement}
-use Rattle.reader.proofs.decode.action.Tie as tie
+use Rattle.reader.proofs.action.action.Statement.{statement}
+use Rattle.reader.proofs.action.action.Tie as tie
 
 mul-middle : tie.Need-mul-middle
 mul-middle c = search needs

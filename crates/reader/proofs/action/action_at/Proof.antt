@@ -9,8 +9,8 @@ use lib.ListN.{length}
 use Rattle.encoding.proofs.Parts.{length-part}
 use Rattle.encoding.proofs.Pieces.{piece-within}
 use borrow.Author.Needs.{needs}
-use Rattle.reader.proofs.decode.action_at.Statement.{statement}
-use Rattle.reader.proofs.decode.action_at.Tie as tie
+use Rattle.reader.proofs.action.action_at.Statement.{statement}
+use Rattle.reader.proofs.action.action_at.Tie as tie
 
 next-end : (i s : ℕ) → (i + 1) * s ≡ i * s + s
 next-end i s = ap (λ (k : ℕ). k * s) (add-one i) ∙ suc-mul i s

@@ -7,8 +7,8 @@ use Rattle.lists.specs.Lists.{tabulate, filled}
 use Rattle.lists.proofs.Tabulate.{filled-tabulate}
 use Rattle.encoding.specs.Bytes.{fromBytes, part}
 use native.Mathlib.Omega.{arith}
-use Rattle.reader.proofs.decode.amounts.Statement.{statement}
-use Rattle.reader.proofs.decode.amounts.Tie as tie
+use Rattle.reader.proofs.action.amounts.Statement.{statement}
+use Rattle.reader.proofs.action.amounts.Tie as tie
 
 abbrev Inv-loop : tie.InvT-loop
 Inv-loop bytes out₀ i₀ out i =
