@@ -79,104 +79,104 @@ module _ {M : Type 1} (𝓤 : URA M) (H : Heap 𝓤) (A : Atoms 𝓤) (mem : Mem
   ActionAt = tripleOf 𝓤 H A action-at.signature (action-at.spec 𝓤 H A mem run)
 
 module _ {M : Type 1} (𝓤 : URA M) (H : Heap 𝓤) (A : Atoms 𝓤) (W : Given 𝓤 H A) (mem : Memory → SProp 𝓤)
-    (run : Routine → Fun 𝓤) (κ : Lft) (q : Share) (d : ActionsView) (i p s : ℕ) (fit : Fit i p s) (ok : Within d i p s)
-  where
-    abbrev mach : Val
-    mach = T′.lowered d
+    (run : Routine → Fun 𝓤) (κ : Lft) (q : Share) (d : ActionsView) (i p s : ℕ) (fit : Fit i p s)
+    (ok : Within d i p s) where
+  abbrev mach : Val
+  mach = T′.lowered d
 
-    abbrev found : Action
-    found = actionValue (actionAt (now (d .bytes)) p s i)
+  abbrev found : Action
+  found = actionValue (actionAt (now (d .bytes)) p s i)
 
-    abbrev x : Args action.signature (κ, tt)
-    x = (d, (i, (p, (s, tt))))
+  abbrev x : Args action.signature (κ, tt)
+  x = (d, (i, (p, (s, tt))))
 
-    abbrev at : Vals action.signature (κ, tt)
-    at = (mach ∷ [], (vint w64 i ∷ [], (vint w64 p ∷ [], (vint w64 s ∷ [], tt))))
+  abbrev at : Vals action.signature (κ, tt)
+  at = (mach ∷ [], (vint w64 i ∷ [], (vint w64 p ∷ [], (vint w64 s ∷ [], tt))))
 
-    abbrev Post : Val → SProp 𝓤
-    Post = walkOf 𝓤 H A action.ended stayed (action.clauses 𝓤 H A mem run) .post (((κ, tt), (q, tt), tt, x, at), tt)
+  abbrev Post : Val → SProp 𝓤
+  Post = walkOf 𝓤 H A action.ended stayed (action.clauses 𝓤 H A mem run) .post (((κ, tt), (q, tt), tt, x, at), tt)
 
-    abbrev Token : Item 𝓤
-    Token = ‵ (flft κ q) ⊛ ‵ ftrue
+  abbrev Token : Item 𝓤
+  Token = ‵ (flft κ q) ⊛ ‵ ftrue
 
-    abbrev Own : Fml
-    Own = View (κ, tt) .own d (mach ∷ [])
+  abbrev Own : Fml
+  Own = View (κ, tt) .own d (mach ∷ [])
 
-    -- the view's type and laws, and its fields' values
-    abbrev D : Declared
-    D = T.the-type (lifetime κ)
+  -- the view's type and laws, and its fields' values
+  abbrev D : Declared
+  D = T.the-type (lifetime κ)
 
-    abbrev L : LL.Laws D
-    L = T′.the-laws (lifetime κ)
+  abbrev L : LL.Laws D
+  L = T′.the-laws (lifetime κ)
 
-    abbrev vd : Values (D .parts)
-    vd = (d .bytes, (d .size, tt))
+  abbrev vd : Values (D .parts)
+  vd = (d .bytes, (d .size, tt))
 
-    -- what the callee is passed
-    abbrev y : Args action-at.signature (κ, tt)
-    y = (d .bytes, (d .size, (i, (p, (s, tt)))))
+  -- what the callee is passed
+  abbrev y : Args action-at.signature (κ, tt)
+  y = (d .bytes, (d .size, (i, (p, (s, tt)))))
 
-    abbrev passed : Vals action-at.signature (κ, tt)
-    passed = (bytesVal (d .bytes) ∷ [], (vint w64 (d .size) ∷ [], at .1))
+  abbrev passed : Vals action-at.signature (κ, tt)
+  passed = (bytesVal (d .bytes) ∷ [], (vint w64 (d .size) ∷ [], at .1))
 
-    abbrev to : ActionAt 𝓤 H A mem run .Ghost
-    to = (((κ, tt), (q, tt), tt, y, passed), tt)
+  abbrev to : ActionAt 𝓤 H A mem run .Ghost
+  to = (((κ, tt), (q, tt), tt, y, passed), tt)
 
-    asked : ent 𝓤 (onEntry 𝓤 H A action-at.signature (κ, tt) (q, tt) y passed) (ActionAt 𝓤 H A mem run .pre to)
-    asked =
-        qed W (Token ∷ ‵ (owns (Bytes κ ∷ usize ∷ usize ∷ usize ∷ usize ∷ []) y passed) ∷ []) ∵
-        says ! ok $ frame ! $ done !
+  asked : ent 𝓤 (onEntry 𝓤 H A action-at.signature (κ, tt) (q, tt) y passed) (ActionAt 𝓤 H A mem run .pre to)
+  asked =
+      qed W (Token ∷ ‵ (owns (Bytes κ ∷ usize ∷ usize ∷ usize ∷ usize ∷ []) y passed) ∷ []) ∵
+      says ! ok $ frame ! $ done !
 
-    -- what the view owns gives what the callee asks, and is kept
-    apart : d .size < 2 ^ 64 → ent 𝓤 (onEntry 𝓤 H A action.signature (κ, tt) (q, tt) x at)
-        (sep 𝓤 (ActionAt 𝓤 H A mem run .pre to) (sem 𝓤 H A Own))
-    apart fits =
-        qed W (Token ∷ ‵ (owns (View (κ, tt) ∷ usize ∷ usize ∷ usize ∷ []) x at) ∷ []) ∵
-        move ! (1 ∷ []) $ fsplit ! $ view-copied ! κ d mach $
-        use1 W (given (mach ∷ [] ≡ mach ∷ []) (‵ (all-own (D .parts) L vd))) (own-open 𝓤 H A W D L vd mach) $
-        learn ! (λ _. use1 W (‵ (ownAt (D .parts) L 0 (d .bytes)) ⊛ ‵ (rest (D .parts) L 0 vd))
-        (own-out 𝓤 H A W (D .parts) L 0 vd) $
-        -- [what bytes owns, and what size owns; what the view owns; what the numbers own; the token]
-        split ! $ move ! (1 ∷ []) $ drop ! $ move ! (2 ∷ []) $ number ! (d .size) fits $ fjoin ! $ move ! (1 ∷ 0 ∷ []) $
-        fjoin ! $ move ! (2 ∷ 0 ∷ []) $ use2 W (raw (ActionAt 𝓤 H A mem run .pre to)) asked $ frame ! $ done !)
+  -- what the view owns gives what the callee asks, and is kept
+  apart : d .size < 2 ^ 64 → ent 𝓤 (onEntry 𝓤 H A action.signature (κ, tt) (q, tt) x at)
+      (sep 𝓤 (ActionAt 𝓤 H A mem run .pre to) (sem 𝓤 H A Own))
+  apart fits =
+      qed W (Token ∷ ‵ (owns (View (κ, tt) ∷ usize ∷ usize ∷ usize ∷ []) x at) ∷ []) ∵
+      move ! (1 ∷ []) $ fsplit ! $ view-copied ! κ d mach $
+      use1 W (given (mach ∷ [] ≡ mach ∷ []) (‵ (all-own (D .parts) L vd))) (own-open 𝓤 H A W D L vd mach) $
+      learn ! (λ _. use1 W (‵ (ownAt (D .parts) L 0 (d .bytes)) ⊛ ‵ (rest (D .parts) L 0 vd))
+      (own-out 𝓤 H A W (D .parts) L 0 vd) $
+      -- [what bytes owns, and what size owns; what the view owns; what the numbers own; the token]
+      split ! $ move ! (1 ∷ []) $ drop ! $ move ! (2 ∷ []) $ number ! (d .size) fits $ fjoin ! $ move ! (1 ∷ 0 ∷ []) $
+      fjoin ! $ move ! (2 ∷ 0 ∷ []) $ use2 W (raw (ActionAt 𝓤 H A mem run .pre to)) asked $ frame ! $ done !)
 
-    exits : (r : Action) (u : Val) → r ≡ found
-        → ent 𝓤 (⋆ 𝓤 H A (‵ (S.the-row .own r (u ∷ [])) ∷ Token ∷ ‵ Own ∷ [])) (Post u)
-    exits r u e =
-        qed W (‵ (S.the-row .own r (u ∷ [])) ∷ Token ∷ ‵ Own ∷ []) ∵
-        suffices ! _ (ends-at 𝓤 H A action.ended stayed (action.clauses 𝓤 H A mem run) W
-        (((κ, tt), (q, tt), tt, x, at), tt) u r (tt, (tt, (tt, (tt, tt)))) (tt, (tt, (tt, (tt, tt))))) $ says ! e $
-        move ! (1 ∷ []) $ frame ! $ nothing ! $ number ! s (fit .2) $ fjoin ! $ number ! p (fit .1) $ fjoin ! $
-        number ! i (fit .0) $ fjoin ! $ move ! (2 ∷ 0 ∷ []) $ fjoin ! $ frame ! $ done !
+  exits : (r : Action) (u : Val) → r ≡ found
+      → ent 𝓤 (⋆ 𝓤 H A (‵ (S.the-row .own r (u ∷ [])) ∷ Token ∷ ‵ Own ∷ [])) (Post u)
+  exits r u e =
+      qed W (‵ (S.the-row .own r (u ∷ [])) ∷ Token ∷ ‵ Own ∷ []) ∵
+      suffices ! _ (ends-at 𝓤 H A action.ended stayed (action.clauses 𝓤 H A mem run) W
+      (((κ, tt), (q, tt), tt, x, at), tt) u r (tt, (tt, (tt, (tt, tt)))) (tt, (tt, (tt, (tt, tt))))) $ says ! e $
+      move ! (1 ∷ []) $ frame ! $ nothing ! $ number ! s (fit .2) $ fjoin ! $ number ! p (fit .1) $ fjoin ! $
+      number ! i (fit .0) $ fjoin ! $ move ! (2 ∷ 0 ∷ []) $ fjoin ! $ frame ! $ done !
 
-    module _ (C : Calls 𝓤 H) (Λ : Loops 𝓤 H) (fm : FmC 𝓤 H (W .laws) C)
-        (known : Triple 𝓤 (C #action-at) (ActionAt 𝓤 H A mem run)) where
-      walk : Holds (hasTy (T′.mir (named 0)) mach) × WT mach
-          → ent 𝓤 (onEntry 𝓤 H A action.signature (κ, tt) (q, tt) x at)
-          (WpFn 𝓤 H C Λ code.function (mach ∷ vint w64 i ∷ vint w64 p ∷ vint w64 s ∷ []) Post)
-      walk wt =
-          qed W (raw (onEntry 𝓤 H A action.signature (κ, tt) (q, tt) x at) ∷ []) ∵
-          enter ! C Λ code.function (mach ∷ vint w64 i ∷ vint w64 p ∷ vint w64 s ∷ []) _ $
-          alloc1 ! (λ l₀. alloc1 ! (λ l₁. alloc1 ! (λ l₂. alloc1 ! (λ l₃. alloc1 ! (λ l₄. alloc1 ! (λ l₅. alloc1 ! (λ l₆.
-          alloc0 ! $ params1 ! $ pass1 ! (init ! 10 refl wt) $ pass1 ! (init ! 8 refl (tt, record { fits = fit .0 })) $
-          pass1 ! (init ! 6 refl (tt, record { fits = fit .1 })) $
-          pass1 ! (init ! 4 refl (tt, record { fits = fit .2 })) $ pass0 ! $
-          sets ! (of-opd ! (load ! (from ! (fld ! refl (stop !))) (look-in ! 10 (sub ! 0 refl (whole !)))))
-          2 refl (tt, wt .1 .0) $
-          sets ! (of-opd ! (load ! (from ! (fld ! refl (stop !))) (look-in ! 10 (sub ! 1 refl (whole !)))))
-          0 refl (tt, wt .1 .1 .0) $
-          move ! (14 ∷ []) $ use1 W (raw (ActionAt 𝓤 H A mem run .pre to) ⊛ ‵ Own) (apart (wt .1 .1 .0 .fits)) $ split ! $
-          -- [what the callee asks; what the view owns; _6; …; _1; …; room for _0; …]
-          calls-at ! fm (ActionAt 𝓤 H A mem run) known to (and-then ! (holds ! 4 refl) (and-then ! (holds ! 2 refl)
-          (and-then ! (holds ! 10 refl) (and-then ! (holds ! 8 refl) (and-then ! (holds ! 6 refl) (no-more !)))))) (λ u.
-          returned ! tt action-at.ended (action-at.clauses 𝓤 H A mem run) (κ, tt) y tt Token (λ r. r ≡ found)
-          (λ r ws. id⊢ 𝓤 _) u (id⊢ 𝓤 _) (λ r e is.
-          -- [the result; the token; what the view owns; _6; …; _1; …; room for _0; …]
-          lands-in ! 15 refl (LL.lawful S.the-type S′.the-laws 𝓤 H A W .typed r _ is .0) $
-          returns ! (look ! 15 refl) $ forget ! 3 refl $ forget ! 5 refl $ forget ! 7 refl $ forget ! 9 refl $
-          forget ! 11 refl $ forget ! 13 refl $ forget ! 15 refl $
-          move ! (15 ∷ 16 ∷ 13 ∷ 14 ∷ 11 ∷ 12 ∷ 9 ∷ 10 ∷ 7 ∷ 8 ∷ 5 ∷ 6 ∷ 3 ∷ 4 ∷ []) $
-          free1 ! $ free1 ! $ free1 ! $ free1 ! $ free1 ! $ free1 ! $ free1 ! $ free0 ! $ by ! (exits r u e))))))))))
+  module _ (C : Calls 𝓤 H) (Λ : Loops 𝓤 H) (fm : FmC 𝓤 H (W .laws) C)
+      (known : Triple 𝓤 (C #action-at) (ActionAt 𝓤 H A mem run)) where
+    walk : Holds (hasTy (T′.mir (named 0)) mach) × WT mach
+        → ent 𝓤 (onEntry 𝓤 H A action.signature (κ, tt) (q, tt) x at)
+        (WpFn 𝓤 H C Λ code.function (mach ∷ vint w64 i ∷ vint w64 p ∷ vint w64 s ∷ []) Post)
+    walk wt =
+        qed W (raw (onEntry 𝓤 H A action.signature (κ, tt) (q, tt) x at) ∷ []) ∵
+        enter ! C Λ code.function (mach ∷ vint w64 i ∷ vint w64 p ∷ vint w64 s ∷ []) _ $
+        alloc1 ! (λ l₀. alloc1 ! (λ l₁. alloc1 ! (λ l₂. alloc1 ! (λ l₃. alloc1 ! (λ l₄. alloc1 ! (λ l₅. alloc1 ! (λ l₆.
+        alloc0 ! $ params1 ! $ pass1 ! (init ! 10 refl wt) $ pass1 ! (init ! 8 refl (tt, record { fits = fit .0 })) $
+        pass1 ! (init ! 6 refl (tt, record { fits = fit .1 })) $
+        pass1 ! (init ! 4 refl (tt, record { fits = fit .2 })) $ pass0 ! $
+        sets ! (of-opd ! (load ! (from ! (fld ! refl (stop !))) (look-in ! 10 (sub ! 0 refl (whole !)))))
+        2 refl (tt, wt .1 .0) $
+        sets ! (of-opd ! (load ! (from ! (fld ! refl (stop !))) (look-in ! 10 (sub ! 1 refl (whole !)))))
+        0 refl (tt, wt .1 .1 .0) $
+        move ! (14 ∷ []) $ use1 W (raw (ActionAt 𝓤 H A mem run .pre to) ⊛ ‵ Own) (apart (wt .1 .1 .0 .fits)) $ split ! $
+        -- [what the callee asks; what the view owns; _6; …; _1; …; room for _0; …]
+        calls-at ! fm (ActionAt 𝓤 H A mem run) known to (and-then ! (holds ! 4 refl) (and-then ! (holds ! 2 refl)
+        (and-then ! (holds ! 10 refl) (and-then ! (holds ! 8 refl) (and-then ! (holds ! 6 refl) (no-more !)))))) (λ u.
+        returned ! tt action-at.ended (action-at.clauses 𝓤 H A mem run) (κ, tt) y tt Token (λ r. r ≡ found)
+        (λ r ws. id⊢ 𝓤 _) u (id⊢ 𝓤 _) (λ r e is.
+        -- [the result; the token; what the view owns; _6; …; _1; …; room for _0; …]
+        lands-in ! 15 refl (LL.lawful S.the-type S′.the-laws 𝓤 H A W .typed r _ is .0) $
+        returns ! (look ! 15 refl) $ forget ! 3 refl $ forget ! 5 refl $ forget ! 7 refl $ forget ! 9 refl $
+        forget ! 11 refl $ forget ! 13 refl $ forget ! 15 refl $
+        move ! (15 ∷ 16 ∷ 13 ∷ 14 ∷ 11 ∷ 12 ∷ 9 ∷ 10 ∷ 7 ∷ 8 ∷ 5 ∷ 6 ∷ 3 ∷ 4 ∷ []) $
+        free1 ! $ free1 ! $ free1 ! $ free1 ! $ free1 ! $ free1 ! $ free1 ! $ free0 ! $ by ! (exits r u e))))))))))
 
 action-meets : {M : Type 1} (𝓤 : URA M) (H : Heap 𝓤) (A : Atoms 𝓤) (W : Given 𝓤 H A) (mem : Memory → SProp 𝓤)
     (run : Routine → Fun 𝓤) (𝓣 : Tables 𝓤 H) → Triple 𝓤 (𝓣 .C #action-at) (ActionAt 𝓤 H A mem run)
