@@ -2,7 +2,7 @@
 ghost use mathlib.Core.Path.{_≡_};
 ghost use mathlib.Core.List.{map};
 ghost use Prim.Native.Nat.{_/_, _≤_};
-ghost use lib.ListN.{length, replicate};
+ghost use lib.ListN.{length};
 ghost use Rattle.lists.specs.Lists.{filled};
 ghost use Rattle.encoding.specs.Bytes.{split};
 ghost use Rattle.job.specs.Job.{unusedAction, actionValue, jobValue};
@@ -15,14 +15,6 @@ use job::Counts;
 use job::Job;
 use jobfile::Layout;
 
-// No actions: every place unused.
-fn no_actions() -> [Action; Job::ACTIONS]
-    ensures { λ r. ⌜ r ≡ replicate 64 unusedAction ⌝ }
-{
-    let unused = Action::unused();
-    [unused; Job::ACTIONS]
-}
-
 // All actions of a job with so many pools and stores.
 fn actions(bytes: &[u8], pools: usize, stores: usize) -> [Action; Job::ACTIONS]
     requires { ⌜ (pools ≤ 4) × (stores ≤ 4) × (length (now bytes) / actionSize pools stores ≤ 64) ⌝ }
@@ -31,7 +23,8 @@ fn actions(bytes: &[u8], pools: usize, stores: usize) -> [Action; Job::ACTIONS]
 {
     let view = ActionsView::over(bytes, Layout::action_size(pools, stores));
     let count = view.count();
-    let mut out = no_actions();
+    let unused = Action::unused();
+    let mut out = [unused; Job::ACTIONS];
     let mut i = 0;
     while i < count {
         out[i] = view.action(i, pools, stores);

@@ -22,21 +22,22 @@ use contract.Monad.{Fun}
 use contract.Running.{givenOf, tables, tablesOf}
 use types.Kit.{Given, ‵, raw, ⋆, _$_, _∵_, !, qed, by, move, keep, drop, use0, use1, use2, join}
 use types.Kit.{rewrite, fsplit, fjoin, fpack, feqL, frame, done}
+use types.Part.{rep}
 use types.Share.{arr-parts}
 use types.Run.{init, forget, lit, of-opd, and-then, no-more}
 use types.Run.{enter, alloc1, alloc0, params1, pass1, pass0}
 use sound.WpLaws.{FmC, fmOf, WpFn-mono}
 use denote.RattleType.{owns}
-use denote.Laws.{Is}
+use denote.Laws.{Is, shows}
 use denote.Memory.{cellAt, shares, partOf}
 use denote.Plain.{uint-vals, uint-tells, uint-makes, uint-lawful}
 use denote.Builtin.{u8, usize}
-use denote.Array.{array-typed}
+use denote.Array.{arrayVal, array-typed, array-repeat}
 use denote.ArrayMemory.{array-apart}
 use denote.Ref.{now}
 use denote.Signature.{plain}
 use denote.Slice.{slice-vals, shr-slice-tells, shr-slice-lawful}
-use denote.Steps.{only, owned, nothing}
+use denote.Steps.{only, owned, peeks, nothing}
 use denote.Struct.Laws as LL
 use denote.Triple.Call.{calls-at}
 use denote.Triple.Entry.{onEntry}
@@ -48,6 +49,10 @@ use denote.Exit.{yes}
 use Rattle.job.specs.Job.{unusedAction}
 use Rattle.job.proofs.Action as S
 use Rattle.job.proofs.Action.Laws as S′
+use Rattle.job.proofs.Action.unused as unused
+use Rattle.job.proofs.Action.unused.Symbol as unused-def
+use Rattle.job.proofs.Action.unused.Symbol.{name as #unused}
+use Rattle.job.proofs.Action.unused.Met as unused-thm
 use Rattle.jobfile.specs.File.{actionSize}
 use Rattle.jobfile.proofs.Layout.action_size as size
 use Rattle.jobfile.proofs.Layout.action_size.Symbol as size-def
@@ -66,17 +71,13 @@ use Rattle.reader.proofs.view.ActionsView.count.Met as count-thm
 use Rattle.reader.proofs.view.ActionsView.action.Symbol as action-def
 use Rattle.reader.proofs.view.ActionsView.action.Symbol.{name as #action}
 use Rattle.reader.proofs.view.ActionsView.action.Met as action-thm
-use Rattle.reader.proofs.decode.no_actions as none
-use Rattle.reader.proofs.decode.no_actions.Symbol as none-def
-use Rattle.reader.proofs.decode.no_actions.Symbol.{name as #no-actions}
-use Rattle.reader.proofs.decode.no_actions.Met as none-thm
 use Rattle.reader.proofs.decode.actions.Key.{name as #actions}
 use Rattle.reader.proofs.decode.actions as actions
 use Rattle.reader.proofs.decode.actions.Statement as stated
 use Rattle.reader.proofs.decode.actions.Code as code
 use Rattle.reader.proofs.decode.actions.Proof.Start.{Setting, Viewed, Known, small-counts, sized-positive}
 use Rattle.reader.proofs.decode.actions.Proof.Start.{word, arr, function, R, Rs, stayed, Size, Over}
-use Rattle.reader.proofs.decode.actions.Proof.Start.{Count, None, Act, x, at, Post, Own, Token, Held, counted}
+use Rattle.reader.proofs.decode.actions.Proof.Start.{Count, Unused, Act, x, at, Post, Own, Token, Held, counted}
 use Rattle.reader.proofs.decode.actions.Proof.Loop.{loops}
 
 module _ {M : Type 1} {𝓤 : URA M} {H : Heap 𝓤} {A : Atoms 𝓤} (σ : Setting 𝓤 H A) where
@@ -101,8 +102,8 @@ module _ {M : Type 1} {𝓤 : URA M} {H : Heap 𝓤} {A : Atoms 𝓤} (σ : Sett
       qed W (Token σ ∷ ‵ (Own σ) ∷ []) ∵ nothing ! $ owned ! usize (Is usize) (uint-makes 𝓤 H A W w64) m (w ∷ []) is $
       fjoin ! $ move ! (2 ∷ 0 ∷ []) $ fjoin ! $ move ! (1 ∷ 0 ∷ []) $ join ! $ frame ! $ done !
 
-  goes-blank : ent 𝓤 (emp 𝓤) (None 𝓤 H A mem run .pre ((tt, tt, tt, tt, tt), tt))
-  goes-blank = qed W [] ∵ nothing ! $ nothing ! $ join ! $ frame ! $ done !
+  goes-unused : ent 𝓤 (emp 𝓤) (Unused 𝓤 H A mem run .pre ((tt, tt, tt, tt, tt), tt))
+  goes-unused = qed W [] ∵ nothing ! $ nothing ! $ join ! $ frame ! $ done !
 
   abbrev to-count : Viewed σ → Count 𝓤 H A mem run .Ghost
   to-count ν = (((κ, tt), (q, tt), tt, (ν .r, tt), (ν .u ∷ [], tt)), tt)
@@ -136,47 +137,54 @@ module _ {M : Type 1} {𝓤 : URA M} {H : Heap 𝓤} {A : Atoms 𝓤} (σ : Sett
         (and-then ! (holds ! 29 refl) (and-then ! (holds ! 27 refl) (no-more !))) (λ w.
         returned ! tt size.ended (size.clauses 𝓤 H A mem run) tt (p, (s, tt)) tt (‵ ftrue) (λ m. m ≡ actionSize p s)
         (λ m ws. id⊢ 𝓤 _) w (id⊢ 𝓤 _) (λ m sized is. drop ! $ drop ! $
-        lands-in ! 16 refl (uint-lawful 𝓤 H A W w64 .typed m _ is .0) $
+        lands-in ! 14 refl (uint-lawful 𝓤 H A W w64 .typed m _ is .0) $
         move ! (35 ∷ []) $ fsplit ! $ move ! (1 ∷ []) $ drop ! $ bytes-copied ! κ b $ move ! (36 ∷ []) $
         use2 W (raw (Over 𝓤 H A mem run .pre (to-over m w))) (goes-over m w is) $
         -- [what the callee asks; what bytes owns; _16; …]
         calls-at ! fm (Over 𝓤 H A mem run) (known .1) (to-over m w)
-        (and-then ! (holds ! 32 refl) (and-then ! (holds ! 18 refl) (no-more !))) (λ u.
+        (and-then ! (holds ! 32 refl) (and-then ! (holds ! 16 refl) (no-more !))) (λ u.
         returned ! tt over.ended (over.clauses 𝓤 H A mem run) (κ, tt) (b, (m, tt)) tt (Token σ)
         (λ r. (r .bytes ≡ b) × (r .size ≡ m)) (λ r ws. id⊢ 𝓤 _) u (id⊢ 𝓤 _) (λ r made is-view.
         let ν : Viewed σ = record { r = r; u = u; same = made .0; sized = made .1 ∙ sized; is-view = is-view } in
         -- [what the view owns; the token; what bytes owns; _16; …]
         lands-in ! 27 refl (view-typed 𝓤 H A W κ erased r u is-view) $
-        sets ! (of-opd ! (holds ! 27 refl)) 17 refl (view-typed 𝓤 H A W κ erased r u is-view) $
+        sets ! (of-opd ! (holds ! 27 refl)) 15 refl (view-typed 𝓤 H A W κ erased r u is-view) $
         view-copied ! κ r u $ move ! (2 ∷ []) $
         use2 W (raw (Count 𝓤 H A mem run .pre (to-count ν))) (goes-count ν) $
         -- [what the callee asks; what the view owns; what bytes owns; _16; …]
-        calls-at ! fm (Count 𝓤 H A mem run) (known .2) (to-count ν) (and-then ! (holds ! 17 refl) (no-more !)) (λ w′.
+        calls-at ! fm (Count 𝓤 H A mem run) (known .2) (to-count ν) (and-then ! (holds ! 15 refl) (no-more !)) (λ w′.
         returned ! tt count.ended (count.clauses 𝓤 H A mem run) (κ, tt) (r, tt) tt (Token σ)
         (λ k. k ≡ length (now (r .bytes)) / r .size) (λ k ws. id⊢ 𝓤 _) w′ (id⊢ 𝓤 _) (λ k e is′. drop ! $
         lands-in ! 25 refl (uint-lawful 𝓤 H A W w64 .typed k _ is′ .0) $
         rewrite ! 25 (λ (z : Val). ‵ (fat fullShare word l₅ 0 z))
         (ap only (is′ .0) ∙ ap (vint w64) (e ∙ counted σ ν)) refl $
         -- [the token; what the view owns; what bytes owns; _16; …]
-        use0 W (raw (None 𝓤 H A mem run .pre ((tt, tt, tt, tt, tt), tt))) goes-blank $
-        calls-at ! fm (None 𝓤 H A mem run) (known .3) ((tt, tt, tt, tt, tt), tt) (no-more !) (λ g.
-        returned ! tt none.ended (none.clauses 𝓤 H A mem run) tt tt tt (‵ ftrue) (λ xs. xs ≡ replicate 64 unusedAction)
-        (λ xs ws. id⊢ 𝓤 _) g (id⊢ 𝓤 _) (λ xs blank is-xs. move ! (1 ∷ []) $ drop ! $
-        let typed = array-typed R (LL.lawful S.the-type S′.the-laws 𝓤 H A W .typed) 64 xs _ is-xs .0 in
-        -- [what the array owns; the token; what the view owns; what bytes owns; _16; …]
-        lands-in ! 16 refl typed $ sets ! (of-opd ! (holds ! 16 refl)) 24 refl typed $
-        sets ! (of-opd ! (lit ! tt)) 22 refl (tt, record { fits = lit< tt }) $
-        forget ! 16 refl $ forget ! 18 refl $ forget ! 20 refl $
+        use0 W (raw (Unused 𝓤 H A mem run .pre ((tt, tt, tt, tt, tt), tt))) goes-unused $
+        calls-at ! fm (Unused 𝓤 H A mem run) (known .3) ((tt, tt, tt, tt, tt), tt) (no-more !) (λ g.
+        returned ! tt unused.ended (unused.clauses 𝓤 H A mem run) tt tt tt (‵ ftrue) (λ a. a ≡ unusedAction)
+        (λ a ws. id⊢ 𝓤 _) g (id⊢ 𝓤 _) (λ a none is-unused. move ! (1 ∷ []) $ drop ! $
+        -- [what the action owns; the token; what the view owns; what bytes owns; _16; …]
+        lands-in ! 24 refl (LL.lawful S.the-type S′.the-laws 𝓤 H A W .typed a _ is-unused .0) $
+        use1 W (‵ (Rs .own (replicate 64 a) (arrayVal (replicate 64 g) ∷ [])))
+        (array-repeat 𝓤 H A W R (LL.copy S.the-type S′.the-copy 𝓤 H A W) 64 a g) $
+        peeks ! Rs (Is Rs) (shows 𝓤 H A Rs) (replicate 64 a) (arrayVal (replicate 64 g) ∷ []) (λ is-array.
+        sets ! (rep ! 64 (holds ! 24 refl)) 22 refl
+        (array-typed R (LL.lawful S.the-type S′.the-laws 𝓤 H A W .typed) 64 (replicate 64 a) _ is-array .0) $
+        sets ! (of-opd ! (lit ! tt)) 20 refl (tt, record { fits = lit< tt }) $
+        forget ! 16 refl $ forget ! 18 refl $ forget ! 24 refl $
         -- the slot's one value, with what it owns, is an array in memory: it is taken apart into its elements
-        move ! (24 ∷ 0 ∷ []) $
-        use1 W (‵ (cellAt fullShare (Rs .mir) (g ∷ []) l₆ 0)) (W .laws .at-raw fullShare arr l₆ 0 g) $ fjoin ! $
-        fpack ! (List Val) (λ vs. fsep (cellAt fullShare (Rs .mir) vs l₆ 0) (Rs .own xs vs)) (g ∷ []) $
-        use1 W (‵ (arr-parts (shares R) 64 .part fullShare xs l₆ 0)) (array-apart 𝓤 H A W R fullShare tt 64 xs l₆ 0) $
+        move ! (22 ∷ 0 ∷ []) $
+        use1 W (‵ (cellAt fullShare (Rs .mir) (arrayVal (replicate 64 g) ∷ []) l₇ 0))
+        (W .laws .at-raw fullShare arr l₇ 0 (arrayVal (replicate 64 g))) $ fjoin ! $
+        fpack ! (List Val) (λ vs. fsep (cellAt fullShare (Rs .mir) vs l₇ 0) (Rs .own (replicate 64 a) vs))
+        (arrayVal (replicate 64 g) ∷ []) $
+        use1 W (‵ (arr-parts (shares R) 64 .part fullShare (replicate 64 a) l₇ 0))
+        (array-apart 𝓤 H A W R fullShare tt 64 (replicate 64 a) l₇ 0) $
         fsplit ! $ feqL ! (λ full.
-        keep ! (0 ∷ 1 ∷ 2 ∷ 3 ∷ 22 ∷ 14 ∷ 12 ∷ 10 ∷ 8 ∷ 6 ∷ 4 ∷ 33 ∷ 31 ∷ 29 ∷ 27 ∷ 25 ∷ 35 ∷ 20 ∷ 18 ∷ 16 ∷ 36 ∷ 34
-        ∷ 32 ∷ 30 ∷ 28 ∷ 26 ∷ 24 ∷ 23 ∷ 21 ∷ 19 ∷ 17 ∷ 15 ∷ 13 ∷ 11 ∷ 9 ∷ 7 ∷ 5 ∷ []) $
+        keep ! (0 ∷ 1 ∷ 2 ∷ 3 ∷ 20 ∷ 14 ∷ 12 ∷ 10 ∷ 8 ∷ 6 ∷ 4 ∷ 33 ∷ 31 ∷ 29 ∷ 27 ∷ 25 ∷ 35 ∷ 18 ∷ 16 ∷ 23 ∷ 36 ∷ 34
+        ∷ 32 ∷ 30 ∷ 28 ∷ 26 ∷ 24 ∷ 22 ∷ 21 ∷ 19 ∷ 17 ∷ 15 ∷ 13 ∷ 11 ∷ 9 ∷ 7 ∷ 5 ∷ []) $
         by ! (loops σ ν 𝓣 known l₀ l₁ l₂ l₃ l₄ l₅ l₆ l₇ l₈ l₉ l₁₀ l₁₁ l₁₂ l₁₃ l₁₄ l₁₅ l₁₆
-        xs full blank)))))))))))))))))))))))))))
+        (replicate 64 a) full (ap (replicate 64) none)))))))))))))))))))))))))))))
 
 actions-meets : {M : Type 1} (𝓤 : URA M) (H : Heap 𝓤) (A : Atoms 𝓤) (W : Given 𝓤 H A) (mem : Memory → SProp 𝓤)
     (run : Routine → Fun 𝓤) (𝓣 : Tables 𝓤 H) → Known 𝓤 H A mem run (𝓣 .C)
@@ -218,8 +226,8 @@ actions-spec 𝓤 H 𝓜 𝓖 𝓡 =
           code.calls-reader·view·ActionsView·over (over-thm.met 𝓤 H 𝓜 𝓖 𝓡),
       cited 𝓤 H (Count 𝓤 H (𝓖 .A) (𝓜 .mem) (𝓡 .run)) 𝓜 𝓡 code.env #count count-def.routine
           code.calls-reader·view·ActionsView·count (count-thm.met 𝓤 H 𝓜 𝓖 𝓡),
-      cited 𝓤 H (None 𝓤 H (𝓖 .A) (𝓜 .mem) (𝓡 .run)) 𝓜 𝓡 code.env #no-actions none-def.routine
-          code.calls-reader·decode·no-actions (none-thm.met 𝓤 H 𝓜 𝓖 𝓡),
+      cited 𝓤 H (Unused 𝓤 H (𝓖 .A) (𝓜 .mem) (𝓡 .run)) 𝓜 𝓡 code.env #unused unused-def.routine
+          code.calls-job·Action·unused (unused-thm.met 𝓤 H 𝓜 𝓖 𝓡),
       cited 𝓤 H (Act 𝓤 H (𝓖 .A) (𝓜 .mem) (𝓡 .run)) 𝓜 𝓡 code.env #action action-def.routine
           code.calls-reader·view·ActionsView·action (action-thm.met 𝓤 H 𝓜 𝓖 𝓡),
     ))

@@ -80,8 +80,8 @@ module _ {M : Type 1} {𝓤 : URA M} {H : Heap 𝓤} {A : Atoms 𝓤} (σ : Sett
     Λ = 𝓣 .Λ
 
     abbrev En : Env 𝓤 H
-    En = (arr, l₀) ∷ (slice, l₁) ∷ (word, l₂) ∷ (word, l₃) ∷ (view, l₄) ∷ (word, l₅) ∷ (arr, l₆) ∷ (word, l₇)
-        ∷ (word, l₈) ∷ (view, l₉) ∷ (arr, l₁₀) ∷ (tyBool, l₁₁) ∷ (act, l₁₂) ∷ (view, l₁₃) ∷ (word, l₁₄)
+    En = (arr, l₀) ∷ (slice, l₁) ∷ (word, l₂) ∷ (word, l₃) ∷ (view, l₄) ∷ (word, l₅) ∷ (act, l₆) ∷ (arr, l₇)
+        ∷ (word, l₈) ∷ (word, l₉) ∷ (view, l₁₀) ∷ (tyBool, l₁₁) ∷ (act, l₁₂) ∷ (view, l₁₃) ∷ (word, l₁₄)
         ∷ (tyPtr, l₁₅) ∷ (tyPtr, l₁₆) ∷ []
 
     -- what no turn touches
@@ -89,16 +89,16 @@ module _ {M : Type 1} {𝓤 : URA M} {H : Heap 𝓤} {A : Atoms 𝓤} (σ : Sett
     Frame = ‵ (fat fullShare slice l₁ 0 (bytesVal b)) ∷ ‵ (fat fullShare word l₂ 0 (vint w64 p))
         ∷ ‵ (fat fullShare word l₃ 0 (vint w64 s)) ∷ ‵ (fat fullShare view l₄ 0 (ν .u))
         ∷ ‵ (fat fullShare word l₅ 0 (vint w64 (n σ)))
-        ∷ ‵ (froom arr l₀ 0) ∷ ‵ (froom word l₈ 0) ∷ ‵ (froom view l₉ 0) ∷ ‵ (froom arr l₁₀ 0)
+        ∷ ‵ (froom arr l₀ 0) ∷ ‵ (froom word l₉ 0) ∷ ‵ (froom view l₁₀ 0) ∷ ‵ (froom act l₆ 0)
         ∷ ‵ (fdies arr l₀) ∷ ‵ (fdies slice l₁) ∷ ‵ (fdies word l₂) ∷ ‵ (fdies word l₃) ∷ ‵ (fdies view l₄)
-        ∷ ‵ (fdies word l₅) ∷ ‵ (fdies arr l₆) ∷ ‵ (fdies word l₇) ∷ ‵ (fdies word l₈) ∷ ‵ (fdies view l₉)
-        ∷ ‵ (fdies arr l₁₀) ∷ ‵ (fdies tyBool l₁₁) ∷ ‵ (fdies act l₁₂) ∷ ‵ (fdies view l₁₃) ∷ ‵ (fdies word l₁₄)
+        ∷ ‵ (fdies word l₅) ∷ ‵ (fdies act l₆) ∷ ‵ (fdies arr l₇) ∷ ‵ (fdies word l₈) ∷ ‵ (fdies word l₉)
+        ∷ ‵ (fdies view l₁₀) ∷ ‵ (fdies tyBool l₁₁) ∷ ‵ (fdies act l₁₂) ∷ ‵ (fdies view l₁₃) ∷ ‵ (fdies word l₁₄)
         ∷ ‵ (fdies tyPtr l₁₅) ∷ ‵ (fdies tyPtr l₁₆) ∷ []
 
     -- the array is xs, and i actions are read
     abbrev At : ℕ → List Action → List (Item 𝓤)
-    At i xs = ‵ (row R fullShare xs l₆ 0) ∷ Token σ ∷ ‵ (Held σ ν) ∷ ‵ (Own σ)
-        ∷ ‵ (fat fullShare word l₇ 0 (vint w64 i)) ∷ ‵ (froom tyBool l₁₁ 0) ∷ ‵ (froom act l₁₂ 0)
+    At i xs = ‵ (row R fullShare xs l₇ 0) ∷ Token σ ∷ ‵ (Held σ ν) ∷ ‵ (Own σ)
+        ∷ ‵ (fat fullShare word l₈ 0 (vint w64 i)) ∷ ‵ (froom tyBool l₁₁ 0) ∷ ‵ (froom act l₁₂ 0)
         ∷ ‵ (froom view l₁₃ 0) ∷ ‵ (froom word l₁₄ 0) ∷ ‵ (froom tyPtr l₁₅ 0) ∷ ‵ (froom tyPtr l₁₆ 0) ∷ Frame
 
     -- when the loop is left, the rest of the body runs
@@ -136,16 +136,16 @@ module _ {M : Type 1} {𝓤 : URA M} {H : Heap 𝓤} {A : Atoms 𝓤} (σ : Sett
         (tt, record { fits = place-fits }) $
         sets ! (addr ! (from ! (stop !))) 10 refl (tt, tt) $
         sets ! (bin ! (holds ! 10 refl) (holds ! 9 refl) tt) 11 refl (tt, tt) $
-        rewrite ! 11 (λ (o : ℕ). ‵ (fat fullShare tyPtr l₁₆ 0 (vptr l₆ o))) (sym (place-is 64 0 i)) refl $
+        rewrite ! 11 (λ (o : ℕ). ‵ (fat fullShare tyPtr l₁₆ 0 (vptr l₇ o))) (sym (place-is 64 0 i)) refl $
         -- element i is taken out of the array, stored to, and put back
         move ! (3 ∷ []) $ elem-out ! R (Is R) (shows 𝓤 H A R) vals (LL.tells S.the-type S′.the-laws) fullShare xs i
-        unusedAction l₆ 0 room-left (λ was.
-        use1 W (‵ (fat fullShare act l₆ (place 64 0 i) old)) (W .laws .raw-at fullShare act l₆ (place 64 0 i) old) $
+        unusedAction l₇ 0 room-left (λ was.
+        use1 W (‵ (fat fullShare act l₇ (place 64 0 i) old)) (W .laws .raw-at fullShare act l₇ (place 64 0 i) old) $
         move ! (1 ∷ []) $ drop ! $
         assigns ! (of-opd ! (holds ! 8 refl)) (from ! (hop ! (look ! 12 refl) (stop !))) (store ! 0 refl typed) $
-        use1 W (‵ (cellAt fullShare (R .mir) (z ∷ []) l₆ (place 64 0 i)))
-        (W .laws .at-raw fullShare act l₆ (place 64 0 i) z) $
-        move ! (0 ∷ 2 ∷ 1 ∷ []) $ elem-put ! R fullShare xs i a (z ∷ []) l₆ 0 room-left $
+        use1 W (‵ (cellAt fullShare (R .mir) (z ∷ []) l₇ (place 64 0 i)))
+        (W .laws .at-raw fullShare act l₇ (place 64 0 i) z) $
+        move ! (0 ∷ 2 ∷ 1 ∷ []) $ elem-put ! R fullShare xs i a (z ∷ []) l₇ 0 room-left $
         assigns-last ! (bin ! (holds ! 4 refl) (lit ! tt) (record { fits = next-fits })) (from ! (stop !))
         (store ! 4 refl (tt, record { fits = next-fits })) $
         forget ! 5 refl $ forget ! 6 refl $ forget ! 7 refl $ forget ! 8 refl $ forget ! 9 refl $ forget ! 10 refl $
@@ -173,19 +173,19 @@ module _ {M : Type 1} {𝓤 : URA M} {H : Heap 𝓤} {A : Atoms 𝓤} (σ : Sett
         rewrite ! 5 (λ (t : Bool). ‵ (fat fullShare tyBool l₁₁ 0 (vbool t))) (le-ltb i (n σ) large) refl $
         leaves-loop ! (holds ! 5 refl) $ exec ! C Λ En pieces.t-9 (atRet En (Post σ)) $
         feqI ! ℕ (length xs) 64 full $ fjoin ! $
-        use1 W (‵ (partAt Rs fullShare xs l₆ 0)) (array-whole 𝓤 H A W R fullShare 64 xs l₆ 0) $
+        use1 W (‵ (partAt Rs fullShare xs l₇ 0)) (array-whole 𝓤 H A W R fullShare 64 xs l₇ 0) $
         fpick ! (λ ws. fsplit ! $ spelt ! Rs (Is Rs) (shows 𝓤 H A Rs) (array-vals vals)
-        (array-tells R vals (LL.tells S.the-type S′.the-laws) 64) fullShare xs ws l₆ 0 $
-        use1 W (‵ (fat fullShare arr l₆ 0 all)) (W .laws .raw-at fullShare arr l₆ 0 all) $
+        (array-tells R vals (LL.tells S.the-type S′.the-laws) 64) fullShare xs ws l₇ 0 $
+        use1 W (‵ (fat fullShare arr l₇ 0 all)) (W .laws .raw-at fullShare arr l₇ 0 all) $
         move ! (1 ∷ []) $ peeks ! Rs (Is Rs) (shows 𝓤 H A Rs) xs (all ∷ []) (λ is. move ! (1 ∷ 0 ∷ []) $
-        -- [_6; what the array owns; the token; what the view owns; what bytes owns; i; _11 to _16; _1 to _5;
-        -- room for _0, _8, _9 and _10; and that each local dies]
+        -- [_7; what the array owns; the token; what the view owns; what bytes owns; i; _11 to _16; _1 to _5;
+        -- room for _0, _9, _10 and _6; and that each local dies]
         sets ! (of-opd ! (holds ! 0 refl)) 17 refl
         (array-typed R (LL.lawful S.the-type S′.the-laws 𝓤 H A W .typed) 64 xs _ is .0) $
         returns ! (look ! 17 refl) $ forget ! 0 refl $ forget ! 5 refl $ forget ! 6 refl $ forget ! 12 refl $
         forget ! 13 refl $ forget ! 14 refl $ forget ! 15 refl $ forget ! 16 refl $ forget ! 17 refl $
-        move ! (17 ∷ 21 ∷ 12 ∷ 22 ∷ 13 ∷ 23 ∷ 14 ∷ 24 ∷ 15 ∷ 25 ∷ 16 ∷ 26 ∷ 0 ∷ 27 ∷ 5 ∷ 28 ∷ 18 ∷ 29 ∷ 19 ∷ 30
-        ∷ 20 ∷ 31 ∷ 6 ∷ 32 ∷ 7 ∷ 33 ∷ 8 ∷ 34 ∷ 9 ∷ 35 ∷ 10 ∷ 36 ∷ 11 ∷ 37 ∷ []) $
+        move ! (17 ∷ 21 ∷ 12 ∷ 22 ∷ 13 ∷ 23 ∷ 14 ∷ 24 ∷ 15 ∷ 25 ∷ 16 ∷ 26 ∷ 20 ∷ 27 ∷ 0 ∷ 28 ∷ 5 ∷ 29 ∷ 18 ∷ 30
+        ∷ 19 ∷ 31 ∷ 6 ∷ 32 ∷ 7 ∷ 33 ∷ 8 ∷ 34 ∷ 9 ∷ 35 ∷ 10 ∷ 36 ∷ 11 ∷ 37 ∷ []) $
         free1 ! $ free1 ! $ free1 ! $ free1 ! $ free1 ! $ free1 ! $ free1 ! $ free1 ! $ free1 ! $ free1 ! $ free1 ! $
         free1 ! $ free1 ! $ free1 ! $ free1 ! $ free1 ! $ free1 ! $ free0 ! $
         keep ! (0 ∷ 1 ∷ 3 ∷ []) $ by ! (exits σ xs all e)))

@@ -39,6 +39,8 @@ use Rattle.job.specs.declared.Action.{Action}
 use Rattle.job.specs.Job.{unusedAction, actionValue}
 use Rattle.job.proofs.Action as S
 use Rattle.job.proofs.Action.Laws as S′
+use Rattle.job.proofs.Action.unused as unused
+use Rattle.job.proofs.Action.unused.Symbol.{name as #unused}
 use Rattle.jobfile.specs.File.{actionSize}
 use Rattle.jobfile.proofs.Layout.action_size as size
 use Rattle.jobfile.proofs.Layout.action_size.Symbol.{name as #action-size}
@@ -52,8 +54,6 @@ use Rattle.reader.proofs.view.ActionsView.count as count
 use Rattle.reader.proofs.view.ActionsView.count.Symbol.{name as #count}
 use Rattle.reader.proofs.view.ActionsView.action as action
 use Rattle.reader.proofs.view.ActionsView.action.Symbol.{name as #action}
-use Rattle.reader.proofs.decode.no_actions as none
-use Rattle.reader.proofs.decode.no_actions.Symbol.{name as #no-actions}
 use Rattle.reader.proofs.decode.actions as actions
 use Rattle.reader.proofs.decode.actions.Code.Mir as pieces
 
@@ -99,8 +99,8 @@ function = record {
   outlives = [];
   params = 3;
   locals = local arr valueLocal ∷ local slice valueLocal ∷ local word valueLocal ∷ local word valueLocal
-      ∷ local view valueLocal ∷ local word valueLocal ∷ local arr memorySlot ∷ local word valueLocal
-      ∷ local word valueLocal ∷ local view valueLocal ∷ local arr valueLocal ∷ local tyBool valueLocal
+      ∷ local view valueLocal ∷ local word valueLocal ∷ local act valueLocal ∷ local arr memorySlot
+      ∷ local word valueLocal ∷ local word valueLocal ∷ local view valueLocal ∷ local tyBool valueLocal
       ∷ local act valueLocal ∷ local view valueLocal ∷ local word valueLocal ∷ local tyPtr valueLocal
       ∷ local tyPtr valueLocal ∷ [];
   body = pieces.t-1;
@@ -131,8 +131,8 @@ module _ {M : Type 1} (𝓤 : URA M) (H : Heap 𝓤) (A : Atoms 𝓤) (mem : Mem
   abbrev pub Count : Contract 𝓤
   Count = tripleOf 𝓤 H A count.signature (count.spec 𝓤 H A mem run)
 
-  abbrev pub None : Contract 𝓤
-  None = tripleOf 𝓤 H A none.signature (none.spec 𝓤 H A mem run)
+  abbrev pub Unused : Contract 𝓤
+  Unused = tripleOf 𝓤 H A unused.signature (unused.spec 𝓤 H A mem run)
 
   abbrev pub Act : Contract 𝓤
   Act = tripleOf 𝓤 H A action.signature (action.spec 𝓤 H A mem run)
@@ -141,7 +141,7 @@ module _ {M : Type 1} (𝓤 : URA M) (H : Heap 𝓤) (A : Atoms 𝓤) (mem : Mem
   abbrev pub Known : Calls 𝓤 H → Type 1
   Known C =
       Triple 𝓤 (C #action-size) Size × Triple 𝓤 (C #over) Over × Triple 𝓤 (C #count) Count
-      × Triple 𝓤 (C #no-actions) None × Triple 𝓤 (C #action) Act
+      × Triple 𝓤 (C #unused) Unused × Triple 𝓤 (C #action) Act
 
 -- what the walk is over: the rules of the logic; the lifetime and a share of its token; the bytes, the number of pools
 -- and of stores that are passed; and what is known of them
