@@ -1,7 +1,7 @@
 -- Dead ends within a minute t: for one action after the other it is decided whether a step of it stops then.
 -- Assumes nothing.
 use Prim.Native.Nat.{ℕ, suc, _+_, _-_, _<_, _≤_}
-use mathlib.Core.Path.{_≡_, sym, ap, ap₂, _∙_}
+use mathlib.Core.Path.{_≡_, refl, sym, ap, ap₂, _∙_}
 use mathlib.Core.Bool.{Bool, true, false, _&&_, _||_}
 use mathlib.Core.Logic.{inl, inr, ⊎-elim}
 use mathlib.Core.List.{List, _∷_, _++_}
@@ -110,22 +110,44 @@ module _ (J : Job) (b goal T t : ℕ) where
       dead-weaker J b goal T (Open b t done) (Open b t known) L
       (λ x o. (o .0, o .1, ⊎-elim (λ l. inl l) (λ at. inr (at .0, f (x .number) (at .1))) (o .2)))
 
-  -- in the order of their numbers: those below i are decided
-  pub dead-next : (i : ℕ) (L : List Step)
-      → (b + actionOf J i .duration ≤ t → Dead J b goal T (Open b t (λ a. ltb a (i + 1))) (stepStopping J i t ∷ L))
-      → Dead J b goal T (Open b t (λ a. ltb a (i + 1))) L → Dead J b goal T (Open b t (λ a. ltb a i)) L
-  dead-next i L with without =
-      dead-choose (λ a. ltb a i) i L (λ l. below-next (stepStopping J i t ∷ L) (with l)) (below-next L without)
+  -- more are decided: those of which no step stops at t in any plan
+  pub dead-when-barred : (done more : ℕ → Bool) (L : List Step)
+      → ((a : ℕ) → a < length (J .actions) → done a ≡ false → more a ≡ true → b + actionOf J a .duration ≤ t
+      → Dead J b goal T (Until b t) (stepStopping J a t ∷ L))
+      → Dead J b goal T (Open b t more) L → Dead J b goal T (Open b t done) L
+  dead-when-barred done more L barred dead E h p =
+      dead E
+      (λ x R j.
+      let o = h x R j in (
+        o .0,
+        o .1,
+        ⊎-elim (λ l. inl l)
+            (λ at.
+            ⊎-elim
+            (λ e.
+            let inPlan = place-append L j in
+            let is = own-is-stopping J x (x .number) t (p .plan .own x (R ++ L) inPlan) refl (at .0) in
+            let new = o .0 in
+            let duration = is .1 in
+            let q : NormalPlan J b goal T (R ++ (x ∷ L)) = normal-plan-permuted J b goal T (taken L j) p in
+            absurd
+            (barred (x .number) (p .plan .known x (R ++ L) inPlan) (at .1) e (omega arith) R
+            (λ y Q k.
+            let w = place-wider j k in
+            open-until y (h y (w .0) (w .1)))
+            (ap-normal R (is .0) q)))
+            (λ e. inr (at .0, e))
+            (decided (more (x .number))))
+            (o .2),
+      ))
+      p
     where
-      below-next : (L : List Step) → Dead J b goal T (Open b t (λ a. ltb a (i + 1))) L
-          → Dead J b goal T (Open b t (alsoDecided (λ a. ltb a i) i)) L
-      below-next L =
-          dead-decided (λ a. ltb a (i + 1)) (alsoDecided (λ a. ltb a i) i) L
-          (λ a e.
-          let other = eqb-false a i (or-left (eqb a i) _ e) in
-          let above = ltb-false a i (or-right (eqb a i) _ e) in
-          let l : i + 1 ≤ a = ⊎-elim (λ q. absurd (other (sym q))) (λ q. omega arith) (eq-or-lt-of-le above) in
-          le-ltb a (i + 1) l)
+      open-until : (y : Step) → Open b t done y → Until b t y
+      open-until y o = (o .0, o .1, ⊎-elim (λ l. omega arith) (λ at. let e = at .0 in omega arith) (o .2))
+
+      ap-normal : {x y : Step} (R : List Step) → x ≡ y → NormalPlan J b goal T (R ++ (x ∷ L))
+          → NormalPlan J b goal T (R ++ (y ∷ L))
+      ap-normal R e q = rw e at q
 
   -- nothing found with any step that stops by t
   pub dead-open : (done : ℕ → Bool) (L : List Step) → Dead J b goal T (Until b t) L → Dead J b goal T (Open b t done) L
@@ -134,11 +156,15 @@ module _ (J : Job) (b goal T t : ℕ) where
       (λ x o. (o .0, o .1, ⊎-elim (λ l. omega arith) (λ at. let e = at .0 in omega arith) (o .2)))
 
   -- before the first action: none is decided
-  pub dead-when-none-decided : (done : ℕ → Bool) (L : List Step) → ((a : ℕ) → done a ≡ false)
+  pub dead-when-none-decided : (done : ℕ → Bool) (L : List Step) → ((a : ℕ) → a < length (J .actions) → done a ≡ false)
       → Dead J b goal T (Open b t done) L → Dead J b goal T (Until b t) L
-  dead-when-none-decided done L none =
-      dead-weaker J b goal T (Open b t done) (Until b t) L
-      (λ x u. (u .0, u .1, ⊎-elim (λ e. inr (e, none (x .number))) (λ l. inl l) (eq-or-lt-of-le (u .2))))
+  dead-when-none-decided done L none dead E h p =
+      dead E
+      (λ x Q i.
+      let u = h x Q i in
+      let known = p .plan .known x (Q ++ L) (place-append L i) in
+      (u .0, u .1, ⊎-elim (λ e. inr (e, none (x .number) known)) (λ l. inl l) (eq-or-lt-of-le (u .2))))
+      p
 
   -- after the last one: all are, so every other step stops earlier
   pub dead-when-all-decided : (s : ℕ) → t ≤ suc s → (done : ℕ → Bool) (L : List Step)

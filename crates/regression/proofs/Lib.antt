@@ -11,4 +11,5 @@ pub mod NormalPlans
 pub mod DeadEnds
 pub mod Decisions
 pub mod Minutes
+pub mod Carried
 pub mod NoPlan

@@ -2,22 +2,28 @@
 -- Assumes nothing.
 use Prim.Native.Nat.{ℕ, zero, suc, _+_, _-_, _≤_, _<_}
 use mathlib.Core.Path.{_≡_, refl, sym, ap, _∙_}
-use mathlib.Core.Bool.{true, false}
+use mathlib.Core.Bool.{Bool, true, false, not}
 use mathlib.Core.Logic.{⊎-elim}
 use mathlib.Core.List.{List, _∷_}
 use native.Mathlib.Omega.{arith}
-use lib.Dec.{ltb}
+use lib.Dec.{eqb}
 use lib.ListN.{length}
-use borrow.Author.Tests.{lt-ltb, le-ltb}
+use borrow.Author.Tests.{eq-eqb, not-true, not-false}
+use Rattle.lists.proofs.Bools.{or-left, or-right}
+use Rattle.facts.specs.FactSet.{has, single, difference}
+use Rattle.facts.proofs.Membership.{has-zero}
+use Rattle.facts.proofs.SetLaws.{in-difference}
 use Rattle.job.specs.Job.{Job}
 use Rattle.timeline.specs.Step.{Step}
 use Rattle.timeline.proofs.Shares.{handover}
-use Rattle.timeline.proofs.Places.{EachStep}
+use Rattle.timeline.proofs.Tests.{not-both, false-unless}
+use Rattle.timeline.proofs.Places.{EachStep, below-none}
 use Rattle.times.specs.Earliest.{actionOf}
+use Rattle.times.proofs.Singles.{only-in-single}
 use Rattle.regression.specs.Normal.{eventMinute}
 use Rattle.regression.specs.DeadEnd.{Until, Open, Dead}
 use Rattle.regression.proofs.BlockedSteps.{Touches}
-use Rattle.regression.proofs.Decisions.{dead-next, dead-open, dead-when-none-decided}
+use Rattle.regression.proofs.Decisions.{alsoDecided, dead-choose, dead-decided, dead-when-barred, dead-when-none-decided}
 use Rattle.regression.proofs.Minutes.{no-event, dead-back-to-event}
 use Rattle.tables.specs.Tables.{Describes, Known, chosen}
 use Rattle.tables.specs.declared.Frame.{Frame}
@@ -27,8 +33,13 @@ use Rattle.leaf.specs.Answer.{Finishes}
 use Rattle.search.specs.declared.state.State.{State}
 use Rattle.search.specs.States.{Stands, DeadFor, Barred, nextStep}
 use Rattle.search.specs.Moves.{NoStartBetween}
-use Rattle.search.specs.Search.{TaskOf, OpenFrom}
+use Rattle.search.specs.Search.{TaskOf, OpenIn}
 use Rattle.search.proofs.Chosen.{place-of-chosen}
+
+-- the set of all ones has every fact below 64
+in-all-facts : (n : ℕ) → n < 64 → has 18446744073709551615 n ≡ true
+unfolding has
+in-all-facts n l = not-false (has 18446744073709551615 n) (below-none 64 (λ k. not (has 18446744073709551615 k)) refl n l)
 
 module _ (J : Job) (frame : Frame) (st : State) where
   abbrev L : List Step
@@ -38,35 +49,43 @@ module _ (J : Job) (frame : Frame) (st : State) where
   t = st .minute
 
   -- ---- one action after the other
+  -- those of the undecided actions that are not left are barred
+  pub dead-past-barred : length (J .actions) ≡ frame .actions → (undecided left : ℕ)
+      → ((a : ℕ) → a < frame .actions → has undecided a ≡ true → has left a ≡ false → Barred J frame st a)
+      → DeadFor J frame (OpenIn frame st left) L → DeadFor J frame (OpenIn frame st undecided) L
+  dead-past-barred count undecided left barred =
+      dead-when-barred J (frame .first) (frame .goal) (frame .horizon) t (λ a. not (has undecided a)) (λ a. not (has left a)) L
+      (λ a known before now fits.
+      barred a (omega arith) (not-false (has undecided a) before) (not-true (has left a) now) fits)
+
   -- the step of action i completes nothing, and without it nothing does
-  pub dead-from : (i : ℕ) → DeadFor J frame (OpenFrom frame st (i + 1)) (nextStep J st i ∷ L)
-      → DeadFor J frame (OpenFrom frame st (i + 1)) L → DeadFor J frame (OpenFrom frame st i) L
-  dead-from i with without =
-      dead-next J (frame .first) (frame .goal) (frame .horizon) t i L (λ fits. with) without
-
-  barred-from : (i : ℕ) → Barred J frame st i → DeadFor J frame (OpenFrom frame st (i + 1)) L
-      → DeadFor J frame (OpenFrom frame st i) L
-  barred-from i barred without =
-      dead-next J (frame .first) (frame .goal) (frame .horizon) t i L
-      (λ fits. dead-open J (frame .first) (frame .goal) (frame .horizon) t (λ a. ltb a (i + 1)) (nextStep J st i ∷ L) (barred fits))
-      without
-
-  pub dead-past-barred : (i k : ℕ) → i ≤ k → ((j : ℕ) → i ≤ j → j < k → Barred J frame st j)
-      → DeadFor J frame (OpenFrom frame st k) L → DeadFor J frame (OpenFrom frame st i) L
-  dead-past-barred i k l barred dead = go (k - i) i (omega arith) barred
+  pub dead-either : (left i : ℕ)
+      → DeadFor J frame (OpenIn frame st (difference left (single i))) (nextStep J st i ∷ L)
+      → DeadFor J frame (OpenIn frame st (difference left (single i))) L → DeadFor J frame (OpenIn frame st left) L
+  dead-either left i with without =
+      dead-choose J (frame .first) (frame .goal) (frame .horizon) t (λ a. not (has left a)) i L
+      (λ fits. less (nextStep J st i ∷ L) with) (less L without)
     where
-      go : (n i : ℕ) → i + n ≡ k → ((j : ℕ) → i ≤ j → j < k → Barred J frame st j) → DeadFor J frame (OpenFrom frame st i) L
-      go zero i e barred = let same : i ≡ k = omega arith in rw same dead
-      go (suc n) i e barred =
-          barred-from i (barred i (omega arith) (omega arith)) (go n (i + 1) (omega arith) (λ j a b. barred j (omega arith) b))
+      less : (M : List Step) → DeadFor J frame (OpenIn frame st (difference left (single i))) M
+          → DeadFor J frame (Open (frame .first) t (alsoDecided (λ a. not (has left a)) i)) M
+      less M =
+          dead-decided J (frame .first) (frame .goal) (frame .horizon) t (λ a. not (has (difference left (single i)) a))
+          (alsoDecided (λ a. not (has left a)) i) M
+          (λ a e.
+          let other = or-left (eqb a i) _ e in
+          let member = not-false (has left a) (or-right (eqb a i) _ e) in
+          let apart = false-unless (has (single i) a)
+          (λ s. not-both (eq-eqb a i (only-in-single i a s)) other) in
+          ap not (in-difference left (single i) a member apart))
 
-  pub dead-until : DeadFor J frame (OpenFrom frame st 0) L → DeadFor J frame (Until (frame .first) t) L
-  dead-until dead =
-      dead-when-none-decided J (frame .first) (frame .goal) (frame .horizon) t (λ a. ltb a 0) L
-      (λ a. le-ltb a 0 (omega arith)) dead
+  pub dead-until : frame .actions ≤ 64 → length (J .actions) ≡ frame .actions
+      → DeadFor J frame (OpenIn frame st 18446744073709551615) L → DeadFor J frame (Until (frame .first) t) L
+  dead-until few count dead =
+      dead-when-none-decided J (frame .first) (frame .goal) (frame .horizon) t (λ a. not (has 18446744073709551615 a)) L
+      (λ a known. ap not (in-all-facts a (omega arith))) dead
 
   -- ---- back to the event before
-  module _ (actions : ℕ) (count : length (J .actions) ≡ actions) (inTime : st .minute ≤ frame .horizon) (s : ℕ)
+  module _ (inTime : st .minute ≤ frame .horizon) (s : ℕ)
       (earlier : s < st .minute) (none : NoStartBetween (st .steps) s (st .minute)) where
     untouched : (m : ℕ) → s < m → m < t → EachStep (λ x. Touches J m x → ⊥) L
     unfolding handover
@@ -76,8 +95,8 @@ module _ (J : Job) (frame : Frame) (st : State) where
         let same = ap (λ (y : Step). y .start) (k .2) in
         none (k .0) (k .1) (omega arith) (omega arith)
 
-    pub dead-back : DeadFor J frame (Until (frame .first) s) L → DeadFor J frame (OpenFrom frame st actions) L
+    pub dead-back : DeadFor J frame (Until (frame .first) s) L → DeadFor J frame (OpenIn frame st 0) L
     dead-back dead =
-        dead-back-to-event J (frame .first) (frame .goal) (frame .horizon) L s t earlier (λ a. ltb a actions)
-        (λ a l. lt-ltb a actions (omega arith))
+        dead-back-to-event J (frame .first) (frame .goal) (frame .horizon) L s t earlier (λ a. not (has 0 a))
+        (λ a l. ap not (has-zero a))
         (λ m a b. no-event J (frame .horizon) L m (λ e. omega arith) (untouched m a b)) dead

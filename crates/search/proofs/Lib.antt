@@ -5,6 +5,8 @@ mod BarredActions
 mod StateLaws
 mod StateTests
 mod MissingLaws
+mod CarriedLaws
+mod CandidateLaws
 mod Completeness
 mod Steps
 mod HorizonLaws

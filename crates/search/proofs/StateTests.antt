@@ -28,13 +28,15 @@ use Rattle.regression.specs.Normal.{addedBeside}
 use Rattle.regression.specs.Tests.{provided, solelyProvides, runningNeeds, mustHold}
 use Rattle.regression.specs.DeadEnd.{Until}
 use Rattle.regression.proofs.Gathered.{in-unionOf, in-unionOf-from}
-use Rattle.regression.proofs.DeadEnds.{dead-when-not-sole-provider, dead-when-too-early, dead-when-running-too-early}
+use Rattle.regression.proofs.DeadEnds.{dead-when-not-sole-provider, dead-when-running-too-early}
 use Rattle.regression.proofs.DeadEnds.{times-bound}
+use Rattle.regression.proofs.Carried.{EventBefore, Carried, dead-when-carried-late}
 use Rattle.tables.specs.Tables.{Describes, Known, chosen, addsAt}
 use Rattle.tables.specs.declared.Frame.{Frame}
 use Rattle.search.specs.declared.state.State.{State}
 use Rattle.search.specs.Minutes.{runsInto}
 use Rattle.search.specs.States.{AddedTwice, Stands, DeadFor}
+use Rattle.search.specs.Search.{OpenIn}
 use Rattle.search.proofs.Chosen.{stepAt, chosen-at-place}
 
 -- ---- a step that stops now adds nothing alone
@@ -122,17 +124,17 @@ module _ (J : Job) (frame : Frame) (times : List ℕ) (filled : Filled J times) 
       let f = ap (setNumber times set) facts in
       ⊎-elim (λ same. omega arith) (λ late. let late = late .1 in omega arith) e
 
-  pub dead-when-late : (st : State) → Stands J frame st → (time : ℕ)
-      → SameTime time (setNumber times (union (st .wanted) (st .at .across)) (frame .facts)) → st .minute ≤ 530400
-      → st .minute < time
-      → DeadFor J frame (Until (frame .first) (st .minute)) (chosen J (st .steps))
-  dead-when-late st stands time e c l =
-      dead-when-too-early J (frame .first) (frame .goal) (frame .horizon) _
-      (times-bound J (frame .first) (frame .goal) (frame .horizon) (tableIn times) (filled .solves)) (chosen J (st .steps))
-      (st .minute) (st .minute) (le-refl (st .minute)) (stands .inTime)
-      (λ h.
-      not-by (union (st .wanted) (st .at .across)) time (st .minute) e c l
-      (rw (stands .wants, stands .at .across) h))
+  pub dead-when-carried : (st : State) → Stands J frame st → (left s set time : ℕ)
+      → EventBefore J (frame .first) (st .minute) s (λ a. not (has left a)) (chosen J (st .steps))
+      → ((n : ℕ) → has set n ≡ true
+      → Carried J (frame .goal) (frame .horizon) (st .minute) (λ a. not (has left a)) (chosen J (st .steps)) n)
+      → SameTime time (setNumber times set (frame .facts)) → s ≤ 530400 → s < time
+      → DeadFor J frame (OpenIn frame st left) (chosen J (st .steps))
+  dead-when-carried st stands left s set time event carried e c l =
+      dead-when-carried-late J (frame .first) (frame .goal) (frame .horizon) (st .minute) s (stands .inTime)
+      (λ a. not (has left a)) (chosen J (st .steps)) event _
+      (times-bound J (frame .first) (frame .goal) (frame .horizon) (tableIn times) (filled .solves)) set carried
+      (not-by set time s e c l)
 
   pub dead-when-rushed : (L : List Step) (m time : ℕ) → SameTime time (setNumber times (runningNeeds m L) (frame .facts))
       → m ≤ 530400 → m < time → (t : ℕ) → DeadFor J frame (Until (frame .first) t) L

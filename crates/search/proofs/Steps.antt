@@ -2,12 +2,11 @@
 -- Assumes nothing.
 use Prim.Native.Nat.{ℕ, _+_, _≤_, _<_}
 use mathlib.Core.Path.{_≡_, refl, sym, ap, ap₂, _∙_}
-use mathlib.Core.Bool.{true, false}
+use mathlib.Core.Bool.{true, false, not}
 use mathlib.Core.List.{List, _∷_}
 use native.Mathlib.Omega.{arith}
-use lib.Dec.{ltb}
 use lib.ListN.{length}
-use Rattle.facts.specs.FactSet.{meets}
+use Rattle.facts.specs.FactSet.{has, meets}
 use Rattle.job.specs.Job.{Job}
 use Rattle.timeline.specs.Step.{Step}
 use Rattle.regression.specs.DeadEnd.{Until, Open}
@@ -18,10 +17,10 @@ use Rattle.tables.specs.declared.Steps.{Steps}
 use Rattle.leaf.specs.declared.Answer.{Answer}
 use Rattle.leaf.specs.Answer.{Finishes}
 use Rattle.search.specs.declared.state.State.{State}
-use Rattle.search.specs.States.{Stands, Safe, DeadFor, nextStep, MayStop, NextAction}
+use Rattle.search.specs.States.{Stands, Safe, DeadFor, nextStep, MayStop}
 use Rattle.search.specs.Moves.{Taken, Back, NoStartBetween}
 use Rattle.search.specs.Missing.{Fresh}
-use Rattle.search.specs.Search.{TaskOf, Ready, OpenFrom}
+use Rattle.search.specs.Search.{TaskOf, Ready, OpenIn}
 use Rattle.search.proofs.Chosen.{known-pushed}
 use Rattle.search.proofs.StateLaws.{chosen-taken, taken-stands, chosen-back, back-stands}
 use Rattle.search.proofs.Completeness.{dead-back}
@@ -70,14 +69,15 @@ module _ (sets numbers times : List ℕ) (frame : Frame) (st : State) (ready : R
         → DeadFor J frame (X t′) L′
     dead-as X e f h = rw (← e, ← f) h
 
-    pub dead-when-taken-open : DeadFor J frame (OpenFrom frame r (i + 1)) (chosen J (r .steps))
-        → DeadFor J frame (OpenFrom frame st (i + 1)) (nextStep J st i ∷ chosen J (st .steps))
-    dead-when-taken-open dead = dead-as (λ t. Open (frame .first) t (λ a. ltb a (i + 1))) (taken .minute) steps-taken dead
+    pub dead-when-taken-open : (left : ℕ) → DeadFor J frame (OpenIn frame r left) (chosen J (r .steps))
+        → DeadFor J frame (OpenIn frame st left) (nextStep J st i ∷ chosen J (st .steps))
+    dead-when-taken-open left dead =
+        dead-as (λ t. Open (frame .first) t (λ a. not (has left a))) (taken .minute) steps-taken dead
 
-    pub dead-when-taken-until : DeadFor J frame (Until (frame .first) (r .minute)) (chosen J (r .steps))
-        → DeadFor J frame (OpenFrom frame st (i + 1)) (nextStep J st i ∷ chosen J (st .steps))
-    dead-when-taken-until dead =
-        dead-open J (frame .first) (frame .goal) (frame .horizon) (st .minute) (λ a. ltb a (i + 1)) _
+    pub dead-when-taken-until : (left : ℕ) → DeadFor J frame (Until (frame .first) (r .minute)) (chosen J (r .steps))
+        → DeadFor J frame (OpenIn frame st left) (nextStep J st i ∷ chosen J (st .steps))
+    dead-when-taken-until left dead =
+        dead-open J (frame .first) (frame .goal) (frame .horizon) (st .minute) (λ a. not (has left a)) _
         (dead-as (Until (frame .first)) (taken .minute) steps-taken dead)
 
 -- ---- back to the event before
@@ -112,9 +112,9 @@ module _ (sets numbers times : List ℕ) (frame : Frame) (st : State) (ready : R
 
   pub dead-when-back : (J : Job) (file : List ℕ) → TaskOf J file sets numbers times frame → Stands J frame st
       → DeadFor J frame (Until (frame .first) (r .minute)) (chosen J (r .steps))
-      → DeadFor J frame (OpenFrom frame st (frame .actions)) (chosen J (st .steps))
+      → DeadFor J frame (OpenIn frame st 0) (chosen J (st .steps))
   dead-when-back J file task stands dead =
-      dead-back J frame st (frame .actions) (task .described .actions) (stands .inTime) (r .minute) earlier none
+      dead-back J frame st (stands .inTime) (r .minute) earlier none
       (rw (← back .steps) dead)
 
 -- ---- the first minute

@@ -5,4 +5,5 @@ pub mod Moves
 pub mod Timed
 pub mod Missing
 pub mod Search
+pub mod Carried
 pub mod Horizons

@@ -2,11 +2,10 @@
 -- Assumes nothing.
 use Prim.Native.Nat.{ℕ, _+_, _≤_, _<_}
 use mathlib.Core.Path.{_≡_}
-use mathlib.Core.Bool.{Bool, true, false}
+use mathlib.Core.Bool.{Bool, true, false, not}
 use mathlib.Core.List.{List, _∷_}
-use lib.Dec.{ltb}
 use lib.ListN.{length}
-use Rattle.facts.specs.FactSet.{foreign}
+use Rattle.facts.specs.FactSet.{has, foreign}
 use Rattle.job.specs.Job.{Job}
 use Rattle.timeline.specs.Step.{Step}
 use Rattle.earliest.specs.Sweep.{Filled}
@@ -34,9 +33,9 @@ pub record Ready (sets numbers times : List ℕ) (frame : Frame) (st : State) : 
   pub facts : frame .facts ≤ 64
   pub notBefore : frame .first ≤ st .minute
 
--- the actions below i are decided at the minute
-abbrev pub OpenFrom : Frame → State → ℕ → Step → Type 0
-OpenFrom frame st i = Open (frame .first) (st .minute) (λ a. ltb a i)
+-- the actions of the set are not decided at the minute
+abbrev pub OpenIn : Frame → State → ℕ → Step → Type 0
+OpenIn frame st left = Open (frame .first) (st .minute) (λ a. not (has left a))
 
 -- the answer of a search: a plan found is accepted; none found makes a dead end
 pub record Answered (file : List ℕ) (frame : Frame) (Dead : Type 0) (r : Answer) : Type 0 where

@@ -3,10 +3,11 @@
 use Prim.Native.Nat.{ℕ, _+_, _≤_, _<_}
 use mathlib.Core.Path.{_≡_}
 use mathlib.Core.Bool.{Bool, true, false}
+use mathlib.Core.Logic.{_⊎_}
 use mathlib.Core.List.{List, _∷_}
 use lib.Dec.{ltb}
 use lib.ListN.{getD}
-use Rattle.facts.specs.FactSet.{has, meets}
+use Rattle.facts.specs.FactSet.{has, union, single, meets, Subset}
 use Rattle.job.specs.Job.{Job}
 use Rattle.timeline.specs.Step.{Step}
 use Rattle.timeline.proofs.Places.{Member}
@@ -94,9 +95,20 @@ pub record MayStop (sets numbers : List ℕ) (frame : Frame) (st : State) (i : �
   pub apart : may ≡ true → meets (clashesAt sets i) (st .at .running) ≡ false
   pub barred : may ≡ false → BarredBy sets numbers frame st i
 
--- the first action from i on that may stop at the state's minute, or the number of actions
-pub record NextAction (sets numbers : List ℕ) (frame : Frame) (st : State) (i next : ℕ) : Type 0 where
-  pub onward : i ≤ next
-  pub within : next ≤ frame .actions
-  pub barred : (k : ℕ) → i ≤ k → k < next → BarredBy sets numbers frame st k
-  pub may : next < frame .actions → MayStop sets numbers frame st next true
+-- r is the set with action k, if that may stop at the state's minute
+abbrev pub WithCandidate : List ℕ → List ℕ → Frame → State → ℕ → ℕ → ℕ → Type 0
+WithCandidate sets numbers frame st k set r =
+    ((r ≡ set) × (k < frame .actions → BarredBy sets numbers frame st k))
+    ⊎ ((r ≡ union (single k) set) × (k < frame .actions) × MayStop sets numbers frame st k true)
+
+-- r has those of the undecided actions below n that may stop at the state's minute; the others are barred
+pub record Candidates (sets numbers : List ℕ) (frame : Frame) (st : State) (undecided n r : ℕ) : Type 0 where
+  pub within : Subset r undecided
+  pub may : (a : ℕ) → has r a ≡ true → (a < frame .actions) × MayStop sets numbers frame st a true
+  pub barred : (a : ℕ) → a < n → a < frame .actions → has undecided a ≡ true → has r a ≡ false
+      → BarredBy sets numbers frame st a
+
+-- actions of which the step that stops at the state's minute fits
+abbrev pub FitAll : List ℕ → Frame → State → ℕ → Type 0
+FitAll numbers frame st left =
+    (a : ℕ) → has left a ≡ true → (a < frame .actions) × (durationAt numbers a ≤ st .minute)

@@ -42,7 +42,7 @@ pub fn take(sets: &[u64], numbers: &[u32], st: State, i: u8) -> State
 }
 
 // The later of the minute m and the start, where that is before t.
-fn later_start(m: u16, start: u16, t: u16) -> u16
+pub fn later_start(m: u16, start: u16, t: u16) -> u16
     requires { ⌜ m < t ⌝ }
     ensures { λ r. ⌜ (m ≤ r) × (r < t) × (start < t → start ≤ r) ⌝ }
 {
@@ -56,7 +56,7 @@ fn later_start(m: u16, start: u16, t: u16) -> u16
 }
 
 // The last start of a chosen step before minute t; the first minute, where none is later.
-fn event(steps: Steps, first: u16, t: u16) -> u16
+pub fn event(steps: Steps, first: u16, t: u16) -> u16
     requires { ⌜ (steps .count ≤ 32) × (first < t) ⌝ }
     ensures { λ r. ⌜ (first ≤ r) × (r < t) × NoStartBetween steps r t ⌝ }
 {

@@ -2,12 +2,13 @@
 ghost use mathlib.Core.Path.{_≡_};
 ghost use mathlib.Core.Bool.{true};
 ghost use mathlib.Core.List.{_∷_};
-ghost use Prim.Native.Nat.{_+_, _≤_, _<_};
+ghost use Prim.Native.Nat.{_≤_, _<_};
 ghost use Rattle.regression.specs.DeadEnd.{Until};
 ghost use Rattle.tables.specs.Tables.{chosen};
 ghost use Rattle.search.specs.States.{nextStep, MayStop};
 ghost use Rattle.search.specs.Missing.{Fresh};
-ghost use Rattle.search.specs.Search.{Ready, OpenFrom, Answered, NoneFrom};
+ghost use Rattle.search.specs.Search.{Ready, OpenIn, Answered, NoneFrom};
+use crate::carried;
 use crate::missing;
 use crate::moves;
 use crate::rules;
@@ -16,7 +17,7 @@ use crate::tests;
 use leaf::Answer;
 use tables::Frame;
 
-// With action i stopping at the state's minute.
+// With action i stopping at the state's minute, and the actions of `left` not decided.
 fn attempt(
     sets: &[u64],
     numbers: &[u32],
@@ -25,12 +26,13 @@ fn attempt(
     frame: Frame,
     st: State,
     i: u8,
+    left: u64,
 ) -> Answer
     requires { ⌜ Ready (now sets) (now numbers) (now times) frame st × (i < frame .actions)
         × MayStop (now sets) (now numbers) frame st i true × (frame .first < st .minute) ⌝ }
     ensures { λ r. ⌜ Answered (now (file .entry)) frame
         (NoneFrom (now (file .entry)) (now (sets .entry)) (now (numbers .entry)) (now (times .entry)) frame st
-        (OpenFrom frame st (i + 1)) (λ J. nextStep J st i ∷ chosen J (st .steps))) r ⌝ }
+        (OpenIn frame st left) (λ J. nextStep J st i ∷ chosen J (st .steps))) r ⌝ }
 {
     let next = moves::take(sets, numbers, st, i);
     if !tests::all_needed(sets, frame.actions, next) {
@@ -40,10 +42,10 @@ fn attempt(
     if !tests::all_reached(sets, numbers, times, frame, next, start) {
         return leaf::nothing();
     }
-    choose(sets, numbers, times, file, frame, next, i + 1)
+    choose(sets, numbers, times, file, frame, next, left)
 }
 
-// Decides for the actions from i on which stop at the state's minute, one after the other; then goes back to the event
+// Decides for the undecided actions which stop at the state's minute, one after the other; then goes back to the event
 // before.
 fn choose(
     sets: &[u64],
@@ -52,31 +54,28 @@ fn choose(
     file: &[u8],
     frame: Frame,
     st: State,
-    i: u8,
+    undecided: u64,
 ) -> Answer
-    requires { ⌜ Ready (now sets) (now numbers) (now times) frame st × (i ≤ frame .actions)
-        × (frame .first < st .minute) ⌝ }
+    requires { ⌜ Ready (now sets) (now numbers) (now times) frame st × (frame .first < st .minute) ⌝ }
     ensures { λ r. ⌜ Answered (now (file .entry)) frame
         (NoneFrom (now (file .entry)) (now (sets .entry)) (now (numbers .entry)) (now (times .entry)) frame st
-        (OpenFrom frame st i) (λ J. chosen J (st .steps))) r ⌝ }
+        (OpenIn frame st undecided) (λ J. chosen J (st .steps))) r ⌝ }
 {
-    let mut k = rules::next_action(sets, numbers, frame, st, i);
-    while (k as usize) < frame.actions {
-        let answer = attempt(sets, numbers, times, file, frame, st, k);
+    let mut left = rules::candidates(sets, numbers, frame, st, undecided);
+    while carried::in_time(sets, numbers, times, frame, st, left) {
+        if left == 0 {
+            let before = moves::back(sets, numbers, frame, st);
+            return regress(sets, numbers, times, file, frame, before);
+        }
+        let i = rules::pick(left);
+        left = facts::difference(left, facts::single(i));
+        let answer = attempt(sets, numbers, times, file, frame, st, i, left);
         let found = answer.found;
         if found {
             return answer;
         }
-        k = rules::next_action(sets, numbers, frame, st, k + 1);
     }
-    regress(
-        sets,
-        numbers,
-        times,
-        file,
-        frame,
-        moves::back(sets, numbers, frame, st),
-    )
+    leaf::nothing()
 }
 
 // Goes on from a state, whose minute is an event: with fewer minutes left at each call.
@@ -93,9 +92,6 @@ pub fn regress(
         (NoneFrom (now (file .entry)) (now (sets .entry)) (now (numbers .entry)) (now (times .entry)) frame st
         (Until (frame .first) (st .minute)) (λ J. chosen J (st .steps))) r ⌝ }
 {
-    if !tests::timely(times, frame, st) {
-        return leaf::nothing();
-    }
     if st.minute <= frame.first {
         let steps = st.steps;
         return leaf::finish(file, frame, steps);
@@ -103,5 +99,13 @@ pub fn regress(
     if !missing::stores_suffice(sets, numbers, frame, st) {
         return leaf::nothing();
     }
-    choose(sets, numbers, times, file, frame, st, 0)
+    choose(
+        sets,
+        numbers,
+        times,
+        file,
+        frame,
+        st,
+        18_446_744_073_709_551_615,
+    )
 }

@@ -5,7 +5,7 @@ ghost use Prim.Native.Nat.{_+_, _≤_, _<_};
 ghost use lib.ListN.{length};
 ghost use Rattle.facts.specs.FactSet.{has};
 ghost use Rattle.tables.specs.Tables.{durationAt};
-ghost use Rattle.search.specs.States.{Safe, BarredBy, SetsAllow, MayStop, NextAction};
+ghost use Rattle.search.specs.States.{Safe, BarredBy, SetsAllow, MayStop, WithCandidate, Candidates};
 use crate::amounts;
 use crate::minute;
 use crate::state::State;
@@ -87,17 +87,44 @@ fn may_stop(sets: &[u64], numbers: &[u32], frame: Frame, st: State, i: u8) -> bo
     affordable(sets, numbers, frame, st, i)
 }
 
-// The first action from i on that may stop at the state's minute; the number of actions where there is none.
-pub fn next_action(sets: &[u64], numbers: &[u32], frame: Frame, st: State, i: u8) -> u8
-    requires { ⌜ Safe (now sets) (now numbers) frame st × (i ≤ frame .actions) × (0 < st .minute) ⌝ }
-    ensures { λ r. ⌜ NextAction (now (sets .entry)) (now (numbers .entry)) frame st i r ⌝ }
+// The set with action k, if that may stop at the state's minute.
+fn with_candidate(sets: &[u64], numbers: &[u32], frame: Frame, st: State, k: u8, set: u64) -> u64
+    requires { ⌜ Safe (now sets) (now numbers) frame st × (k < 64) × (0 < st .minute) ⌝ }
+    ensures { λ r. ⌜ WithCandidate (now (sets .entry)) (now (numbers .entry)) frame st k set r ⌝ }
 {
-    let mut k = i;
-    while (k as usize) < frame.actions {
-        if may_stop(sets, numbers, frame, st, k) {
-            return k;
-        }
-        k += 1;
+    if frame.actions <= k as usize {
+        return set;
     }
-    k
+    if !may_stop(sets, numbers, frame, st, k) {
+        return set;
+    }
+    facts::union(facts::single(k), set)
+}
+
+// Those of the undecided actions that may stop at the state's minute.
+pub fn candidates(sets: &[u64], numbers: &[u32], frame: Frame, st: State, undecided: u64) -> u64
+    requires { ⌜ Safe (now sets) (now numbers) frame st × (0 < st .minute) ⌝ }
+    ensures { λ r. ⌜ Candidates (now (sets .entry)) (now (numbers .entry)) frame st undecided 64 r ⌝ }
+{
+    let mut found: u64 = 0;
+    let mut k = facts::next(undecided, 0);
+    while k < 64 {
+        found = with_candidate(sets, numbers, frame, st, k, found);
+        k = facts::next(undecided, k + 1);
+    }
+    found
+}
+
+// The candidate to take first: the last one, for job files tend to list actions in the order of the day.
+pub fn pick(left: u64) -> u8
+    requires { ⌜ 0 < left ⌝ }
+    ensures { λ r. ⌜ (r < 64) × (has left r ≡ true) ⌝ }
+{
+    let mut last = facts::next(left, 0);
+    let mut k = last;
+    while k < 64 {
+        last = k;
+        k = facts::next(left, k + 1);
+    }
+    last
 }

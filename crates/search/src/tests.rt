@@ -121,13 +121,3 @@ pub fn all_reached(
     }
     true
 }
-
-// Whether what must hold at the state's minute can hold by then.
-pub fn timely(times: &[u32], frame: Frame, st: State) -> bool
-    requires { ⌜ (length (now times) ≡ 2080) × (frame .facts ≤ 64) ⌝ }
-    ensures { λ r. ⌜ ((sets numbers : List ℕ)
-        → DeadUnlessTimely sets numbers (now (times .entry)) frame st r) ⌝ }
-{
-    let must = facts::union(st.wanted, st.at.across);
-    set_time::set_time(times, frame.facts, must) <= minute::wide(st.minute)
-}

@@ -1,0 +1,120 @@
+-- What a state carries back from its minute, read off its sets.
+-- Assumes nothing.
+use Prim.Native.Nat.{ℕ, _+_, _-_, _≤_, _<_}
+use mathlib.Core.Path.{_≡_, refl, sym, ap, _∙_}
+use mathlib.Core.Bool.{Bool, true, false, cond, not, _&&_}
+use mathlib.Core.Logic.{inl, inr, ⊎-elim}
+use mathlib.Core.List.{List}
+use native.Mathlib.Nat.{eq-or-lt-of-le}
+use native.Mathlib.Omega.{arith}
+use lib.Dec.{eqb, leb, ltb}
+use lib.ListN.{length}
+use borrow.Author.Tests.{eq-eqb, ltb-true, leb-true, not-false}
+use Rattle.lists.proofs.Bools.{and-left, and-right}
+use Rattle.facts.specs.FactSet.{has, union, difference}
+use Rattle.facts.proofs.SetLaws.{in-union-left, in-union-right, in-union-cases, in-difference-parts}
+use Rattle.job.specs.Job.{Job}
+use Rattle.timeline.specs.Step.{Step}
+use Rattle.timeline.proofs.Tests.{not-both, false-unless, le-or-lt}
+use Rattle.timeline.proofs.Places.{Place, EachStep}
+use Rattle.regression.proofs.Gathered.{in-cond, in-cond-parts, in-unionOf, in-unionOf-from}
+use Rattle.regression.proofs.Carried.{EventBefore, WantedBefore, NeededBefore, Carried}
+use Rattle.tables.specs.Tables.{Describes, chosen}
+use Rattle.tables.specs.declared.Frame.{Frame}
+use Rattle.search.specs.declared.state.State.{State}
+use Rattle.search.specs.Minutes.{runsInto}
+use Rattle.search.specs.States.{Stands}
+use Rattle.search.specs.Moves.{NoStartBetween}
+use Rattle.search.specs.Carried.{AddsOf, LatestStart}
+use Rattle.search.proofs.Chosen.{place-of-chosen}
+
+module _ (J : Job) (sets numbers : List ℕ) (frame : Frame) (described : Describes J sets numbers frame)
+    (few : frame .actions ≤ 64) (st : State) (stands : Stands J frame st) (left : ℕ) where
+  abbrev L : List Step
+  L = chosen J (st .steps)
+
+  abbrev t : ℕ
+  t = st .minute
+
+  abbrev done : ℕ → Bool
+  done a = not (has left a)
+
+  -- ---- the event minute
+  pub event-before : (from s : ℕ) → NoStartBetween (st .steps) from t → LatestStart numbers left t from 64 s
+      → EventBefore J (frame .first) t s done L
+  event-before from s none latest =
+      let before = latest .before in
+      let after = latest .notBefore in
+      let count = described .actions in
+      record {
+        earlier = before;
+        noStart = λ x Q p a b.
+            let k = place-of-chosen J (st .steps) (st .steps .count) p in
+            let same = ap (λ (y : Step). y .start) (k .2) in
+            none (k .0) (k .1) (omega arith) (omega arith);
+        openStarts = λ a known undecided.
+            let d = described .each a (omega arith) in
+            let duration = d .duration in
+            let positive = d .positive in
+            let start = latest .starts a (omega arith) (not-false (has left a) undecided) (omega arith) in
+            omega arith;
+      }
+
+  -- ---- the facts
+  stops-not-before : EachStep (λ x. t ≤ x .stop) L
+  stops-not-before x Q p =
+      let k = place-of-chosen J (st .steps) (st .steps .count) p in
+      rw (k .2)
+      (⊎-elim (λ after. let e = stands .enders (k .0) after (k .1) .1 in omega arith)
+      (λ before. let e = stands .later (k .0) before in omega arith)
+      (le-or-lt (st .since) (k .0)))
+
+  not-added : (n : ℕ) → has (st .at .added) n ≡ false → EachStep (λ x. x .stop ≤ t → has (x .action .adds) n ≡ false) L
+  not-added n none x Q p early =
+      let late = stops-not-before x Q p in
+      let stop : x .stop ≡ t = omega arith in
+      false-unless (has (x .action .adds) n)
+      (λ h.
+      not-both
+      (ap (λ (set : ℕ). has set n) (stands .at .added)
+      ∙ in-unionOf (λ y. cond (eqb (y .stop) t) (y .action .adds) 0) n p
+      (in-cond (eqb (x .stop) t) (x .action .adds) n (eq-eqb (x .stop) t stop) h))
+      none)
+
+  needed-before : (n : ℕ) → has (st .at .held) n ≡ true → NeededBefore t L n
+  needed-before n h =
+      let r = in-unionOf-from (λ y. cond (runsInto t y) (y .action .needs) 0) n L (rw (stands .at .held) at h) in
+      let x : Step = r .0 in
+      let c = in-cond-parts (runsInto t x) (x .action .needs) n (r .3) in
+      let starts = ltb (x .start) t in (
+        x,
+        r .1,
+        r .2,
+        ltb-true (x .start) t (and-left starts _ (c .0)),
+        leb-true t (x .stop) (and-right starts _ (c .0)),
+        c .1,
+      )
+
+  pub carried-from : (adds set : ℕ) → AddsOf sets left 64 adds
+      → set ≡ union (difference (st .wanted) (union (st .at .added) adds)) (st .at .held)
+      → (n : ℕ) → has set n ≡ true → Carried J (frame .goal) (frame .horizon) t done L n
+  carried-from adds set all e n h =
+      ⊎-elim
+      (λ w.
+      let parts = in-difference-parts (st .wanted) (union (st .at .added) adds) n w in
+      let count = described .actions in
+      inl
+      (record {
+        wanted = ap (λ (set : ℕ). has set n) (sym (stands .wants)) ∙ parts .0;
+        tail = not-added n (false-unless _ (λ a. not-both (in-union-left (st .at .added) adds n a) (parts .1)));
+        others = λ a known undecided.
+            let d = described .each a (omega arith) in
+            false-unless _
+            (λ h.
+            not-both
+            (in-union-right (st .at .added) adds n
+            (all a n (omega arith) (not-false (has left a) undecided) (ap (λ (set : ℕ). has set n) (d .adds) ∙ h)))
+            (parts .1));
+      }))
+      (λ w. inr (needed-before n w))
+      (in-union-cases (difference (st .wanted) (union (st .at .added) adds)) (st .at .held) n (rw e at h))

@@ -1,0 +1,57 @@
+-- `pick` meets its contract: what is kept is a member.
+-- Assumes nothing.
+use Prim.Native.Nat.{ℕ, _-_, _≤_, _<_}
+use mathlib.Core.Path.{_≡_}
+use mathlib.Core.Bool.{true}
+use Rattle.facts.specs.FactSet.{has}
+use Rattle.search.proofs.CandidateLaws.{first-member}
+use native.Mathlib.Omega.{arith}
+use Rattle.search.proofs.rules.pick.Statement.{statement}
+use Rattle.search.proofs.rules.pick.Tie as tie
+
+abbrev Inv-loop : tie.InvT-loop
+Inv-loop left last₀ k₀ last k = (k ≤ 64) × (k < 64 → has left k ≡ true) × (last < 64) × (has left last ≡ true)
+
+abbrev μ-loop : tie.MeasureT-loop
+μ-loop left last₀ k₀ last k = 64 - k
+
+next-requires : tie.Need-next-requires Inv-loop μ-loop
+next-requires c κs = tt
+
+loop-holds : tie.Need-loop-holds Inv-loop μ-loop
+loop-holds c =
+    let next = c .next .ensures in
+    let member = first-member (c .before .args .left) _ (c .before .pre) (omega arith) next in
+    (next .within, next .found, member, next .found member)
+
+add-next : tie.Need-add-next Inv-loop μ-loop
+add-next c = omega arith
+
+next-requires-2 : tie.Need-next-requires-2 Inv-loop μ-loop
+next-requires-2 c κs = tt
+
+loop-less : tie.Need-loop-less Inv-loop μ-loop
+loop-less c = let next = c .next2 .ensures .onward (omega arith) in omega arith
+
+loop-again : tie.Need-loop-again Inv-loop μ-loop
+loop-again c =
+    let c-loop-test = c .before .loop-test in
+    let next = c .next2 .ensures in
+    (next .within, next .found, c-loop-test .taken, c .before .before .loop .inv .1 (c-loop-test .taken))
+
+returns : tie.Need-returns Inv-loop μ-loop
+returns c = (c .before .loop .inv .2, c .before .loop .inv .3)
+
+pub pick-spec : {M : Type 1} → statement M
+pick-spec =
+    tie.close
+    (tie.spec
+    Inv-loop
+    μ-loop
+    next-requires
+    loop-holds
+    add-next
+    next-requires-2
+    loop-less
+    loop-again
+    returns)
