@@ -1,4 +1,5 @@
 mod Latest
+mod Entries
 pub mod SetTimes
 mod ChoiceLaws
 mod Longer

@@ -1,5 +1,6 @@
 // The time of a set of facts, from a table of earliest times.
 ghost use mathlib.Core.Path.{_≡_};
+ghost use mathlib.Core.Bool.{false};
 ghost use Prim.Native.Nat.{max, suc, _≤_, _<_};
 ghost use lib.ListN.{length};
 ghost use Rattle.earliest.specs.Numbers.{rowNumber, setNumber, SameTime};
@@ -53,4 +54,35 @@ pub fn set_time(table: &[u32], facts: u8, set: u64) -> u32
         high = facts::next(set, high + 1);
     }
     latest
+}
+
+// Whether the entries of a fact with the facts of the set up to it are at most the limit.
+fn row_by(table: &[u32], set: u64, high: u8, limit: u32) -> bool
+    requires { ⌜ (length (now table) ≡ 2080) × (high < 64) ⌝ }
+    ensures { λ r. ⌜ (r ≡ false → limit < rowNumber (now (table .entry)) set high (suc high)) ⌝ }
+{
+    let first = pairs::entry(0, high);
+    let mut low = facts::next(set, 0);
+    while low <= high {
+        if limit < table[first + low as usize] {
+            return false;
+        }
+        low = facts::next(set, low + 1);
+    }
+    true
+}
+
+// Whether the time of a set is at most the limit. It says no at the first entry that is later: the search asks often.
+pub fn by(table: &[u32], facts: u8, set: u64, limit: u32) -> bool
+    requires { ⌜ (length (now table) ≡ 2080) × (facts ≤ 64) ⌝ }
+    ensures { λ r. ⌜ (r ≡ false → limit < setNumber (now (table .entry)) set facts) ⌝ }
+{
+    let mut high = facts::next(set, 0);
+    while high < facts {
+        if !row_by(table, set, high, limit) {
+            return false;
+        }
+        high = facts::next(set, high + 1);
+    }
+    true
 }

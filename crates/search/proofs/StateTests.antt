@@ -20,7 +20,7 @@ use Rattle.timeline.proofs.Places.{Place, Member}
 use Rattle.times.specs.Earliest.{actionOf, timeOf}
 use Rattle.times.specs.Numbers.{tableIn}
 use Rattle.times.proofs.Times.{By}
-use Rattle.earliest.specs.Numbers.{setNumber, SameTime}
+use Rattle.earliest.specs.Numbers.{setNumber}
 use Rattle.earliest.specs.Sweep.{Filled}
 use Rattle.earliest.proofs.SetTimes.{number-by-set}
 use Rattle.regression.specs.Wanted.{wantedAt}
@@ -117,28 +117,26 @@ module _ (J : Job) (sets numbers : List ℕ) (frame : Frame) (described : Descri
 
 -- ---- a set that cannot be there by then
 module _ (J : Job) (frame : Frame) (times : List ℕ) (filled : Filled J times) (facts : J .facts ≡ frame .facts) where
-  not-by : (set time m : ℕ) → SameTime time (setNumber times set (frame .facts)) → m ≤ 530400 → m < time
-      → By (timeOf J (tableIn times) set) m → ⊥
-  not-by set time m e c l h =
+  not-by : (set m : ℕ) → m < setNumber times set (frame .facts) → By (timeOf J (tableIn times) set) m → ⊥
+  not-by set m late h =
       let n = number-by-set J times (filled .able) set m h in
       let f = ap (setNumber times set) facts in
-      ⊎-elim (λ same. omega arith) (λ late. let late = late .1 in omega arith) e
+      omega arith
 
-  pub dead-when-carried : (st : State) → Stands J frame st → (left s set time : ℕ)
+  pub dead-when-carried : (st : State) → Stands J frame st → (left s set : ℕ)
       → EventBefore J (frame .first) (st .minute) s (λ a. not (has left a)) (chosen J (st .steps))
       → ((n : ℕ) → has set n ≡ true
       → Carried J (frame .goal) (frame .horizon) (st .minute) (λ a. not (has left a)) (chosen J (st .steps)) n)
-      → SameTime time (setNumber times set (frame .facts)) → s ≤ 530400 → s < time
-      → DeadFor J frame (OpenIn frame st left) (chosen J (st .steps))
-  dead-when-carried st stands left s set time event carried e c l =
+      → s < setNumber times set (frame .facts) → DeadFor J frame (OpenIn frame st left) (chosen J (st .steps))
+  dead-when-carried st stands left s set event carried late =
       dead-when-carried-late J (frame .first) (frame .goal) (frame .horizon) (st .minute) s (stands .inTime)
       (λ a. not (has left a)) (chosen J (st .steps)) event _
       (times-bound J (frame .first) (frame .goal) (frame .horizon) (tableIn times) (filled .solves)) set carried
-      (not-by set time s e c l)
+      (not-by set s late)
 
-  pub dead-when-rushed : (L : List Step) (m time : ℕ) → SameTime time (setNumber times (runningNeeds m L) (frame .facts))
-      → m ≤ 530400 → m < time → (t : ℕ) → DeadFor J frame (Until (frame .first) t) L
-  dead-when-rushed L m time e c l t =
+  pub dead-when-rushed : (L : List Step) (m : ℕ) → m < setNumber times (runningNeeds m L) (frame .facts) → (t : ℕ)
+      → DeadFor J frame (Until (frame .first) t) L
+  dead-when-rushed L m late t =
       dead-when-running-too-early J (frame .first) (frame .goal) (frame .horizon) _
       (times-bound J (frame .first) (frame .goal) (frame .horizon) (tableIn times) (filled .solves)) L
-      (Until (frame .first) t) m (not-by (runningNeeds m L) time m e c l)
+      (Until (frame .first) t) m (not-by (runningNeeds m L) m late)

@@ -60,5 +60,5 @@ pub fn in_time(
     let event = latest_start(numbers, frame, st, left, last);
     let added = facts::union(st.at.added, adds_of(sets, left));
     let carried = facts::union(facts::difference(st.wanted, added), st.at.held);
-    set_time::set_time(times, frame.facts, carried) <= minute::wide(event)
+    set_time::by(times, frame.facts, carried, minute::wide(event))
 }

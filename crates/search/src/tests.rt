@@ -92,7 +92,7 @@ fn reached(
         return true;
     }
     let needs = needs_at(sets, numbers, frame.actions, steps, start);
-    set_time::set_time(times, frame.facts, needs) <= start
+    set_time::by(times, frame.facts, needs, start)
 }
 
 // Whether that is so at the start of each chosen step from a minute on.

@@ -5,22 +5,14 @@ use mathlib.Core.Path.{_≡_, ap, _∙_}
 use mathlib.Core.Logic.{inl}
 use mathlib.Core.List.{List}
 use lib.ListN.{length, getD}
-use Rattle.lists.proofs.Inside.{getD-inside}
 use Rattle.pairs.specs.Pairs.{entryOf}
 use Rattle.times.specs.Numbers.{none}
 use Rattle.times.proofs.Slots.{entry-before-2080}
+use Rattle.earliest.proofs.Entries.{entry-read}
 use Rattle.earliest.proofs.Latest.{Counted, counted-at-first, counted-on, counted-late, counted-all}
 use native.Mathlib.Omega.{arith}
 use Rattle.earliest.proofs.set_time.row_time.Statement.{statement}
 use Rattle.earliest.proofs.set_time.row_time.Tie as tie
-
--- the number read is the entry
-read : (xs : List ℕ) (first low high : ℕ) → length xs ≡ 2080 → first ≡ entryOf 0 high → low ≤ high → high < 64
-    → getD xs (first + low) 0 ≡ getD xs (entryOf low high) none
-read xs first low high whole e l k =
-    let place : first + low ≡ entryOf low high = omega arith in
-    let inside = entry-before-2080 low high l k in
-    ap (λ (k : ℕ). getD xs k 0) place ∙ getD-inside xs (entryOf low high) 0 none (omega arith)
 
 abbrev Inv-loop : tie.InvT-loop
 Inv-loop table set high first latest₀ low₀ latest low =
@@ -68,7 +60,7 @@ returns c =
     let c-loop = c .before .before .before .before .loop in
     let c-later = c .before .later in
     let h = c-pre in
-    let value = read (c-args .table .now) (c-entry .result) (c-loop .low) (c-args .high) (h .0) (c-entry .ensures .0)
+    let value = entry-read (c-args .table .now) (c-entry .result) (c-loop .low) (c-args .high) (h .0) (c-entry .ensures .0)
     (omega arith) (h .1) in
     counted-late _ _ _ (c-loop .low) (c-loop .latest) _ (c-later .result) (c-loop .inv) (omega arith) (omega arith)
     (inl value)
@@ -95,7 +87,7 @@ loop-again c =
     let c-loop = c .before .before .before .before .before .loop in
     let c-later = c .before .before .later in
     let h = c-pre in
-    let value = read (c-args .table .now) (c-entry .result) (c-loop .low) (c-args .high) (h .0) (c-entry .ensures .0)
+    let value = entry-read (c-args .table .now) (c-entry .result) (c-loop .low) (c-args .high) (h .0) (c-entry .ensures .0)
     (omega arith) (h .1) in
     counted-on _ _ _ (c-loop .low) (c-loop .latest) _ (c-later .result) (c .next2 .result) (c-loop .inv) (omega arith)
     (omega arith) (inl value) (c-later .ensures) (c .before .if1 .left) (c .next2 .ensures)

@@ -2,7 +2,6 @@
 -- Assumes nothing.
 use Prim.Native.Nat.{ℕ}
 use mathlib.Core.Path.{_≡_, ap, ap₂, _∙_}
-use borrow.Author.Tests.{leb-false}
 use Rattle.facts.specs.FactSet.{union, difference}
 use Rattle.search.proofs.CarriedLaws.{event-before, carried-from}
 use Rattle.search.proofs.StateTests.{dead-when-carried}
@@ -34,14 +33,14 @@ difference-requires c κs = tt
 union-requires-2 : tie.Need-union-requires-2
 union-requires-2 c κs = tt
 
-set-time-requires : tie.Need-set-time-requires
-set-time-requires c κs =
-    let at8 = c .before .before .before .before .before .before .before .before in
-    let c-pre = at8 .before .before .pre in
-    let h = c-pre in (h .2, h .3)
-
 wide-requires : tie.Need-wide-requires
 wide-requires c κs = tt
+
+by-requires : tie.Need-by-requires
+by-requires c κs =
+    let at8 = c .before .before .before .before .before .before .before .before in
+    let c-pre = at8 .before .before .before .pre in
+    let h = c-pre in (h .2, h .3)
 
 returns : tie.Need-returns
 returns c =
@@ -54,13 +53,11 @@ returns c =
     let c-union = c .before .before .before .before .union in
     let c-difference = c .before .before .before .difference in
     let c-union2 = c .before .before .union2 in
-    let c-set-time = c .before .set-time in
     λ e J described filled stands.
     let at = c-args in
     let few = c-pre .0 .amounts .few in
-    let w = c .wide .ensures .0 in
-    let small = c .wide .ensures .1 in
-    let late = leb-false (c-set-time .result) (c .wide .result) e in
+    let w = c .before .wide .ensures .0 in
+    let late = c .by .ensures e in
     let event = event-before J (at .sets .now) (at .numbers .now) (at .frame) described few (at .st) stands (at .left) _ _
     (c-event .ensures .2) (c-latest-start .ensures) in
     let is = c-union2 .ensures .0
@@ -68,7 +65,7 @@ returns c =
     let carried = carried-from J (at .sets .now) (at .numbers .now) (at .frame) described few (at .st) stands (at .left)
     (c-adds-of .result) (c-union2 .result) (c-adds-of .ensures) is in
     dead-when-carried J (at .frame) (at .times .now) filled (described .facts) (at .st) stands (at .left) _ (c-union2 .result)
-    (c-set-time .result) event carried (c-set-time .ensures) (omega arith) (omega arith)
+    event carried (omega arith)
 
 pub in-time-spec : {M : Type 1} → statement M
 in-time-spec =
@@ -80,6 +77,6 @@ in-time-spec =
     union-requires
     difference-requires
     union-requires-2
-    set-time-requires
     wide-requires
+    by-requires
     returns)

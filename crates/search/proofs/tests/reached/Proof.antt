@@ -1,11 +1,8 @@
 -- `reached` meets its contract: the needs of the running steps come later than the start.
 -- Assumes nothing.
 use mathlib.Core.Bool.{true≢false}
-use borrow.Author.Tests.{leb-false}
 use Rattle.tables.specs.Tables.{chosen}
-use Rattle.earliest.proofs.SetTimes.{same-time-as}
 use Rattle.search.proofs.StateTests.{dead-when-rushed}
-use native.Mathlib.Omega.{arith}
 use Rattle.search.proofs.tests.reached.Statement.{statement}
 use Rattle.search.proofs.tests.reached.Tie as tie
 
@@ -20,20 +17,18 @@ needs-at-requires c κs =
     let c-pre = c .before .before .before .before .before .pre in
     let h = c-pre in (h .0, h .1)
 
-set-time-requires : tie.Need-set-time-requires
-set-time-requires c κs =
+by-requires : tie.Need-by-requires
+by-requires c κs =
     let c-pre = c .before .before .before .before .before .before .pre in
     let h = c-pre in (h .2, h .3)
 
 returns-3 : tie.Need-returns-3
 returns-3 c =
     let c-args = c .before .before .before .before .before .before .before .args in
-    let c-pre = c .before .before .before .before .before .before .before .pre in
     λ e J described filled.
     let at = c-args in
-    let bound = c-pre .4 in
-    let time = same-time-as (at .times .now) (at .frame .facts) _ _ (c .set-time .result) (c .before .needs-at .ensures J (described .each)) (c .set-time .ensures) in
-    dead-when-rushed J (at .frame) (at .times .now) filled (described .facts) (chosen J (at .steps)) (at .start) (c .set-time .result) time (omega arith) (leb-false _ _ e)
+    dead-when-rushed J (at .frame) (at .times .now) filled (described .facts) (chosen J (at .steps)) (at .start)
+    (rw (c .before .needs-at .ensures J (described .each)) at (c .by .ensures e))
 
 pub reached-spec : {M : Type 1} → statement M
-reached-spec = tie.close (tie.spec returns returns-2 needs-at-requires set-time-requires returns-3)
+reached-spec = tie.close (tie.spec returns returns-2 needs-at-requires by-requires returns-3)

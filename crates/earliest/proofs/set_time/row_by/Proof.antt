@@ -1,0 +1,98 @@
+-- `row_by` meets its contract: an entry that is later makes the row later.
+-- Assumes nothing.
+use Prim.Native.Nat.{ℕ, _-_, _≤_, _<_, suc}
+use mathlib.Core.Path.{_≡_, sym}
+use mathlib.Core.Bool.{true, true≢false}
+use lib.ListN.{getD}
+use Rattle.facts.specs.FactSet.{has}
+use Rattle.pairs.specs.Pairs.{entryOf}
+use Rattle.times.specs.Numbers.{none}
+use Rattle.times.proofs.Slots.{entry-before-2080}
+use Rattle.earliest.proofs.Entries.{entry-read}
+use Rattle.earliest.proofs.Latest.{member-at-most-latest}
+use native.Mathlib.Omega.{arith}
+use Rattle.earliest.proofs.set_time.row_by.Statement.{statement}
+use Rattle.earliest.proofs.set_time.row_by.Tie as tie
+
+abbrev Inv-loop : tie.InvT-loop
+Inv-loop table set high limit first low₀ low = (low ≤ 64) × (low < 64 → has set low ≡ true)
+
+abbrev μ-loop : tie.MeasureT-loop
+μ-loop table set high limit first low₀ low = 64 - low
+
+entry-requires : tie.Need-entry-requires Inv-loop μ-loop
+entry-requires c κs = let h = c .before .pre in (omega arith, omega arith)
+
+next-requires : tie.Need-next-requires Inv-loop μ-loop
+next-requires c κs = tt
+
+loop-holds : tie.Need-loop-holds Inv-loop μ-loop
+loop-holds c = (c .next .ensures .within, c .next .ensures .found)
+
+cast-if1 : tie.Need-cast-if1 Inv-loop μ-loop
+cast-if1 c = omega arith
+
+add-if1 : tie.Need-add-if1 Inv-loop μ-loop
+add-if1 c = omega arith
+
+mul-if1 : tie.Need-mul-if1 Inv-loop μ-loop
+mul-if1 c = omega arith
+
+shared-slice-read-if1 : tie.Need-shared-slice-read-if1 Inv-loop μ-loop
+shared-slice-read-if1 c =
+    let c-pre = c .before .before .before .before .before .before .pre in
+    let c-args = c .before .before .before .before .before .before .args in
+    let c-entry = c .before .before .before .before .entry in
+    let h = c-pre in
+    let at = c-entry .ensures in
+    let inside = entry-before-2080 (c .before .before .loop .low) (c-args .high) (omega arith) (omega arith) in
+    omega arith
+
+returns : tie.Need-returns Inv-loop μ-loop
+returns c =
+    let c-pre = c .before .before .before .before .before .before .before .pre in
+    let c-args = c .before .before .before .before .before .before .before .args in
+    let c-entry = c .before .before .before .before .before .entry in
+    let c-loop = c .before .before .before .loop in
+    let h = c-pre in
+    let at = c-args in
+    let value = entry-read (at .table .now) (c-entry .result) (c-loop .low) (at .high) (h .0) (c-entry .ensures .0)
+    (omega arith) (h .1) in
+    let member = c-loop .inv .1 (omega arith) in
+    let least = member-at-most-latest (at .set) (λ p. getD (at .table .now) (entryOf p (at .high)) none) (suc (at .high)) (c-loop .low) (omega arith) member in
+    λ e. omega arith
+
+add-next : tie.Need-add-next Inv-loop μ-loop
+add-next c = omega arith
+
+next-requires-2 : tie.Need-next-requires-2 Inv-loop μ-loop
+next-requires-2 c κs = tt
+
+loop-less : tie.Need-loop-less Inv-loop μ-loop
+loop-less c = let next = c .next2 .ensures .onward (omega arith) in omega arith
+
+loop-again : tie.Need-loop-again Inv-loop μ-loop
+loop-again c = (c .next2 .ensures .within, c .next2 .ensures .found)
+
+returns-2 : tie.Need-returns-2 Inv-loop μ-loop
+returns-2 c = λ e. absurd (true≢false e)
+
+pub row-by-spec : {M : Type 1} → statement M
+row-by-spec =
+    tie.close
+    (tie.spec
+    Inv-loop
+    μ-loop
+    entry-requires
+    next-requires
+    loop-holds
+    cast-if1
+    add-if1
+    mul-if1
+    shared-slice-read-if1
+    returns
+    add-next
+    next-requires-2
+    loop-less
+    loop-again
+    returns-2)
