@@ -1,15 +1,12 @@
 //! Times the proved calls beside the plain ones, on the same inputs in one run, and compares their answers.
 mod days;
 mod plain;
+#[allow(dead_code)]
+#[path = "../examples/ruhkevois.rs"]
+mod ruhkevois;
+use ruhkevois::Answer;
 use std::hint::black_box;
 use std::time::Instant;
-
-extern "C" {
-    fn ruhkevois_bench_read(file: *const u8, length: usize) -> u64;
-    fn ruhkevois_bench_rewrite(file: *const u8, length: usize, out: *mut u8, room: usize) -> u64;
-    fn ruhkevois_bench_check(file: *const u8, length: usize, plan: *const u8, bytes: usize) -> u64;
-    fn ruhkevois_bench_earliest(file: *const u8, length: usize, set: u64) -> u64;
-}
 
 /// The largest job: 64 facts, 4 pools, 4 stores, 64 actions; action i adds fact i and needs fact i - 1.
 fn largest() -> Vec<u8> {
@@ -43,7 +40,7 @@ fn long_plan() -> Vec<u8> {
     (0..32u16).flat_map(|i| { let t = (i * 45).to_le_bytes(); [i as u8, t[0], t[1]] }).collect()
 }
 
-fn nanos<F: FnMut() -> u64>(rounds: u32, mut f: F) -> f64 {
+fn nanos<T, F: FnMut() -> T>(rounds: u32, mut f: F) -> f64 {
     let mut best = f64::MAX;
     for _ in 0..5 {
         let start = Instant::now();
@@ -55,16 +52,17 @@ fn nanos<F: FnMut() -> u64>(rounds: u32, mut f: F) -> f64 {
     best
 }
 
-fn earliest(file: &[u8], set: u64) -> u64 {
-    unsafe { ruhkevois_bench_earliest(file.as_ptr(), file.len(), set) }
+/// An answer without steps.
+fn done(end: usize) -> Answer {
+    Answer::Done { end: end as u32, steps: 0 }
 }
 
 /// The plain answer as the proved call tells it.
-fn plain_earliest(job: &plain::Job, set: u64) -> u64 {
+fn plain_earliest(job: &plain::Job, set: u64) -> Answer {
     match plain::earliest(job, set) {
-        Ok(Some(time)) => time as u64,
-        Ok(None) => 1_000_000,
-        Err(number) => 2_000_000 + number,
+        Ok(Some(time)) => done(time as usize),
+        Ok(None) => Answer::Unreachable,
+        Err(number) => Answer::Refused(number as u8),
     }
 }
 
@@ -75,15 +73,15 @@ fn compare(job: &plain::Job, r: &mut days::Random) {
     sets.extend((0..job.facts).map(|q| 1 << q));
     sets.extend((0..8).map(|_| r.next() >> (64 - job.facts.max(1))));
     for set in sets {
-        assert_eq!(earliest(&file, set), plain_earliest(job, set));
+        assert_eq!(ruhkevois::earliest(&file, set), plain_earliest(job, set));
     }
 }
 
 /// Times the earliest time of a job's goal.
 fn time_goal(what: &str, rounds: u32, job: &plain::Job) {
     let file = days::file(job);
-    assert_eq!(earliest(&file, job.goal), plain_earliest(job, job.goal));
-    let proved = nanos(rounds, || earliest(black_box(&file), job.goal));
+    assert_eq!(ruhkevois::earliest(&file, job.goal), plain_earliest(job, job.goal));
+    let proved = nanos(rounds, || ruhkevois::earliest(black_box(&file), job.goal));
     let plain = nanos(rounds, || plain_earliest(black_box(job), job.goal));
     row(what, proved, plain);
 }
@@ -123,25 +121,21 @@ fn main() {
     let file = largest();
     let plan = long_plan();
     let mut out = vec![0u8; 4096];
-    let read = |f: &[u8]| unsafe { ruhkevois_bench_read(f.as_ptr(), f.len()) };
-    let rewrite =
-        |f: &[u8], o: &mut [u8]| unsafe { ruhkevois_bench_rewrite(f.as_ptr(), f.len(), o.as_mut_ptr(), o.len()) };
-    let check = |f: &[u8], p: &[u8]| unsafe { ruhkevois_bench_check(f.as_ptr(), f.len(), p.as_ptr(), p.len()) };
-    assert_eq!(read(&file), 64);
-    assert_eq!(rewrite(&file, &mut out), file.len() as u64);
+    assert_eq!(ruhkevois::read(&file), done(file.len()));
+    assert_eq!(ruhkevois::rewrite(&file, &mut out), done(file.len()));
     assert_eq!(&out[..file.len()], &file[..]);
-    assert_eq!(check(&file, &plan), 1440);
+    assert_eq!(ruhkevois::check(&file, &plan), done(1440));
     let job = plain::read(&file).ok().unwrap();
     assert_eq!(plain::check(&job, &plan), Ok(1440));
     println!("| call | proved, µs | plain Rust, µs | ratio |");
     println!("|---|---|---|---|");
-    let r = nanos(2000, || read(black_box(&file)));
+    let r = nanos(2000, || ruhkevois::read(black_box(&file)));
     let r0 = nanos(2000, || plain::read(black_box(&file)).ok().unwrap().actions.len() as u64);
     row("read the largest file (3,715 bytes)", r, r0);
-    let w = nanos(2000, || rewrite(black_box(&file), black_box(&mut out)));
+    let w = nanos(2000, || ruhkevois::rewrite(black_box(&file), black_box(&mut out)));
     let w0 = nanos(2000, || plain::write(black_box(&job), black_box(&mut out)).unwrap() as u64);
     row("write it", w - r, w0);
-    let c = nanos(500, || check(black_box(&file), black_box(&plan)));
+    let c = nanos(500, || ruhkevois::check(black_box(&file), black_box(&plan)));
     let c0 = nanos(500, || plain::check(black_box(&job), black_box(&plan)).unwrap());
     row("check a plan of 32 steps over 1,440 minutes", c - r, c0);
     earliest_times();

@@ -1,0 +1,86 @@
+-- The two ways out of each call: the file is refused, or the inner call has answered of the job in it.
+-- Assumes nothing.
+use Prim.Native.Nat.{ℕ}
+use mathlib.Core.Path.{_≡_, refl, sym, ap, _∙_, subst}
+use mathlib.Core.List.{List}
+use lib.ListN.{length}
+use Rattle.job.specs.Job.{jobIn}
+use Rattle.job.specs.declared.refusal.Refusal.{Refusal}
+use Rattle.job.specs.declared.refusal.Verdict.{Verdict}
+use Rattle.job.specs.declared.refusal.Verdict.the-variants.{Pass, Refused}
+use Rattle.jobfile.specs.declared.Reading.{Reading}
+use Rattle.jobfile.specs.declared.Written.{Written}
+use Rattle.jobfile.specs.Answers.{readFile, writeFile, leftByWrite}
+use Rattle.checker.specs.declared.Checked.{Checked}
+use Rattle.checker.specs.Check.{checkPlan}
+use Rattle.earliest.specs.declared.EarliestTime.{EarliestTime}
+use Rattle.earliest.specs.Answer.{Answers}
+use Rattle.planner.specs.declared.Planned.{Planned}
+use Rattle.planner.specs.Plan.{Plans}
+use Rattle.calls.specs.Answer.{done, refusal, writtenNumber, checkedNumber, timeNumber, plannedNumber}
+use Rattle.calls.specs.Calls.{jobOf, unlessRefused, keptIfRefused, EarliestBy, PlanBy}
+use Rattle.calls.specs.Calls.{readAnswer, checkAnswer, rewriteAnswer, leftByRewrite, EarliestAnswers, PlanAnswers}
+
+module _ (file : List ℕ) (reading : Reading) (same : reading ≡ readFile file) where
+  -- what the reading's verdict says is the file's
+  pub verdict-of-file : (v : Verdict) → reading .verdict ≡ v → readFile file .verdict ≡ v
+  verdict-of-file v h = sym (ap (λ (x : Reading). x .verdict) same) ∙ h
+
+  module _ (why : Refusal) (h : reading .verdict ≡ Refused why) where
+    refused : readFile file .verdict ≡ Refused why
+    refused = verdict-of-file (Refused why) h
+
+    pub file-refused : (answer : ℕ) → refusal why ≡ unlessRefused (readFile file .verdict) answer
+    file-refused answer = sym (ap (λ (v : Verdict). unlessRefused v answer) refused)
+
+    pub slice-kept : (slice after : List ℕ) → slice ≡ keptIfRefused (readFile file .verdict) slice after
+    slice-kept slice after = sym (ap (λ (v : Verdict). keptIfRefused v slice after) refused)
+
+    pub earliest-refused : (set r : ℕ) → r ≡ refusal why → EarliestAnswers file set r
+    earliest-refused set r told = subst (λ (v : Verdict). EarliestBy v (jobOf file) set r) (sym refused) told
+
+    pub plan-refused : (slice : List ℕ) (r : ℕ) → r ≡ refusal why → PlanAnswers file slice r slice
+    plan-refused slice r told = subst (λ (v : Verdict). PlanBy v (jobOf file) slice r slice) (sym refused) (told, refl)
+
+  module _ (h : reading .verdict ≡ Pass) where
+    accepted : readFile file .verdict ≡ Pass
+    accepted = verdict-of-file Pass h
+
+    file-accepted : (answer : ℕ) → answer ≡ unlessRefused (readFile file .verdict) answer
+    file-accepted answer = sym (ap (λ (v : Verdict). unlessRefused v answer) accepted)
+
+    pub read-accepted : done (length file) 0 ≡ readAnswer file
+    read-accepted = file-accepted (done (length file) 0)
+
+    pub check-accepted : (plan : List ℕ) (answer : Checked) → answer ≡ checkPlan (jobIn (reading .job)) plan
+        → checkedNumber answer ≡ checkAnswer file plan
+    check-accepted plan answer told =
+        ap checkedNumber told
+        ∙ ap (λ (x : Reading). checkedNumber (checkPlan (jobIn (x .job)) plan)) same
+        ∙ file-accepted (checkedNumber (checkPlan (jobOf file) plan))
+
+    pub rewrite-accepted : (slice : List ℕ) (answer : Written) → answer ≡ writeFile (jobIn (reading .job)) slice
+        → writtenNumber answer ≡ rewriteAnswer file slice
+    rewrite-accepted slice answer told =
+        ap writtenNumber told
+        ∙ ap (λ (x : Reading). writtenNumber (writeFile (jobIn (x .job)) slice)) same
+        ∙ file-accepted (writtenNumber (writeFile (jobOf file) slice))
+
+    pub left-accepted : (slice after : List ℕ) → after ≡ leftByWrite (jobIn (reading .job)) slice
+        → after ≡ leftByRewrite file slice
+    left-accepted slice after told =
+        told
+        ∙ ap (λ (x : Reading). leftByWrite (jobIn (x .job)) slice) same
+        ∙ sym (ap (λ (v : Verdict). keptIfRefused v slice (leftByWrite (jobOf file) slice)) accepted)
+
+    pub earliest-accepted : (set : ℕ) (answer : EarliestTime) (r : ℕ) → Answers (jobIn (reading .job)) set answer
+        → r ≡ timeNumber answer → EarliestAnswers file set r
+    earliest-accepted set answer r told number =
+        subst (λ (v : Verdict). EarliestBy v (jobOf file) set r) (sym accepted)
+        (answer, subst (λ (x : Reading). Answers (jobIn (x .job)) set answer) same told, number)
+
+    pub plan-accepted : (slice after : List ℕ) (answer : Planned) (r : ℕ)
+        → Plans (jobIn (reading .job)) slice answer after → r ≡ plannedNumber answer → PlanAnswers file slice r after
+    plan-accepted slice after answer r told number =
+        subst (λ (v : Verdict). PlanBy v (jobOf file) slice r after) (sym accepted)
+        (answer, subst (λ (x : Reading). Plans (jobIn (x .job)) slice answer after) same told, number)

@@ -1,0 +1,70 @@
+-- Every number that a call packs fits its bits: files are short, plans have few steps.
+-- Assumes nothing.
+use Prim.Native.Nat.{ℕ, _≤_}
+use mathlib.Core.Path.{_≡_, refl, sym, ap, _∙_}
+use mathlib.Core.List.{List}
+use native.Mathlib.Nat.{mul-le-mul}
+use native.Mathlib.Omega.{arith}
+use lib.ListN.{length}
+use lib.Dec.{ltb}
+use borrow.Author.Tests.{ltb-false}
+use Rattle.lists.proofs.Bools.{or-right}
+use Rattle.job.specs.Job.{Job, jobIn}
+use Rattle.job.specs.Refusal.{first}
+use Rattle.job.specs.Valid.{over, jobRows}
+use Rattle.job.specs.declared.Job as held
+use Rattle.job.specs.declared.refusal.Verdict.{Verdict}
+use Rattle.job.specs.declared.refusal.Verdict.the-variants.{Pass, Refused}
+use Rattle.job.proofs.Passed.{Passed, passed}
+use Rattle.job.proofs.Table.{first-pass, pass-of-append}
+use Rattle.job.proofs.Values.{Shape, job-in-shape}
+use Rattle.jobfile.specs.declared.Written.{Written}
+use Rattle.jobfile.specs.declared.Written.the-variants as written
+use Rattle.jobfile.specs.File.{fileOf, decoded, fileRows, actionSize}
+use Rattle.jobfile.specs.Answers.{readRows, readingOf, readFile, writeRows, writtenOf, writeFile}
+use Rattle.jobfile.proofs.Lengths.{length-file}
+use Rattle.planner.specs.declared.Planned.{Planned}
+use Rattle.planner.specs.Plan.{Plans}
+use Rattle.planner.proofs.Shortest.{plan-is-shortest}
+use Rattle.calls.specs.Answer.{ShortFile, FewSteps}
+
+verdict-read : (v : Verdict) (J : Job) → readingOf v J .verdict ≡ v
+verdict-read Pass J = refl
+verdict-read (Refused why) J = refl
+
+-- a file that is accepted passes test 1
+pub accepted-file-is-short : (file : List ℕ) → readFile file .verdict ≡ Pass → length file ≤ 4096
+unfolding readFile readRows fileRows
+accepted-file-is-short file h =
+    let passes = sym (verdict-read (first (readRows file)) (decoded file)) ∙ h in
+    let size = first-pass _ _ _ passes .0 in
+    ltb-false 4096 (length file) (or-right (ltb (length file) 16) (over 4096 (length file)) size)
+
+-- 64 actions of 57 bytes, and 67 bytes more
+file-fits : (J : Job) → Shape J → Passed J → length (fileOf J) ≤ 4096
+file-fits J shape within =
+    let p = within .fewPools in
+    let s = within .fewStores in
+    let one : actionSize (length (J .pools)) (length (J .stores)) ≤ 57 = omega arith in
+    let all = mul-le-mul {n₂ = 64} {m₂ = 57} (within .fewActions) one in
+    let l = length-file J shape in
+    omega arith
+
+length-told : (v : Verdict) (J : Job) (n : ℕ) → writtenOf v J ≡ written.Length n
+    → (v ≡ Pass) × (length (fileOf J) ≡ n)
+length-told Pass J n h = (refl, cc)
+length-told (Refused why) J n h = (cc, cc)
+
+pub written-file-is-short : (job : held.Job) (slice : List ℕ) (answer : Written) → answer ≡ writeFile (jobIn job) slice
+    → ShortFile answer
+unfolding writeFile writeRows
+written-file-is-short job slice answer told n same =
+    let J = jobIn job in
+    let w = length-told (first (writeRows J slice)) J n (sym told ∙ same) in
+    let fits = file-fits J (job-in-shape job) (passed J (pass-of-append (jobRows J) _ (w .0) .0)) in
+    let size = w .1 in
+    omega arith
+
+pub planned-steps-are-few : (J : Job) (slice : List ℕ) (answer : Planned) (after : List ℕ) → Plans J slice answer after
+    → FewSteps answer
+planned-steps-are-few J slice answer after plans e n same = plan-is-shortest J slice answer after plans e n same .1

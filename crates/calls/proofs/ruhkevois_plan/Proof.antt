@@ -1,0 +1,60 @@
+-- `ruhkevois_plan` meets its contract: the file is refused, or the planner has answered.
+-- Assumes nothing.
+use Rattle.job.specs.Job.{jobIn}
+use Rattle.calls.proofs.Fitting.{planned-steps-are-few}
+use Rattle.calls.proofs.CallLaws.{plan-refused, plan-accepted}
+use borrow.Author.Needs.{needs}
+use Rattle.calls.proofs.ruhkevois_plan.Statement.{statement}
+use Rattle.calls.proofs.ruhkevois_plan.Tie as tie
+
+read-requires : tie.Need-read-requires
+read-requires c κs = search needs
+
+enum-known-verdict : tie.Need-enum-known-verdict
+enum-known-verdict c = search needs
+
+refused-requires : tie.Need-refused-requires
+refused-requires c κs = search needs
+
+returns : tie.Need-returns
+returns c =
+    let c-read = c .before .before .before .before .read in
+    plan-refused _ _ (c-read .ensures) _ (c .before .before .verdict .given .1) _ _ (c .refused .ensures)
+
+enum-told : tie.Need-enum-told
+enum-told c = search needs
+
+plan-requires : tie.Need-plan-requires
+plan-requires c κs = search needs
+
+planned-requires : tie.Need-planned-requires
+planned-requires c κs =
+    let at8 = c .before .before .before .before .before .before .before .before in
+    let c-args = at8 .before .args in
+    let c-read = c .before .before .before .before .before .before .read in
+    let c-plan = c .before .before .plan in
+    planned-steps-are-few (jobIn (c-read .result .job)) (c-args .out .now) (c-plan .result) _ (c-plan .ensures)
+
+same-length : tie.Need-same-length
+same-length c = search needs
+
+returns-2 : tie.Need-returns-2
+returns-2 c =
+    let c-read = c .before .before .before .before .before .before .before .read in
+    let c-enum-told = c .before .before .before .before .before .enum-told in
+    let c-plan = c .before .before .before .plan in
+    plan-accepted _ _ (c-read .ensures) (c-enum-told .given .1) _ _ _ _ (c-plan .ensures) (c .planned .ensures)
+
+pub ruhkevois-plan-spec : {M : Type 1} → statement M
+ruhkevois-plan-spec =
+    tie.close
+    (tie.spec
+    read-requires
+    enum-known-verdict
+    refused-requires
+    returns
+    enum-told
+    plan-requires
+    planned-requires
+    same-length
+    returns-2)

@@ -1,0 +1,57 @@
+-- An answer as one number, packed the same way for every call.
+-- Assumes nothing.
+use Prim.Native.Nat.{ℕ, _+_, _*_, _≤_}
+use mathlib.Core.Path.{_≡_}
+use Rattle.job.specs.Refusal.{number}
+use Rattle.job.specs.declared.refusal.Refusal.{Refusal}
+use Rattle.jobfile.specs.declared.Written.{Written}
+use Rattle.jobfile.specs.declared.Written.the-variants as written
+use Rattle.checker.specs.declared.Checked.{Checked}
+use Rattle.checker.specs.declared.Checked.the-variants as checked
+use Rattle.earliest.specs.declared.EarliestTime.{EarliestTime}
+use Rattle.earliest.specs.declared.EarliestTime.the-variants as time
+use Rattle.planner.specs.declared.Planned.{Planned}
+use Rattle.planner.specs.declared.Planned.the-variants as planned
+
+-- the kind in bits 0 to 7, the refusal's number in 8 to 15, the end in 16 to 47, the number of steps in 48 to 63
+unfoldable pub packed : ℕ → ℕ → ℕ → ℕ → ℕ
+packed kind refusal end steps = kind + 256 * refusal + 65536 * end + 281474976710656 * steps
+
+-- the kinds: done, refused, unreachable
+abbrev pub done : ℕ → ℕ → ℕ
+done end steps = packed 0 0 end steps
+
+abbrev pub refusal : Refusal → ℕ
+refusal why = packed 1 (number why) 0 0
+
+abbrev pub unreachable : ℕ
+unreachable = packed 2 0 0 0
+
+-- "the writer returns the file's length"
+abbrev pub writtenNumber : Written → ℕ
+writtenNumber (written.Length n) = done n 0
+writtenNumber (written.Refused why) = refusal why
+
+-- "the checker returns the end"
+abbrev pub checkedNumber : Checked → ℕ
+checkedNumber (checked.Ends e) = done e 0
+checkedNumber (checked.Refused why) = refusal why
+
+-- "a time is a number or 'unreachable'"
+abbrev pub timeNumber : EarliestTime → ℕ
+timeNumber (time.At x) = done x 0
+timeNumber time.Unreachable = unreachable
+timeNumber (time.Refused why) = refusal why
+
+-- "the planner returns the end and number of steps"
+abbrev pub plannedNumber : Planned → ℕ
+plannedNumber (planned.Ends e n) = done e n
+plannedNumber (planned.Refused why) = refusal why
+
+-- ---- what inner functions ask: the numbers fit their bits
+
+abbrev pub ShortFile : Written → Type 0
+ShortFile answer = (n : ℕ) → answer ≡ written.Length n → n ≤ 4096
+
+abbrev pub FewSteps : Planned → Type 0
+FewSteps answer = (e n : ℕ) → answer ≡ planned.Ends e n → n ≤ 32

@@ -1,0 +1,59 @@
+-- What the calls answer, and what they leave in a lent slice: a file that is refused is answered first; otherwise the
+-- promise of the inner call, of the job that reading gives.
+-- Assumes nothing.
+use Prim.Native.Nat.{ℕ}
+use mathlib.Core.Path.{_≡_}
+use mathlib.Core.List.{List}
+use lib.ListN.{length}
+use Rattle.job.specs.Job.{Job, jobIn}
+use Rattle.job.specs.declared.refusal.Verdict.{Verdict}
+use Rattle.job.specs.declared.refusal.Verdict.the-variants.{Pass, Refused}
+use Rattle.jobfile.specs.Answers.{readFile, writeFile, leftByWrite}
+use Rattle.checker.specs.Check.{checkPlan}
+use Rattle.earliest.specs.declared.EarliestTime.{EarliestTime}
+use Rattle.earliest.specs.Answer.{Answers}
+use Rattle.planner.specs.declared.Planned.{Planned}
+use Rattle.planner.specs.Plan.{Plans}
+use Rattle.calls.specs.Answer.{done, refusal, writtenNumber, checkedNumber, timeNumber, plannedNumber}
+
+-- the job that reading a file gives
+abbrev pub jobOf : List ℕ → Job
+jobOf file = jobIn (readFile file .job)
+
+-- a file that is refused is answered by its refusal
+abbrev pub unlessRefused : Verdict → ℕ → ℕ
+unlessRefused Pass answer = answer
+unlessRefused (Refused why) answer = refusal why
+
+-- a file that is accepted is answered by its length
+abbrev pub readAnswer : List ℕ → ℕ
+readAnswer file = unlessRefused (readFile file .verdict) (done (length file) 0)
+
+abbrev pub checkAnswer : List ℕ → List ℕ → ℕ
+checkAnswer file plan = unlessRefused (readFile file .verdict) (checkedNumber (checkPlan (jobOf file) plan))
+
+abbrev pub rewriteAnswer : List ℕ → List ℕ → ℕ
+rewriteAnswer file slice = unlessRefused (readFile file .verdict) (writtenNumber (writeFile (jobOf file) slice))
+
+-- "no slice changes" after a refusal of the file
+abbrev pub keptIfRefused : Verdict → List ℕ → List ℕ → List ℕ
+keptIfRefused Pass slice after = after
+keptIfRefused (Refused why) slice after = slice
+
+abbrev pub leftByRewrite : List ℕ → List ℕ → List ℕ
+leftByRewrite file slice = keptIfRefused (readFile file .verdict) slice (leftByWrite (jobOf file) slice)
+
+-- the number of an answer of which the inner promise holds
+abbrev pub EarliestBy : Verdict → Job → ℕ → ℕ → Type 0
+EarliestBy Pass J set r = (answer : EarliestTime) × Answers J set answer × (r ≡ timeNumber answer)
+EarliestBy (Refused why) J set r = r ≡ refusal why
+
+abbrev pub EarliestAnswers : List ℕ → ℕ → ℕ → Type 0
+EarliestAnswers file set r = EarliestBy (readFile file .verdict) (jobOf file) set r
+
+abbrev pub PlanBy : Verdict → Job → List ℕ → ℕ → List ℕ → Type 0
+PlanBy Pass J slice r after = (answer : Planned) × Plans J slice answer after × (r ≡ plannedNumber answer)
+PlanBy (Refused why) J slice r after = (r ≡ refusal why) × (after ≡ slice)
+
+abbrev pub PlanAnswers : List ℕ → List ℕ → ℕ → List ℕ → Type 0
+PlanAnswers file slice r after = PlanBy (readFile file .verdict) (jobOf file) slice r after

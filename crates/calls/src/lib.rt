@@ -1,0 +1,151 @@
+// The calls for other languages: a job crosses as the bytes of its file, and each call answers one number, packed the
+// same way: kind, refusal number, end and steps. A file that is refused is answered before anything else is looked at.
+ghost use mathlib.Core.Path.{_≡_};
+ghost use Rattle.calls.specs.Answer.{packed, refusal, checkedNumber, timeNumber};
+ghost use Rattle.calls.specs.Answer.{writtenNumber, ShortFile, plannedNumber, FewSteps};
+ghost use Rattle.calls.specs.Calls.{readAnswer, checkAnswer, rewriteAnswer, leftByRewrite};
+ghost use Rattle.calls.specs.Calls.{EarliestAnswers, PlanAnswers};
+use checker::Checked;
+use earliest::EarliestTime;
+use job::refusal::Refusal;
+use job::refusal::Verdict;
+use job::refusal::number;
+use jobfile::Written;
+use planner::Planned;
+
+// The kinds of answers.
+const DONE: u8 = 0;
+
+const REFUSED: u8 = 1;
+
+const UNREACHABLE: u8 = 2;
+
+// An answer in one number: kind in bits 0 to 7, refusal in 8 to 15, end in 16 to 47, steps in 48 to 63.
+fn pack(kind: u8, refusal: u8, end: u32, steps: u16) -> u64
+    ensures { λ r. ⌜ r ≡ packed kind refusal end steps ⌝ }
+{
+    kind as u64 + 256 * refusal as u64 + 65_536 * end as u64 + 281_474_976_710_656 * steps as u64
+}
+
+// A refusal by its number.
+fn refused(why: Refusal) -> u64
+    ensures { λ r. ⌜ r ≡ refusal why ⌝ }
+{
+    pack(REFUSED, number(why), 0, 0)
+}
+
+// The writer's answer: the file's length.
+fn written(answer: Written) -> u64
+    requires { ⌜ ShortFile answer ⌝ }
+    ensures { λ r. ⌜ r ≡ writtenNumber answer ⌝ }
+{
+    match answer {
+        Written::Length(length) => pack(DONE, 0, length as u32, 0),
+        Written::Refused(why) => refused(why),
+    }
+}
+
+// The checker's answer: the plan's end.
+fn checked(answer: Checked) -> u64
+    ensures { λ r. ⌜ r ≡ checkedNumber answer ⌝ }
+{
+    match answer {
+        Checked::Ends(end) => pack(DONE, 0, end, 0),
+        Checked::Refused(why) => refused(why),
+    }
+}
+
+// An earliest time: the minute, or the kind for unreachable.
+fn told(answer: EarliestTime) -> u64
+    ensures { λ r. ⌜ r ≡ timeNumber answer ⌝ }
+{
+    match answer {
+        EarliestTime::At(minute) => pack(DONE, 0, minute, 0),
+        EarliestTime::Unreachable => pack(UNREACHABLE, 0, 0, 0),
+        EarliestTime::Refused(why) => refused(why),
+    }
+}
+
+// The planner's answer: the plan's end and its number of steps.
+fn planned(answer: Planned) -> u64
+    requires { ⌜ FewSteps answer ⌝ }
+    ensures { λ r. ⌜ r ≡ plannedNumber answer ⌝ }
+{
+    match answer {
+        Planned::Ends(end, steps) => pack(DONE, 0, end, steps as u16),
+        Planned::Refused(why) => refused(why),
+    }
+}
+
+// Whether a job file is accepted: its length, or the first refusal of 1 to 11.
+#[no_mangle]
+pub extern "C" fn ruhkevois_read(file: &[u8]) -> u64
+    ensures { λ r. ⌜ r ≡ readAnswer (now (file .entry)) ⌝ }
+{
+    let reading = reader::read(file);
+    let verdict = reading.verdict;
+    if let Verdict::Refused(why) = verdict {
+        return refused(why);
+    }
+    pack(DONE, 0, file.len() as u32, 0)
+}
+
+// Reads a job file and writes it again to the front of the slice: its length, or the first refusal of 1 to 11 and 23.
+// The bytes behind the file are kept; a refusal changes no byte.
+#[no_mangle]
+pub extern "C" fn ruhkevois_rewrite(file: &[u8], out: &mut [u8]) -> u64
+    ensures { λ r. ⌜ r ≡ rewriteAnswer (now (file .entry)) (now (out .entry)) ⌝ }
+    ensures { λ _. ⌜ now (out .exit) ≡ leftByRewrite (now (file .entry)) (now (out .entry)) ⌝ }
+{
+    let reading = reader::read(file);
+    let verdict = reading.verdict;
+    if let Verdict::Refused(why) = verdict {
+        return refused(why);
+    }
+    let answer = writer::write(reading.job, out);
+    written(answer)
+}
+
+// Whether a plan is accepted for the job of a file: its end, or the first refusal of 1 to 20.
+#[no_mangle]
+pub extern "C" fn ruhkevois_check(file: &[u8], plan: &[u8]) -> u64
+    ensures { λ r. ⌜ r ≡ checkAnswer (now (file .entry)) (now (plan .entry)) ⌝ }
+{
+    let reading = reader::read(file);
+    let verdict = reading.verdict;
+    if let Verdict::Refused(why) = verdict {
+        return refused(why);
+    }
+    let answer = checker::check(reading.job, plan);
+    checked(answer)
+}
+
+// The earliest time of a set of facts in the job of a file: the minute, unreachable, or the first refusal of 1 to 11 and
+// 24.
+#[no_mangle]
+pub extern "C" fn ruhkevois_earliest(file: &[u8], set: u64) -> u64
+    ensures { λ r. ⌜ EarliestAnswers (now (file .entry)) set r ⌝ }
+{
+    let reading = reader::read(file);
+    let verdict = reading.verdict;
+    if let Verdict::Refused(why) = verdict {
+        return refused(why);
+    }
+    let answer = earliest::earliest(reading.job, set);
+    told(answer)
+}
+
+// Writes a shortest plan for the job of a file to the front of the slice: its end and its number of steps, or the first
+// refusal of 1 to 11, 21 and 22. The bytes behind the plan are kept; a refusal changes no byte.
+#[no_mangle]
+pub extern "C" fn ruhkevois_plan(file: &[u8], out: &mut [u8]) -> u64
+    ensures { λ r. ⌜ PlanAnswers (now (file .entry)) (now (out .entry)) r (now (out .exit)) ⌝ }
+{
+    let reading = reader::read(file);
+    let verdict = reading.verdict;
+    if let Verdict::Refused(why) = verdict {
+        return refused(why);
+    }
+    let answer = planner::plan(reading.job, out);
+    planned(answer)
+}
