@@ -1,0 +1,97 @@
+/*
+ * Ruhkevois 0.1.0: shortest field days, with a machine-checked proof. The calls for C.
+ *
+ * Link libcalls.a (`rt staticlib calls` writes target/staticlib/libcalls.a, for x86-64 Linux). No call allocates, keeps
+ * a pointer, reads or writes a file, or has any state: all are safe from several threads at once.
+ *
+ * Slices. A slice is two parameters, a pointer and a number of bytes. The caller owns every slice; a call borrows it
+ * until it returns. Bytes behind a pointer to const are only read. A slice that is written must overlap no other slice
+ * of the same call. A pointer is never null, also where the length is 0. Bad pointers and wrong lengths are the
+ * caller's; any bytes at all are answered, bad ones by a refusal.
+ *
+ * A job crosses as the bytes of its file, at most 4,096 (README.md has the layout). A plan is at most 32 steps of 3
+ * bytes: the action (1 byte), then the start minute (2 bytes, little-endian).
+ *
+ * Answers. Every call answers one number, packed the same way:
+ *
+ *   bits  0 to  7   kind: RUHKEVOIS_DONE, RUHKEVOIS_REFUSED or RUHKEVOIS_UNREACHABLE
+ *   bits  8 to 15   number of the refusal, 1 to 24 (README.md has the table); 0 unless refused
+ *   bits 16 to 47   end: a plan's end, an earliest time, or a file's length; 0 unless done
+ *   bits 48 to 63   number of steps of a plan that was written; 0 otherwise
+ *
+ * Of the refusals that hold, the one with the place first in the table is told. The file is looked at first: where
+ * both the file and the plan, set or slice are bad, the file's refusal (1 to 11) is the answer. A refusal changes no
+ * byte of any slice.
+ */
+#ifndef RUHKEVOIS_H
+#define RUHKEVOIS_H
+
+#include <stddef.h>
+#include <stdint.h>
+
+#ifdef __cplusplus
+extern "C" {
+#endif
+
+#define RUHKEVOIS_VERSION "0.1.0"
+
+/* The kinds of answers. */
+#define RUHKEVOIS_DONE 0
+#define RUHKEVOIS_REFUSED 1
+#define RUHKEVOIS_UNREACHABLE 2
+
+/* The parts of an answer. */
+#define RUHKEVOIS_KIND(answer) ((unsigned)((uint64_t)(answer) & 0xff))
+#define RUHKEVOIS_NUMBER(answer) ((unsigned)((uint64_t)(answer) >> 8 & 0xff))
+#define RUHKEVOIS_END(answer) ((uint32_t)((uint64_t)(answer) >> 16 & 0xffffffff))
+#define RUHKEVOIS_STEPS(answer) ((unsigned)((uint64_t)(answer) >> 48))
+
+/* The most bytes of a job file, of a plan, and the bytes of a step. */
+#define RUHKEVOIS_FILE_BYTES 4096
+#define RUHKEVOIS_PLAN_BYTES 96
+#define RUHKEVOIS_STEP_BYTES 3
+
+/* The action and the start minute of step i of a plan's bytes. */
+#define RUHKEVOIS_ACTION(plan, i) ((unsigned)(plan)[3 * (i)])
+#define RUHKEVOIS_START(plan, i) ((unsigned)(plan)[3 * (i) + 1] | (unsigned)(plan)[3 * (i) + 2] << 8)
+
+/*
+ * Whether a job file is accepted.
+ * Done: end is the file's length. Refused: 1 to 11.
+ */
+uint64_t ruhkevois_read(const uint8_t *file, size_t file_length);
+
+/*
+ * Reads a job file and writes its job again, at the front of `out`: an accepted file comes out byte for byte.
+ * Done: end is the number of bytes written; the bytes of `out` behind them are kept.
+ * Refused: 1 to 11; 23 where `out` is shorter than the file.
+ */
+uint64_t ruhkevois_rewrite(const uint8_t *file, size_t file_length, uint8_t *out, size_t out_length);
+
+/*
+ * Whether a plan is accepted for the job of a file and its goal.
+ * Done: end is the plan's end. Refused: 1 to 11 for the file, then 12 to 20 for the plan.
+ */
+uint64_t ruhkevois_check(const uint8_t *file, size_t file_length, const uint8_t *plan, size_t plan_length);
+
+/*
+ * The earliest time of a set of facts (fact n is bit n): no plan for the job of the file has all of them together before
+ * that minute.
+ * Done: end is the minute, at most 530,400. Unreachable: no plan ever has all of them. Refused: 1 to 11, then 24.
+ */
+uint64_t ruhkevois_earliest(const uint8_t *file, size_t file_length, uint64_t set);
+
+/*
+ * Writes a shortest plan for the job of a file to the front of `out`, which has room for 96 bytes.
+ * Done: end is the plan's end, and no accepted plan ends earlier; steps is its number of steps, three bytes each; the
+ * bytes of `out` behind them are kept.
+ * Refused: 1 to 11 for the file; 21 where `out` has under 96 bytes; 22 where the job has no plan.
+ * The search takes as long as the job demands: README.md says how to bound it.
+ */
+uint64_t ruhkevois_plan(const uint8_t *file, size_t file_length, uint8_t *out, size_t out_length);
+
+#ifdef __cplusplus
+}
+#endif
+
+#endif
