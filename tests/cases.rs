@@ -1,0 +1,251 @@
+//! Random jobs, files and plans, each made from its seed.
+use crate::plain::{self, Action, Job};
+
+/// A generator of numbers, the same for the same seed.
+pub struct Random(u64);
+
+impl Random {
+    pub fn new(seed: u64) -> Random {
+        Random(seed)
+    }
+
+    pub fn next(&mut self) -> u64 {
+        self.0 = self.0.wrapping_add(0x9e37_79b9_7f4a_7c15);
+        let x = (self.0 ^ self.0 >> 30).wrapping_mul(0xbf58_476d_1ce4_e5b9);
+        let x = (x ^ x >> 27).wrapping_mul(0x94d0_49bb_1331_11eb);
+        x ^ x >> 31
+    }
+
+    pub fn below(&mut self, n: u64) -> u64 {
+        self.next() % n
+    }
+
+    pub fn one_in(&mut self, n: u64) -> bool {
+        self.below(n) == 0
+    }
+
+    /// A set of some facts below this number, of so many at most.
+    pub fn set(&mut self, facts: u64, most: u64) -> u64 {
+        let count = if facts == 0 { 0 } else { self.below(most + 1) };
+        (0..count).fold(0, |set, _| set | 1 << self.below(facts))
+    }
+
+    pub fn bytes(&mut self, n: usize) -> Vec<u8> {
+        (0..n).map(|_| self.next() as u8).collect()
+    }
+
+    fn amounts(&mut self, n: usize, below: u64) -> [u32; 4] {
+        let mut out = [0; 4];
+        out[..n].fill_with(|| self.below(below) as u32);
+        out
+    }
+}
+
+/// How large a job may be, how many facts its sets have at most, and how much its pools have.
+pub struct Size {
+    facts: u64,
+    actions: u64,
+    deadline: u64,
+    duration: u64,
+    set: u64,
+    pool: u64,
+    store: u64,
+}
+
+/// A job that the simple planner plans, too.
+pub const SMALL: Size = Size { facts: 7, actions: 6, deadline: 12, duration: 3, set: 2, pool: 8, store: 16 };
+
+/// A job of any size with small sets, in which long plans are accepted.
+pub const ROOMY: Size = Size { facts: 64, actions: 64, deadline: 1440, duration: 60, set: 3, pool: 40, store: 100 };
+
+/// A job of any size with any sets.
+pub const LARGE: Size = Size { facts: 64, actions: 64, deadline: 1440, duration: 255, set: 40, pool: 9, store: 40 };
+
+fn action(r: &mut Random, job: &Job, size: &Size) -> Action {
+    let facts = job.facts as u64;
+    let adds = if facts == 0 { 0 } else { 1 << r.below(facts) } | r.set(facts, size.set / 2);
+    Action {
+        duration: 1 + r.below(size.duration) as u8,
+        needs: r.set(facts, size.set),
+        adds,
+        deletes: r.set(facts, size.set / 2) & !adds,
+        pools: r.amounts(job.pools, 3),
+        stores: r.amounts(job.stores, 3),
+    }
+}
+
+pub fn job(r: &mut Random, size: &Size) -> Job {
+    let facts = if r.one_in(20) { 0 } else { 1 + r.below(size.facts) };
+    let (pools, stores) = (r.below(5) as usize, r.below(5) as usize);
+    let shortest = if r.one_in(4) { 0 } else { size.deadline * 3 / 4 };
+    let deadline = shortest + r.below(size.deadline - shortest + 1);
+    let mut job = Job {
+        facts: facts as u8,
+        deadline: deadline as u16,
+        start: r.set(facts, size.set),
+        goal: r.set(facts, 1) | r.set(facts, size.set),
+        pools,
+        stores,
+        pool: r.amounts(pools, size.pool),
+        store: r.amounts(stores, size.store),
+        actions: Vec::new(),
+    };
+    let count = if r.one_in(20) { 0 } else { 1 + r.below(size.actions) };
+    job.actions = (0..count).map(|_| action(r, &job, size)).collect();
+    job
+}
+
+/// The file of a job, within the limits or not.
+pub fn file(job: &Job) -> Vec<u8> {
+    let amounts = |xs: &[u32]| xs.iter().flat_map(|x| x.to_le_bytes()).collect::<Vec<u8>>();
+    let mut head = vec![job.facts];
+    head.extend(job.deadline.to_le_bytes());
+    head.extend(job.start.to_le_bytes());
+    head.extend(job.goal.to_le_bytes());
+    let mut actions = Vec::new();
+    for a in &job.actions {
+        actions.push(a.duration);
+        [a.needs, a.adds, a.deletes].iter().for_each(|set| actions.extend(set.to_le_bytes()));
+        actions.extend(amounts(&a.pools[..job.pools]));
+        actions.extend(amounts(&a.stores[..job.stores]));
+    }
+    let bodies = [head, amounts(&job.pool[..job.pools]), amounts(&job.store[..job.stores]), actions];
+    let mut file = Vec::new();
+    let mut at = 16;
+    for body in &bodies {
+        file.extend((at as u16).to_le_bytes());
+        file.extend((body.len() as u16).to_le_bytes());
+        at += body.len();
+    }
+    bodies.iter().for_each(|body| file.extend(body));
+    file
+}
+
+/// A job at a limit or beyond it, for each of the refusals 4 to 11.
+pub fn at_a_limit(r: &mut Random, mut job: Job) -> Job {
+    if job.actions.is_empty() {
+        job.actions.push(Action { duration: 255, ..Action::default() });
+    }
+    let over = [0, 1, 1 + r.below(190)][r.below(3) as usize];
+    let amount = 1_000_000 + over as u32;
+    let foreign = 1 << (job.facts as u64 + over).saturating_sub(1).min(63);
+    let one = r.below(job.actions.len() as u64) as usize;
+    let action = &mut job.actions[one];
+    match r.below(8) {
+        0 => job.facts = 64 + over as u8,
+        1 => job.deadline = 1440 + over as u16,
+        2 => *if r.one_in(2) { &mut job.start } else { &mut job.goal } |= foreign,
+        3 if job.pools > 0 => job.pool[job.pools - 1] = amount,
+        3 if job.stores > 0 => job.store[job.stores - 1] = amount,
+        4 => *[&mut action.needs, &mut action.adds, &mut action.deletes][r.below(3) as usize] |= foreign,
+        5 => (action.adds, action.deletes) = (action.adds | foreign, action.deletes | foreign),
+        6 if job.pools > 0 => action.pools[job.pools - 1] = amount,
+        6 if job.stores > 0 => action.stores[job.stores - 1] = amount,
+        _ => action.duration = action.duration.wrapping_add(over as u8) & 1,
+    }
+    job
+}
+
+/// A file with something wrong, often: cut, lengthened, or with changed bytes, in the contents or anywhere.
+pub fn damage(r: &mut Random, mut file: Vec<u8>) -> Vec<u8> {
+    match r.below(6) {
+        0 => file.truncate(r.below(file.len() as u64 + 1) as usize),
+        1 => file.extend(r.next().to_le_bytes().iter().take(1 + r.below(8) as usize)),
+        2 => file.resize(4090 + r.below(12) as usize, 0),
+        3 => {
+            let at = r.below(16.min(file.len() as u64)) as usize;
+            file[at] = file[at].wrapping_add(r.below(9) as u8).wrapping_sub(4);
+        }
+        _ => {
+            for _ in 0..1 + r.below(3) {
+                let at = r.below(file.len() as u64) as usize;
+                file[at] = [0, 1, 0xff, file[at] ^ 1 << r.below(8), r.next() as u8][r.below(5) as usize];
+            }
+        }
+    }
+    file
+}
+
+/// The contents say other lengths, which still fit the file: bodies that no job has.
+pub fn resize_bodies(r: &mut Random, mut file: Vec<u8>) -> Vec<u8> {
+    let (from, to) = (r.below(4) as usize, r.below(4) as usize);
+    let mut sizes: Vec<u16> = (0..4).map(|k| u16::from_le_bytes([file[4 * k + 2], file[4 * k + 3]])).collect();
+    let moved = r.below(9).min(sizes[from] as u64) as u16;
+    sizes[from] -= moved;
+    sizes[to] += moved;
+    let mut at = 16u16;
+    for k in 0..4 {
+        file[4 * k..4 * k + 2].copy_from_slice(&at.to_le_bytes());
+        file[4 * k + 2..4 * k + 4].copy_from_slice(&sizes[k].to_le_bytes());
+        at += sizes[k];
+    }
+    file
+}
+
+fn bytes_of(steps: &[(u16, u8)]) -> Vec<u8> {
+    steps.iter().flat_map(|s| [s.1, s.0 as u8, (s.0 >> 8) as u8]).collect()
+}
+
+/// Any steps, mostly in order.
+pub fn any_plan(r: &mut Random, job: &Job) -> Vec<u8> {
+    let actions = job.actions.len() as u64 + if r.one_in(4) { 1 } else { 0 };
+    let latest = if r.one_in(20) { 65_536 } else { job.deadline as u64 + 1 };
+    let mut steps: Vec<(u16, u8)> =
+        (0..r.below(if actions == 0 { 2 } else { 6 })).map(|_| (r.below(latest) as u16, r.below(actions.max(1)) as u8)).collect();
+    if !r.one_in(8) {
+        steps.sort();
+        steps.dedup();
+    }
+    bytes_of(&steps)
+}
+
+/// Steps that each keep every rule as they are begun, one after the other or together; at most 32. They may miss the
+/// goal, of which the second answer is the facts that hold at the end.
+pub fn grown_plan(r: &mut Random, job: &Job) -> (Vec<u8>, u64) {
+    let without_goal = |steps: &[(u16, u8)]| plain::check(&Job { goal: 0, ..copy(job) }, &bytes_of(steps));
+    let mut steps: Vec<(u16, u8)> = Vec::new();
+    for _ in 0..r.below(100) {
+        if job.actions.is_empty() || steps.len() == 32 {
+            break;
+        }
+        let last = steps.last().map_or(0, |s| s.0);
+        let action = r.below(job.actions.len() as u64) as u8;
+        let start = last + r.below(1 + job.actions[action as usize].duration as u64) as u16;
+        steps.push((start, action));
+        if without_goal(&steps).is_err() {
+            steps.pop();
+        }
+    }
+    let bytes = bytes_of(&steps);
+    let held = (0..64).filter(|&n| plain::check(&Job { goal: 1 << n, ..copy(job) }, &bytes).is_ok());
+    (bytes.clone(), held.fold(0, |set, n| set | 1 << n))
+}
+
+/// Facts that some plan has together at its end: new ones, where it makes any.
+pub fn reachable_goal(r: &mut Random, job: &Job) -> u64 {
+    let held = (0..4).map(|_| grown_plan(r, job).1).max_by_key(|held| (held & !job.start).count_ones());
+    let new = held.map_or(0, |held| held & !job.start);
+    if r.one_in(2) { new } else { new & r.next() }
+}
+
+/// A plan with a step lost, doubled, moved or exchanged, or with bytes too many.
+pub fn damage_plan(r: &mut Random, mut plan: Vec<u8>) -> Vec<u8> {
+    if plan.is_empty() {
+        return r.bytes(3);
+    }
+    let at = 3 * r.below(plan.len() as u64 / 3) as usize;
+    match r.below(7) {
+        0 => drop(plan.drain(at..at + 3)),
+        1 => plan.extend_from_within(at..at + 3),
+        2 => plan[at + 1] = plan[at + 1].wrapping_add(1),
+        3 => plan[at + 1] = plan[at + 1].wrapping_sub(1),
+        4 => plan[at] ^= 1,
+        5 => plan.truncate(at + 1),
+        _ => plan.resize(96 + r.below(10) as usize, 0),
+    }
+    plan
+}
+
+pub fn copy(job: &Job) -> Job {
+    Job { actions: job.actions.clone(), ..*job }
+}

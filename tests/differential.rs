@@ -1,0 +1,224 @@
+//! Compares the calls with an independent implementation in plain Rust, on random jobs, files, sets and plans, through the
+//! C interface. A difference prints the seed of its case and ends with status 1. Arguments: number of cases, first seed.
+mod cases;
+#[allow(dead_code)]
+#[path = "../bench/plain.rs"]
+mod plain;
+mod simple_planner;
+use cases::Random;
+use plain::Job;
+
+extern "C" {
+    fn ruhkevois_read(file: *const u8, length: usize) -> u64;
+    fn ruhkevois_rewrite(file: *const u8, length: usize, out: *mut u8, room: usize) -> u64;
+    fn ruhkevois_check(file: *const u8, length: usize, plan: *const u8, bytes: usize) -> u64;
+    fn ruhkevois_earliest(file: *const u8, length: usize, set: u64) -> u64;
+    fn ruhkevois_plan(file: *const u8, length: usize, out: *mut u8, room: usize) -> u64;
+}
+
+const UNREACHABLE: u64 = 2;
+
+fn done(end: u64, steps: u64) -> u64 {
+    end << 16 | steps << 48
+}
+
+fn refused(number: u64) -> u64 {
+    1 | number << 8
+}
+
+/// The answer that the plain version gives.
+fn expected(end: Result<u64, u64>) -> u64 {
+    end.map_or_else(refused, |end| done(end, 0))
+}
+
+/// What was seen: refusals by number (0: done), accepted plans and planned ones by their number of steps.
+struct Seen {
+    refusals: [u64; 25],
+    accepted: [u64; 33],
+    planned: [u64; 33],
+}
+
+/// One case: its seed, and what was seen in all cases.
+struct Case<'a> {
+    seed: u64,
+    seen: &'a mut Seen,
+}
+
+impl Case<'_> {
+    fn differs(&self, what: &str, detail: String) -> ! {
+        println!("seed {}: {what} differs: {detail}", self.seed);
+        println!("again: tests/run 1 {}", self.seed);
+        std::process::exit(1);
+    }
+
+    fn same(&mut self, what: &str, got: u64, want: u64) {
+        if got != want {
+            self.differs(what, format!("got {got:#x}, expected {want:#x}"));
+        }
+        self.seen.refusals[if got & 255 == 1 { (got >> 8 & 255) as usize } else { 0 }] += 1;
+    }
+
+    fn same_bytes(&self, what: &str, got: &[u8], want: &[u8]) {
+        if let Some(at) = (0..want.len()).find(|&i| got[i] != want[i]) {
+            self.differs(what, format!("byte {at} is {}, expected {}", got[at], want[at]));
+        }
+    }
+
+    fn read(&mut self, file: &[u8], job: &Result<Job, u64>) {
+        let answer = unsafe { ruhkevois_read(file.as_ptr(), file.len()) };
+        let want = job.as_ref().map(|_| file.len() as u64).map_err(|n| *n);
+        self.same("read", answer, expected(want));
+    }
+
+    /// Into a slice of this length, between other bytes: all of them are compared.
+    fn rewrite(&mut self, r: &mut Random, file: &[u8], job: &Result<Job, u64>, room: usize) {
+        let mut around = r.bytes(room + 32);
+        let mut want = around.clone();
+        let length = match job {
+            Ok(job) => plain::write(job, &mut want[16..16 + room]).map(|n| n as u64),
+            Err(number) => Err(*number),
+        };
+        let out = &mut around[16..16 + room];
+        let answer = unsafe { ruhkevois_rewrite(file.as_ptr(), file.len(), out.as_mut_ptr(), room) };
+        self.same("rewrite", answer, expected(length));
+        self.same_bytes("rewritten file", &around, &want);
+    }
+
+    fn check(&mut self, file: &[u8], job: &Result<Job, u64>, plan: &[u8]) {
+        let answer = unsafe { ruhkevois_check(file.as_ptr(), file.len(), plan.as_ptr(), plan.len()) };
+        let want = job.as_ref().map_err(|n| *n).and_then(|job| plain::check(job, plan));
+        self.same("check", answer, expected(want));
+        self.seen.accepted[if answer & 255 == 0 { plan.len() / 3 } else { 0 }] += 1;
+    }
+
+    fn earliest(&mut self, file: &[u8], job: &Result<Job, u64>, set: u64) {
+        let answer = unsafe { ruhkevois_earliest(file.as_ptr(), file.len(), set) };
+        let time = job.as_ref().map_err(|n| *n).and_then(|job| plain::earliest(job, set));
+        let want = match time {
+            Ok(None) => UNREACHABLE,
+            Ok(Some(minute)) => done(minute as u64, 0),
+            Err(number) => refused(number),
+        };
+        self.same("earliest", answer, want);
+    }
+
+    /// Plans into a slice of this length, between other bytes; gives the plan, where there is one.
+    fn plan(&mut self, r: &mut Random, file: &[u8], job: &Result<Job, u64>, room: usize) -> Option<Vec<u8>> {
+        let mut around = r.bytes(room + 32);
+        let before = around.clone();
+        let out = &mut around[16..16 + room];
+        let answer = unsafe { ruhkevois_plan(file.as_ptr(), file.len(), out.as_mut_ptr(), room) };
+        let steps = (answer >> 48) as usize;
+        let want = match job {
+            Err(number) => refused(*number),
+            Ok(_) if room < 96 => refused(21),
+            Ok(job) => simple_planner::least_end(job).map_or(refused(22), |end| done(end as u64, steps as u64)),
+        };
+        self.same("plan", answer, want);
+        let written = if answer & 255 == 0 { 3 * steps } else { 0 };
+        self.same_bytes("slice before the plan", &around[..16], &before[..16]);
+        self.same_bytes("slice behind the plan", &around[16 + written..], &before[16 + written..]);
+        let plan = around[16..16 + written].to_vec();
+        let job = job.as_ref().ok().filter(|_| answer & 255 == 0)?;
+        self.same("end of the plan", expected(plain::check(job, &plan)), expected(Ok(answer >> 16 & 0xffff_ffff)));
+        self.seen.planned[steps] += 1;
+        Some(plan)
+    }
+}
+
+/// A slice's length for a file: just long enough, longer, or too short.
+fn some_room(r: &mut Random, length: usize) -> usize {
+    match r.below(3) {
+        0 => length,
+        1 => length + r.below(40) as usize,
+        _ => r.below(length as u64 + 1) as usize,
+    }
+}
+
+fn some_set(r: &mut Random, facts: u64) -> u64 {
+    if r.one_in(8) {
+        r.next()
+    } else {
+        r.set(facts, 4)
+    }
+}
+
+/// Every call on one file, whatever it holds. The planner is called where the file is refused, or the job is small.
+fn every_call(case: &mut Case, r: &mut Random, file: &[u8], is_small: bool) {
+    let job = plain::read(file);
+    case.read(file, &job);
+    let room = some_room(r, file.len());
+    case.rewrite(r, file, &job, room);
+    case.earliest(file, &job, some_set(r, job.as_ref().map_or(64, |job| job.facts as u64)));
+    let plan = job.as_ref().map_or(vec![0; 3], |job| cases::any_plan(r, job));
+    case.check(file, &job, &plan);
+    if is_small || job.is_err() {
+        let room = if r.one_in(8) { r.below(96) } else { 96 + r.below(20) };
+        if let Some(plan) = case.plan(r, file, &job, room as usize) {
+            case.check(file, &job, &cases::damage_plan(r, plan));
+        }
+    }
+}
+
+/// A plan made step by step, with the facts at its end as the goal: accepted; then damaged.
+fn grown_plans(case: &mut Case, r: &mut Random, mut job: Job) {
+    let (plan, held) = cases::grown_plan(r, &job);
+    job.goal = held & r.next();
+    let file = cases::file(&job);
+    let job = Ok(job);
+    case.check(&file, &job, &plan);
+    for _ in 0..4 {
+        case.check(&file, &job, &cases::damage_plan(r, plan.clone()));
+    }
+}
+
+/// A file with a job within the limits, one at a limit or beyond, one that is damaged, or any bytes.
+fn some_file(r: &mut Random, kind: u64, job: Job) -> Vec<u8> {
+    match kind {
+        0 => cases::damage(r, cases::file(&job)),
+        1 => cases::resize_bodies(r, cases::file(&job)),
+        2 => cases::file(&cases::at_a_limit(r, job)),
+        3 => {
+            let longest = if r.one_in(4) { 5000 } else { 100 };
+            let length = r.below(longest) as usize;
+            r.bytes(length)
+        }
+        _ => cases::file(&job),
+    }
+}
+
+fn one_case(case: &mut Case) {
+    let mut r = Random::new(case.seed);
+    let size = r.below(8);
+    let is_small = size > 1;
+    let mut job = cases::job(&mut r, [&cases::LARGE, &cases::ROOMY, &cases::SMALL][size.min(2) as usize]);
+    if is_small && r.one_in(2) {
+        job.goal = cases::reachable_goal(&mut r, &job);
+    }
+    let kind = r.below(10);
+    if kind == 4 {
+        grown_plans(case, &mut r, job);
+    } else {
+        let file = some_file(&mut r, kind, job);
+        every_call(case, &mut r, &file, is_small && kind > 4);
+    }
+}
+
+/// What was seen of each number from 1 on: "number times count".
+fn counts(of: &[u64]) -> String {
+    let seen = (1..of.len()).filter(|&n| of[n] > 0);
+    seen.map(|n| format!("{n} x {}", of[n])).collect::<Vec<String>>().join(", ")
+}
+
+fn main() {
+    let argument = |i: usize, other: u64| std::env::args().nth(i).map_or(other, |x| x.parse().expect("a number"));
+    let (count, first) = (argument(1, 100_000), argument(2, 1));
+    let mut seen = Seen { refusals: [0; 25], accepted: [0; 33], planned: [0; 33] };
+    for seed in first..first + count {
+        one_case(&mut Case { seed, seen: &mut seen });
+    }
+    println!("refusals, by number: {}", counts(&seen.refusals));
+    println!("plans accepted, by steps: {}", counts(&seen.accepted));
+    println!("plans written, by steps: {}", counts(&seen.planned));
+    println!("{count} cases from seed {first}: {} answers, all the same", seen.refusals.iter().sum::<u64>());
+}

@@ -1,0 +1,86 @@
+//! A simple planner: the least end of a plan, by going through every state that plans reach, minute by minute. For small
+//! jobs only. Written from the document alone.
+use crate::plain::{Action, Job};
+use std::collections::HashSet;
+
+const STEPS: u8 = 32;
+
+/// What plans have reached at a minute: the facts that hold, the running actions with the minutes left of each, the
+/// amounts of stores used up, and the number of steps.
+#[derive(Clone, PartialEq, Eq, Hash)]
+struct State {
+    facts: u64,
+    running: Vec<(usize, u8)>,
+    used: [u32; 4],
+    steps: u8,
+}
+
+fn clash(job: &Job, i: usize, k: usize) -> bool {
+    let hinders = |a: &Action, b: &Action| a.deletes & (b.needs | b.adds) != 0;
+    let (a, b) = (&job.actions[i], &job.actions[k]);
+    i == k || hinders(a, b) || hinders(b, a)
+}
+
+/// Whether action i may start in this state, with this many minutes left of the day.
+fn may_start(job: &Job, state: &State, i: usize, left: u16) -> bool {
+    let a = &job.actions[i];
+    let in_use = |k: usize| state.running.iter().map(|r| job.actions[r.0].pools[k]).sum::<u32>();
+    a.needs & !state.facts == 0
+        && a.duration as u16 <= left
+        && state.steps < STEPS
+        && state.running.iter().all(|r| !clash(job, i, r.0))
+        && (0..job.pools).all(|k| in_use(k) + a.pools[k] <= job.pool[k])
+        && (0..job.stores).all(|k| state.used[k] + a.stores[k] <= job.store[k])
+}
+
+fn started(job: &Job, state: &State, i: usize) -> State {
+    let mut next = state.clone();
+    next.running.push((i, job.actions[i].duration));
+    for k in 0..job.stores {
+        next.used[k] += job.actions[i].stores[k];
+    }
+    next.steps += 1;
+    next
+}
+
+/// The state a minute later: what the steps ending then delete goes, and what they add comes.
+fn a_minute_later(job: &Job, state: &State) -> State {
+    let mut next = state.clone();
+    next.running.iter_mut().for_each(|r| r.1 -= 1);
+    let ending: Vec<&Action> = next.running.iter().filter(|r| r.1 == 0).map(|r| &job.actions[r.0]).collect();
+    next.facts &= !ending.iter().fold(0, |set, a| set | a.deletes);
+    next.facts |= ending.iter().fold(0, |set, a| set | a.adds);
+    next.running.retain(|r| r.1 > 0);
+    next.running.sort();
+    next
+}
+
+/// Every state that starting any of the actions from i on leads to, a minute later.
+fn go_on(job: &Job, state: &State, i: usize, left: u16, into: &mut HashSet<State>) {
+    if i == job.actions.len() {
+        into.insert(a_minute_later(job, state));
+        return;
+    }
+    go_on(job, state, i + 1, left, into);
+    if may_start(job, state, i, left) {
+        go_on(job, &started(job, state, i), i + 1, left, into);
+    }
+}
+
+/// The least end of a plan that reaches the goal by the deadline, if there is one. Waiting changes nothing, so the first
+/// minute at which the goal holds and nothing runs is a plan's end.
+pub fn least_end(job: &Job) -> Option<u16> {
+    let begin = State { facts: job.start, running: Vec::new(), used: [0; 4], steps: 0 };
+    let mut states = HashSet::from([begin]);
+    for minute in 0..=job.deadline {
+        if states.iter().any(|s| s.running.is_empty() && job.goal & !s.facts == 0) {
+            return Some(minute);
+        }
+        let mut next = HashSet::new();
+        for state in &states {
+            go_on(job, state, 0, job.deadline - minute, &mut next);
+        }
+        states = next;
+    }
+    None
+}
