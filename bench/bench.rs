@@ -2,8 +2,13 @@
 mod days;
 mod plain;
 #[allow(dead_code)]
+#[path = "../tests/cases.rs"]
+mod cases;
+#[allow(dead_code)]
 #[path = "../examples/ruhkevois.rs"]
 mod ruhkevois;
+#[path = "../tests/simple_planner.rs"]
+mod simple_planner;
 use ruhkevois::Answer;
 use std::hint::black_box;
 use std::time::Instant;
@@ -103,6 +108,33 @@ fn earliest_times() {
     time_goal("earliest time, all reachable and falling", 1, &days::falling());
 }
 
+/// A small random job with a goal that some plan reaches.
+fn small_job(r: &mut cases::Random) -> plain::Job {
+    let mut job = cases::job(r, &cases::SMALL);
+    job.goal = cases::reachable_goal(r, &job);
+    job
+}
+
+/// Compares and times the search on small jobs with plans of three steps or more, beside a planner that goes through every
+/// state. `bench/plan` times the search on days of full size.
+fn search() {
+    let mut r = cases::Random::new(1);
+    let mut plan = [0; 96];
+    let mut jobs = Vec::new();
+    while jobs.len() < 50 {
+        let job = small_job(&mut r);
+        let file = cases::file(&job);
+        let answer = ruhkevois::plan(&file, &mut plan);
+        if let Answer::Done { end, steps: 3.. } = answer {
+            assert_eq!(Some(end as u16), simple_planner::least_end(&job));
+            jobs.push((job, file));
+        }
+    }
+    let proved = nanos(3, || jobs.iter().map(|(_, file)| ruhkevois::plan(file, &mut plan)).last());
+    let plain = nanos(3, || jobs.iter().map(|(job, _)| simple_planner::least_end(job)).last());
+    row("plan 50 small jobs (plain: by going through every state)", proved, plain);
+}
+
 /// Times the earliest time of the goal for each job file in a folder.
 fn earliest_times_of(folder: &str) {
     let mut paths: Vec<_> = std::fs::read_dir(folder).unwrap().map(|f| f.unwrap().path()).collect();
@@ -139,6 +171,7 @@ fn main() {
     let c0 = nanos(500, || plain::check(black_box(&job), black_box(&plan)).unwrap());
     row("check a plan of 32 steps over 1,440 minutes", c - r, c0);
     earliest_times();
+    search();
     if let Some(folder) = std::env::args().nth(1) {
         earliest_times_of(&folder);
     }
