@@ -17,13 +17,15 @@ use Rattle.planner.specs.declared.Planned.the-variants as planned
 unfoldable pub packed : ℕ → ℕ → ℕ → ℕ → ℕ
 packed kind refusal end steps = kind + 256 * refusal + 65536 * end + 281474976710656 * steps
 
--- the kinds: done, refused, unreachable
+-- kind 0: done, with an end (or a time, or a length) and a number of steps
 abbrev pub done : ℕ → ℕ → ℕ
 done end steps = packed 0 0 end steps
 
+-- kind 1: refused, "alone": the other parts are 0
 abbrev pub refusal : Refusal → ℕ
 refusal why = packed 1 (number why) 0 0
 
+-- kind 2: a set of facts that is unreachable
 abbrev pub unreachable : ℕ
 unreachable = packed 2 0 0 0
 
@@ -50,8 +52,10 @@ plannedNumber (planned.Refused why) = refusal why
 
 -- ---- what inner functions ask: the numbers fit their bits
 
+-- a file has at most 4,096 bytes
 abbrev pub ShortFile : Written → Type 0
 ShortFile answer = (n : ℕ) → answer ≡ written.Length n → n ≤ 4096
 
+-- a plan has at most 32 steps
 abbrev pub FewSteps : Planned → Type 0
 FewSteps answer = (e n : ℕ) → answer ≡ planned.Ends e n → n ≤ 32

@@ -29,9 +29,11 @@ unlessRefused (Refused why) answer = refusal why
 abbrev pub readAnswer : List ℕ → ℕ
 readAnswer file = unlessRefused (readFile file .verdict) (done (length file) 0)
 
+-- the checker's answer to the job of the file and the plan
 abbrev pub checkAnswer : List ℕ → List ℕ → ℕ
 checkAnswer file plan = unlessRefused (readFile file .verdict) (checkedNumber (checkPlan (jobOf file) plan))
 
+-- the writer's answer to the job of the file and the slice
 abbrev pub rewriteAnswer : List ℕ → List ℕ → ℕ
 rewriteAnswer file slice = unlessRefused (readFile file .verdict) (writtenNumber (writeFile (jobOf file) slice))
 
@@ -40,20 +42,24 @@ abbrev pub keptIfRefused : Verdict → List ℕ → List ℕ → List ℕ
 keptIfRefused Pass slice after = after
 keptIfRefused (Refused why) slice after = slice
 
+-- what the writer leaves in the slice
 abbrev pub leftByRewrite : List ℕ → List ℕ → List ℕ
 leftByRewrite file slice = keptIfRefused (readFile file .verdict) slice (leftByWrite (jobOf file) slice)
 
--- the number of an answer of which the inner promise holds
+-- the number of a time of which the promise of earliest times holds
 abbrev pub EarliestBy : Verdict → Job → ℕ → ℕ → Type 0
 EarliestBy Pass J set r = (answer : EarliestTime) × Answers J set answer × (r ≡ timeNumber answer)
 EarliestBy (Refused why) J set r = r ≡ refusal why
 
+-- the answer to a file and a set
 abbrev pub EarliestAnswers : List ℕ → ℕ → ℕ → Type 0
 EarliestAnswers file set r = EarliestBy (readFile file .verdict) (jobOf file) set r
 
+-- the number of a planner's answer of which its promise holds, with the bytes left in the slice
 abbrev pub PlanBy : Verdict → Job → List ℕ → ℕ → List ℕ → Type 0
 PlanBy Pass J slice r after = (answer : Planned) × Plans J slice answer after × (r ≡ plannedNumber answer)
 PlanBy (Refused why) J slice r after = (r ≡ refusal why) × (after ≡ slice)
 
+-- the answer to a file and a slice, and every byte that the slice then holds
 abbrev pub PlanAnswers : List ℕ → List ℕ → ℕ → List ℕ → Type 0
 PlanAnswers file slice r after = PlanBy (readFile file .verdict) (jobOf file) slice r after
