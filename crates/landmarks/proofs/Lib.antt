@@ -3,3 +3,5 @@ pub mod Sums
 pub mod DeadEnds
 pub mod TableLaws
 pub mod ShareLaws
+pub mod CliqueLaws
+pub mod CliqueTables

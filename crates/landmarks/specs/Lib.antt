@@ -1,2 +1,3 @@
 pub mod Landmarks
 pub mod Tables
+pub mod Cliques

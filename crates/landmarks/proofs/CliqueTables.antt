@@ -1,0 +1,244 @@
+-- Cliques in the tables: what the tables say of the job that they describe, and how they are filled.
+-- Assumes nothing.
+use Prim.Native.Nat.{ℕ, _+_, _*_, _≤_, _<_}
+use mathlib.Core.Path.{_≡_, sym, ap, _∙_}
+use mathlib.Core.Bool.{Bool, true, false, cond, not, _&&_}
+use mathlib.Core.Logic.{inl, inr, ⊎-elim}
+use mathlib.Core.List.{List}
+use native.Mathlib.Nat.{eq-or-lt-of-le}
+use native.Mathlib.Omega.{arith}
+use lib.Bits.{bitAnd, and-le-r}
+use lib.ListN.{length, getD, set}
+use lib.Seq.{getD-set-same, getD-set-other}
+use borrow.Author.Tests.{eqb-true}
+use Rattle.lists.proofs.Bools.{and-left, and-right}
+use Rattle.facts.specs.FactSet.{has, Members, union, difference, subset, Subset, single, NextFact}
+use Rattle.facts.proofs.Membership.{subset-decides}
+use Rattle.facts.proofs.SetLaws.{in-union-left, in-union-right, in-difference-parts}
+use Rattle.job.specs.Job.{Job}
+use Rattle.timeline.proofs.Tests.{not-both, false-unless, decided, trichotomy}
+use Rattle.times.proofs.Singles.{in-single}
+use Rattle.tables.specs.Tables.{addsAt, durationAt, DescribesEach}
+use Rattle.landmarks.specs.Tables.{KeptBefore}
+use Rattle.landmarks.specs.Cliques.{NeverOverlap, Cliques, apartAt, leastAt, Exclude, ApartTo, LeastTo, CliquesAt}
+use Rattle.landmarks.specs.Cliques.{Outside, Lessened, LeastPut, Remaining}
+use Rattle.landmarks.proofs.TableLaws.{kept-at-first, kept-when-set}
+
+module _ (J : Job) (sets numbers : List ℕ) (actions pools : ℕ) (available : List ℕ)
+    (count : length (J .actions) ≡ actions) (described : DescribesEach J sets numbers actions)
+    (poolCount : length (J .pools) ≡ pools)
+    (amounts : (pool : ℕ) → pool < pools → getD available pool 0 ≡ getD (J .pools) pool 0) where
+  never-when-excluded : (i j : ℕ) → i < actions → j < actions → Exclude sets numbers pools available i j
+      → NeverOverlap J i j
+  never-when-excluded i j first second exclude =
+      record {
+        different = exclude .different;
+        why = ⊎-elim (λ clash. inl (sym (described i first .clash j (omega arith)) ∙ clash))
+            (λ exceeds.
+            let inside = exceeds .1 in
+            let more = exceeds .2 in
+            let known : exceeds .0 < length (J .pools) = omega arith in
+            let use-first = described i first .pools (exceeds .0) known in
+            let use-second = described j second .pools (exceeds .0) known in
+            let amount = amounts (exceeds .0) inside in
+            inr (exceeds .0, known, omega arith))
+            (exclude .why);
+      }
+
+  pub cliques-of-tables : CliquesAt sets numbers pools available actions → Cliques J 64 (apartAt sets) (leastAt numbers)
+  cliques-of-tables tables =
+      record {
+        exclusive = λ q p i j below member first second adds addsToo.
+            let known : i < actions = omega arith in
+            let knownToo : j < actions = omega arith in
+            never-when-excluded i j known knownToo
+            (tables .exclusive i q p j known below (ap (λ (set : ℕ). has set q) (described i known .adds) ∙ adds) member
+            knownToo (ap (λ (set : ℕ). has set p) (described j knownToo .adds) ∙ addsToo));
+        shortest = λ q i below first adds.
+            let known : i < actions = omega arith in
+            let adds-q = ap (λ (set : ℕ). has set q) (described i known .adds) ∙ adds in
+            let least = tables .shortest q below i known adds-q in
+            let lasts = described i known .duration in
+            omega arith;
+      }
+
+-- ---- a set put for a fact, others stay
+module _ (ys : List ℕ) (q k v : ℕ) (below : q < 64) where
+  put-here : length ys ≡ 384 → k ≡ q → apartAt (set ys (320 + q) v) k ≡ v
+  put-here size e = rw e (getD-set-same ys (320 + q) v 0 (omega arith))
+
+  put-elsewhere : (k ≡ q → ⊥) → apartAt (set ys (320 + q) v) k ≡ apartAt ys k
+  put-elsewhere e =
+      let other : 320 + k ≡ 320 + q → ⊥ = λ same. e (omega arith) in getD-set-other ys (320 + q) (320 + k) v 0 other
+
+-- ---- taking facts away
+pub lessened-at-first : (from away q : ℕ) (xs : List ℕ) → length xs ≡ 384 → NextFact from 0 q
+    → Lessened q from away xs xs
+lessened-at-first from away q xs size next =
+    record {
+      kept = kept-at-first 320 384 xs size;
+      inside = λ k l p h. h;
+      gone = λ k p l member h. not-both member (next .skipped k (omega arith) l);
+    }
+
+module _ (from away : ℕ) (xs ys : List ℕ) (q v : ℕ) (below : q < 64) (less : v ≡ difference (apartAt ys q) away)
+    (before : Lessened q from away xs ys) where
+  -- what is apart from a fact now was so before, and is not of the set if the fact is q
+  entry-less : (k p : ℕ) → has (apartAt (set ys (320 + q) v) k) p ≡ true
+      → (has (apartAt ys k) p ≡ true) × (k ≡ q → has away p ≡ false)
+  entry-less k p h =
+      ⊎-elim
+      (λ e.
+      let there = ap (λ (s : ℕ). has s p) (sym (put-here ys q k v below (before .kept .size) e ∙ less)) ∙ h in
+      let parts = in-difference-parts (apartAt ys q) away p there in
+      (rw e (parts .0), λ same. parts .1))
+      (λ unlike.
+      let other : k ≡ q → ⊥ = λ e. ⊎-elim (λ l. omega arith) (λ l. omega arith) unlike in
+      (ap (λ (s : ℕ). has s p) (sym (put-elsewhere ys q k v below other)) ∙ h, λ e. absurd (other e)))
+      (trichotomy k q)
+
+  pub lessened-on : (r : ℕ) → NextFact from (q + 1) r → Lessened r from away xs (set ys (320 + q) v)
+  lessened-on r next =
+      record {
+        kept = kept-when-set 320 384 xs ys (320 + q) v (omega arith) (before .kept);
+        inside = λ k l p h. before .inside k l p (entry-less k p h .0);
+        gone = λ k p l member h.
+            let entry = entry-less k p h in
+            ⊎-elim (entry .1)
+            (λ unlike.
+            ⊎-elim (λ lower. before .gone k p lower member (entry .0))
+            (λ higher. not-both member (next .skipped k (omega arith) l)) unlike)
+            (trichotomy k q);
+      }
+
+-- ---- what the actions beside an action add
+module _ (sets numbers : List ℕ) (pools : ℕ) (available : List ℕ) (i : ℕ) where
+  pub outside-at-first : (all : ℕ) → Outside sets numbers pools available i 0 all
+  outside-at-first all j p l = absurd (omega arith)
+
+  pub outside-on : (j : ℕ) (test : Bool) (part all : ℕ) → (test ≡ true → Exclude sets numbers pools available i j)
+      → part ≡ cond (not test) (addsAt sets j) 0 → Outside sets numbers pools available i j all
+      → Outside sets numbers pools available i (j + 1) (union part all)
+  outside-on j test part all excludes is before k p l adds out =
+      ⊎-elim
+      (λ e.
+      let same : k ≡ j = omega arith in
+      rw same
+      (⊎-elim excludes
+      (λ no.
+      let whole : part ≡ addsAt sets j = is ∙ ap (λ (b : Bool). cond (not b) (addsAt sets j) 0) no in
+      not-both (in-union-left part all p (ap (λ (s : ℕ). has s p) whole ∙ rw same at adds)) out)
+      (decided test)))
+      (λ less.
+      before k p (omega arith) adds
+      (⊎-elim (λ inside. not-both (in-union-right part all p inside) out) (λ no. no) (decided (has all p))))
+      (eq-or-lt-of-le l)
+
+-- ---- action after action
+exclude-kept : (xs ys numbers : List ℕ) (pools : ℕ) (available : List ℕ) (i j : ℕ) → i < 64
+    → KeptBefore 320 384 xs ys → Exclude xs numbers pools available i j → Exclude ys numbers pools available i j
+exclude-kept xs ys numbers pools available i j few kept exclude =
+    record {
+      different = exclude .different;
+      why = ⊎-elim (λ clash. inl (ap (λ (s : ℕ). has s j) (kept .same (i * 4 + 3) (omega arith)) ∙ clash))
+          (λ exceeds. inr exceeds) (exclude .why);
+    }
+
+pub apart-on : (xs ys numbers : List ℕ) (pools : ℕ) (available : List ℕ) (actions i away : ℕ) → i < actions
+    → actions ≤ 64 → Outside xs numbers pools available i actions away → Lessened 64 (addsAt xs i) away xs ys
+    → ApartTo xs numbers pools available actions i → ApartTo ys numbers pools available actions (i + 1)
+apart-on xs ys numbers pools available actions i away known few outside lessened before k q p j l below adds member
+    knownToo addsToo =
+    let kept = lessened .kept in
+    let first = ap (λ (s : ℕ). has s q) (sym (kept .same (k * 4 + 1) (omega arith))) ∙ adds in
+    let second = ap (λ (s : ℕ). has s p) (sym (kept .same (j * 4 + 1) (omega arith))) ∙ addsToo in
+    exclude-kept xs ys numbers pools available k j (omega arith) kept
+    (⊎-elim
+    (λ e.
+    let same : k ≡ i = omega arith in
+    rw same (outside j p knownToo second (lessened .gone q p below (rw same at first) member)))
+    (λ less. before k q p j (omega arith) below first (lessened .inside q below p member) knownToo second)
+    (eq-or-lt-of-le l))
+
+-- ---- the least minutes
+pub least-on : (sets numbers : List ℕ) (q i best less : ℕ) → less ≤ best
+    → (has (addsAt sets i) q ≡ true → less ≤ durationAt numbers i) → LeastTo sets numbers i q best
+    → LeastTo sets numbers (i + 1) q less
+least-on sets numbers q i best less fewer here before k l adds =
+    ⊎-elim (λ e. let same : k ≡ i = omega arith in rw same (here (rw same at adds)))
+    (λ lower. let rest = before k (omega arith) adds in omega arith)
+    (eq-or-lt-of-le l)
+
+pub least-put-at-first : (sets : List ℕ) (actions : ℕ) (xs : List ℕ) → length xs ≡ 1152 → LeastPut sets actions 0 xs xs
+least-put-at-first sets actions xs size =
+    record { kept = kept-at-first 1088 1152 xs size; least = λ q l. absurd (omega arith) }
+
+pub least-put-on : (sets xs ys : List ℕ) (actions q v : ℕ) → actions ≤ 64 → q < 64 → LeastTo sets ys actions q v
+    → LeastPut sets actions q xs ys → LeastPut sets actions (q + 1) xs (set ys (1088 + q) v)
+least-put-on sets xs ys actions q v few below here before =
+    let size = before .kept .size in
+    record {
+      kept = kept-when-set 1088 1152 xs ys (1088 + q) v (omega arith) (before .kept);
+      least = λ k l i known adds.
+          let apart : i * 9 ≡ 1088 + q → ⊥ = λ e. omega arith in
+          let lasts = getD-set-other ys (1088 + q) (i * 9) v 0 apart in
+          ⊎-elim
+          (λ e.
+          let same : k ≡ q = omega arith in
+          let put = getD-set-same ys (1088 + q) v 0 (omega arith) in
+          let least = here i known (rw same at adds) in
+          rw (same, put, lasts) least)
+          (λ lower.
+          let other : 1088 + k ≡ 1088 + q → ⊥ = λ e. omega arith in
+          let stays = getD-set-other ys (1088 + q) (1088 + k) v 0 other in
+          rw (stays, lasts) (before .least k (omega arith) i known adds))
+          (eq-or-lt-of-le l);
+    }
+
+-- both tables
+pub cliques-filled : (sets xs ys : List ℕ) (pools : ℕ) (available : List ℕ) (actions : ℕ) → actions ≤ 64 → pools ≤ 4
+    → ApartTo sets xs pools available actions actions → LeastPut sets actions 64 xs ys
+    → CliquesAt sets ys pools available actions
+cliques-filled sets xs ys pools available actions few fewPools apart put =
+    record {
+      exclusive = λ i q p j known below adds member knownToo addsToo.
+          let exclude = apart i q p j known below adds member knownToo addsToo in
+          record {
+            different = exclude .different;
+            why = ⊎-elim (λ clash. inl clash)
+                (λ exceeds.
+                let inside = exceeds .1 in
+                let more = exceeds .2 in
+                let first = put .kept .same (i * 9 + 1 + exceeds .0) (omega arith) in
+                let second = put .kept .same (j * 9 + 1 + exceeds .0) (omega arith) in
+                inr (exceeds .0, inside, rw (first, second) more))
+                (exclude .why);
+          };
+      shortest = put .least;
+    }
+
+-- ---- a set within another that lacks one of its facts is the lesser number
+pub fewer-without : (a b q : ℕ) → Subset a b → has a q ≡ false → has b q ≡ true → a < b
+unfolding subset
+fewer-without a b q inside out member =
+    let common : bitAnd a b ≡ a = eqb-true (bitAnd a b) a (subset-decides a b .complete inside) in
+    let most = and-le-r a b in
+    ⊎-elim (λ e. not-both (ap (λ (s : ℕ). has s q) e ∙ member) out) (λ less. less)
+    (eq-or-lt-of-le (rw common at most))
+
+-- the allowed facts without q, as far as they are apart from it
+pub remaining-of : (sets : List ℕ) (allowed q one others rest : ℕ) → one ≡ single q → others ≡ difference allowed one
+    → Members rest (λ n. has others n && has (apartAt sets q) n) → Remaining sets allowed q rest
+remaining-of sets allowed q one others rest same is members =
+    record {
+      inside = λ n h. parts n h .0;
+      apart = λ n h. and-right (has others n) _ (sym (members n) ∙ h);
+      fewer = fewer-without rest allowed q (λ n h. parts n h .0)
+          (false-unless (has rest q) (λ h. not-both (in-single q) (parts q h .1)));
+    }
+  where
+    parts : (n : ℕ) → has rest n ≡ true → (has allowed n ≡ true) × (has (single q) n ≡ false)
+    parts n h =
+        in-difference-parts allowed (single q) n
+        (ap (λ (s : ℕ). has s n) (sym (is ∙ ap (difference allowed) same))
+        ∙ and-left (has others n) (has (apartAt sets q) n) (sym (members n) ∙ h))
