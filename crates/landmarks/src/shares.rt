@@ -13,7 +13,7 @@ ghost use Rattle.landmarks.specs.Tables.{WithinAt, Within, WithinAll};
 const SCALE: u64 = 2520;
 
 // A number of 32 bits as one of 64.
-fn wide(number: u32) -> u64
+pub fn wide(number: u32) -> u64
     ensures { λ r. ⌜ (r ≡ number) × (r < 2 ^ 32) ⌝ }
 {
     number as u64
