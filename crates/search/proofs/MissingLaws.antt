@@ -1,6 +1,6 @@
--- A fresh state for whose landmarks a store has too little left is a dead end.
+-- A fresh state for whose landmarks a store has too little left, or the minutes are too few, is a dead end.
 -- Assumes nothing.
-use Prim.Native.Nat.{ℕ, _+_, _*_, _≤_, _<_}
+use Prim.Native.Nat.{ℕ, _+_, _*_, _-_, _≤_, _<_}
 use mathlib.Core.Path.{_≡_, sym, ap, ap₂, _∙_}
 use mathlib.Core.Bool.{false}
 use mathlib.Core.List.{List}
@@ -18,11 +18,13 @@ use Rattle.tables.specs.Tables.{Describes, chosen}
 use Rattle.tables.specs.declared.Frame.{Frame}
 use Rattle.landmarks.specs.Landmarks.{marksOf, sumOver}
 use Rattle.landmarks.specs.Tables.{markAt, shareFrom, rowAt}
+use Rattle.landmarks.specs.Cliques.{apartAt, leastAt, CliqueMinutes}
 use Rattle.landmarks.proofs.AddedOnTheWay.{AtHand}
 use Rattle.landmarks.proofs.DeadEnds.{at-hand-at-start, dead-when-store-short}
+use Rattle.landmarks.proofs.CliqueLaws.{dead-when-clique-too-long}
 use Rattle.search.specs.declared.state.State.{State}
 use Rattle.search.specs.States.{Stands, DeadFor}
-use Rattle.search.specs.Missing.{Marked, Fresh, fits}
+use Rattle.search.specs.Missing.{Marked, Fresh, Missing, fits}
 use Rattle.search.proofs.Chosen.{place-of-chosen}
 
 module _ (J : Job) (sets numbers : List ℕ) (frame : Frame) (described : Describes J sets numbers frame)
@@ -46,7 +48,7 @@ module _ (J : Job) (sets numbers : List ℕ) (frame : Frame) (described : Descri
   missing-of = ap (marksOf (markAt sets) 64) (ap₂ union (stands .wants) (stands .at .across))
 
   pub dead-when-store-exceeded : (store missing : ℕ) → store < 4 → store < frame .stores
-      → missing ≡ marksOf (markAt sets) 64 (union (st .wanted) (st .at .across))
+      → Missing sets st missing
       → fits numbers store missing (getD (st .uses .spent) store 0) (getD (frame .stocks) store 0) ≡ false
       → DeadFor J frame (Until (frame .first) (st .minute)) L
   unfolding storeCap
@@ -62,3 +64,11 @@ module _ (J : Job) (sets numbers : List ℕ) (frame : Frame) (described : Descri
       dead-when-store-short J (frame .first) (frame .goal) (frame .horizon) (st .minute) (omega arith) (stands .inTime) L
       (J .start) base 64 (markAt sets) (marked .landmarks) (shareFrom numbers (rowAt store)) store known 2520
       (marked .stores store few known) (rw (same ∙ missing-of, used, stock) at more)
+
+  pub dead-when-minutes-exceeded : (missing minutes : ℕ) → frame .first ≤ st .minute → Missing sets st missing
+      → CliqueMinutes sets numbers missing minutes → st .minute - frame .first < minutes
+      → DeadFor J frame (Until (frame .first) (st .minute)) L
+  dead-when-minutes-exceeded missing minutes after same clique exceeds =
+      dead-when-clique-too-long J (frame .first) (frame .goal) (frame .horizon) (st .minute) after (stands .inTime) L
+      (J .start) base 64 (markAt sets) (marked .landmarks) (apartAt sets) (leastAt numbers) (marked .cliques) (clique .0)
+      minutes (rw (same ∙ missing-of) at (clique .1)) exceeds

@@ -6,25 +6,32 @@ use mathlib.Core.Bool.{Bool, false}
 use mathlib.Core.List.{List}
 use lib.Dec.{leb}
 use lib.ListN.{length, getD}
+use Rattle.facts.specs.FactSet.{union}
 use Rattle.job.specs.Job.{Job}
 use Rattle.regression.specs.DeadEnd.{Until}
 use Rattle.tables.specs.Tables.{Describes, chosen}
 use Rattle.tables.specs.declared.Frame.{Frame}
-use Rattle.landmarks.specs.Landmarks.{Landmarks, sumOver, Shares}
+use Rattle.landmarks.specs.Landmarks.{Landmarks, marksOf, sumOver, Shares}
 use Rattle.landmarks.specs.Tables.{markAt, shareFrom, rowAt}
+use Rattle.landmarks.specs.Cliques.{Cliques, apartAt, leastAt}
 use Rattle.search.specs.declared.state.State.{State}
 use Rattle.search.specs.States.{Stands, DeadFor}
 
--- the tables have landmarks and shares of the job, on a day on which only the start set is at hand
+-- the tables have landmarks, shares and cliques of the job, on a day on which only the start set is at hand
 pub record Marked (J : Job) (sets numbers : List ℕ) (frame : Frame) : Type 0 where
   pub first : frame .first ≡ 0
   pub landmarks : Landmarks J (J .start) 64 (markAt sets)
   pub stores : (store : ℕ) → store < 4 → store < length (J .stores)
       → Shares J (J .start) (shareFrom numbers (rowAt store)) 64 (λ a. 2520 * getD (a .stores) store 0)
+  pub cliques : Cliques J 64 (apartAt sets) (leastAt numbers)
 
 -- the chosen steps all stop after the state's minute
 abbrev pub Fresh : State → Type 0
 Fresh st = st .since ≡ st .steps .count
+
+-- the landmarks of what must hold at the state's minute
+abbrev pub Missing : List ℕ → State → ℕ → Type 0
+Missing sets st missing = missing ≡ marksOf (markAt sets) 64 (union (st .wanted) (st .at .across))
 
 -- a fresh state of which the test is false is a dead end
 abbrev pub DeadUnlessSuffices : List ℕ → List ℕ → Frame → State → Bool → Type 0

@@ -96,7 +96,7 @@ pub fn regress(
         let steps = st.steps;
         return leaf::finish(file, frame, steps);
     }
-    if !missing::stores_suffice(sets, numbers, frame, st) {
+    if !missing::suffices(sets, numbers, frame, st) {
         return leaf::nothing();
     }
     choose(

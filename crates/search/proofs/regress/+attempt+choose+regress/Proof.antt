@@ -34,7 +34,7 @@ use Rattle.facts.proofs.single.Reads as single-reads
 use Rattle.leaf.proofs.finish.Reads as finish-reads
 use Rattle.leaf.proofs.nothing.Reads as nothing-reads
 use Rattle.search.proofs.carried.in_time.Reads as in-time-reads
-use Rattle.search.proofs.missing.stores_suffice.Reads as stores-suffice-reads
+use Rattle.search.proofs.missing.suffices.Reads as suffices-reads
 use Rattle.search.proofs.moves.back.Reads as back-reads
 use Rattle.search.proofs.moves.start_of.Reads as start-of-reads
 use Rattle.search.proofs.moves.take.Reads as take-reads
@@ -406,14 +406,9 @@ choose-in-time-requires t c κs =
     let c-pre = c .before .before .before .before .before .before .pre in
     let h = c-pre .1 in
     let ready = h .0 in
-    let inv = c .loop .inv in (
-      ready .safe .lent,
-      ready .safe .known,
-      ready .timeCount,
-      ready .facts,
-      (λ a member. let may = inv .1 a member in let fits = may .1 .fits refl in (may .0, omega arith)),
-      h .1,
-    )
+    let inv = c .loop .inv in
+    (ready .safe .lent, ready .safe .known, ready .timeCount, ready .facts,
+    (λ a member. let may = inv .1 a member in let fits = may .1 .fits refl in (may .0, omega arith)), h .1)
 
 choose-back-requires : (t : ℕ) → choose-lts.Need-back-requires (
   candidates-reads.Asked,
@@ -467,13 +462,10 @@ choose-regress-requires t c κs =
     let m = c-pre .0 in
     let h = c-pre .1 in
     let b = c .back .ensures in
-    let earlier = b .2 in (
-      omega arith,
-      (
-        ready-back _ _ _ (c-args .frame) (c-args .st) (h .0) _ (b .0) (b .1) (b .2) (b .3),
-        fresh-back _ _ _ (c-args .frame) (c-args .st) (h .0) _ (b .0) (b .1) (b .2) (b .3),
-      ),
-    )
+    let earlier = b .2 in
+    (omega arith,
+    (ready-back _ _ _ (c-args .frame) (c-args .st) (h .0) _ (b .0) (b .1) (b .2) (b .3),
+    fresh-back _ _ _ (c-args .frame) (c-args .st) (h .0) _ (b .0) (b .1) (b .2) (b .3)))
 
 choose-returns : (t : ℕ) → choose-lts.Need-returns (
   candidates-reads.Asked,
@@ -759,8 +751,8 @@ choose-returns-3 t c =
 regress-finish-requires : (t : ℕ) → regress-lts.Need-finish-requires (
   finish-reads.Asked,
   finish-reads.Learnt,
-  stores-suffice-reads.Asked,
-  stores-suffice-reads.Learnt,
+  suffices-reads.Asked,
+  suffices-reads.Learnt,
   nothing-reads.Asked,
   nothing-reads.Learnt,
   choose-below t,
@@ -773,8 +765,8 @@ regress-finish-requires t c κs =
 regress-returns : (t : ℕ) → regress-lts.Need-returns (
   finish-reads.Asked,
   finish-reads.Learnt,
-  stores-suffice-reads.Asked,
-  stores-suffice-reads.Learnt,
+  suffices-reads.Asked,
+  suffices-reads.Learnt,
   nothing-reads.Asked,
   nothing-reads.Learnt,
   choose-below t,
@@ -790,25 +782,25 @@ regress-returns t c =
       dead = λ e J task stands. dead-when-unfinished J _ _ _ _ (c-args .frame) (c-args .st) _ h task (c .finish .ensures) (omega arith) e;
     }
 
-regress-stores-suffice-requires : (t : ℕ) → regress-lts.Need-stores-suffice-requires (
+regress-suffices-requires : (t : ℕ) → regress-lts.Need-suffices-requires (
   finish-reads.Asked,
   finish-reads.Learnt,
-  stores-suffice-reads.Asked,
-  stores-suffice-reads.Learnt,
+  suffices-reads.Asked,
+  suffices-reads.Learnt,
   nothing-reads.Asked,
   nothing-reads.Learnt,
   choose-below t,
   choose.Post,
 ) (regress-at t) regress.Post
-regress-stores-suffice-requires t c κs =
+regress-suffices-requires t c κs =
     let c-pre = c .before .before .before .before .before .before .before .pre in
-    (c-pre .1 .0 .safe, c-pre .1 .1)
+    (c-pre .1 .0 .safe, c-pre .1 .1, c-pre .1 .0 .notBefore)
 
 regress-nothing-requires : (t : ℕ) → regress-lts.Need-nothing-requires (
   finish-reads.Asked,
   finish-reads.Learnt,
-  stores-suffice-reads.Asked,
-  stores-suffice-reads.Learnt,
+  suffices-reads.Asked,
+  suffices-reads.Learnt,
   nothing-reads.Asked,
   nothing-reads.Learnt,
   choose-below t,
@@ -819,27 +811,27 @@ regress-nothing-requires t c κs = tt
 regress-returns-2 : (t : ℕ) → regress-lts.Need-returns-2 (
   finish-reads.Asked,
   finish-reads.Learnt,
-  stores-suffice-reads.Asked,
-  stores-suffice-reads.Learnt,
+  suffices-reads.Asked,
+  suffices-reads.Learnt,
   nothing-reads.Asked,
   nothing-reads.Learnt,
   choose-below t,
   choose.Post,
 ) (regress-at t) regress.Post
 regress-returns-2 t c =
-    let c-stores-suffice = c .before .before .stores-suffice in
+    let c-suffices = c .before .before .suffices in
     let none = ap (λ (a : Answer). a .found) (c .nothing .ensures) in
     record {
       found = λ e. absurd (true≢false (sym e ∙ none));
       dead = λ e J task stands.
-          c-stores-suffice .ensures (not-true (c-stores-suffice .result) (c .before .if2 .taken)) J (task .described) (task .marked) stands;
+          c-suffices .ensures (not-true (c-suffices .result) (c .before .if2 .taken)) J (task .described) (task .marked) stands;
     }
 
 regress-choose-requires : (t : ℕ) → regress-lts.Need-choose-requires (
   finish-reads.Asked,
   finish-reads.Learnt,
-  stores-suffice-reads.Asked,
-  stores-suffice-reads.Learnt,
+  suffices-reads.Asked,
+  suffices-reads.Learnt,
   nothing-reads.Asked,
   nothing-reads.Learnt,
   choose-below t,
@@ -854,8 +846,8 @@ regress-choose-requires t c κs =
 regress-returns-3 : (t : ℕ) → regress-lts.Need-returns-3 (
   finish-reads.Asked,
   finish-reads.Learnt,
-  stores-suffice-reads.Asked,
-  stores-suffice-reads.Learnt,
+  suffices-reads.Asked,
+  suffices-reads.Learnt,
   nothing-reads.Asked,
   nothing-reads.Learnt,
   choose-below t,
@@ -941,8 +933,8 @@ pub +attempt+choose+regress-spec : {M : Type 1} → statement M
     λ t. regress-lts.spec (
       finish-reads.Asked,
       finish-reads.Learnt,
-      stores-suffice-reads.Asked,
-      stores-suffice-reads.Learnt,
+      suffices-reads.Asked,
+      suffices-reads.Learnt,
       nothing-reads.Asked,
       nothing-reads.Learnt,
       choose-below t,
@@ -952,7 +944,7 @@ pub +attempt+choose+regress-spec : {M : Type 1} → statement M
     regress.Post
     (regress-finish-requires t)
     (regress-returns t)
-    (regress-stores-suffice-requires t)
+    (regress-suffices-requires t)
     (regress-nothing-requires t)
     (regress-returns-2 t)
     (regress-choose-requires t)

@@ -1,0 +1,45 @@
+-- `minutes_suffice` meets its contract: a clique that takes too long makes a dead end.
+-- Assumes nothing.
+use mathlib.Core.Path.{_≡_}
+use borrow.Author.Tests.{leb-false}
+use Rattle.search.proofs.MissingLaws.{dead-when-minutes-exceeded}
+use native.Mathlib.Omega.{arith}
+use Rattle.search.proofs.missing.minutes_suffice.Statement.{statement}
+use Rattle.search.proofs.missing.minutes_suffice.Tie as tie
+
+minutes-requires : tie.Need-minutes-requires
+minutes-requires c κs = let h = c .before .before .pre in (h .0, h .1)
+
+wide-requires : tie.Need-wide-requires
+wide-requires c κs = tt
+
+wide-requires-2 : tie.Need-wide-requires-2
+wide-requires-2 c κs = tt
+
+sub-amount : tie.Need-sub-amount
+sub-amount c =
+    let c-pre = c .before .before .before .before .before .pre in
+    let h = c-pre in let a = c .before .wide .ensures .0 in let b = c .wide2 .ensures .0 in omega arith
+
+amount-requires : tie.Need-amount-requires
+amount-requires c κs = tt
+
+returns : tie.Need-returns
+returns c =
+    let c-args = c .before .before .before .before .before .before .args in
+    let c-pre = c .before .before .before .before .before .before .pre in
+    let c-minutes = c .before .before .before .minutes in
+    λ missing e J described marked stands.
+    let at = c-args in
+    let h = c-pre in
+    let a = c .before .before .wide .ensures .0 in
+    let b = c .before .wide2 .ensures .0 in
+    let n = c .amount .ensures .0 in
+    let more = leb-false (c-minutes .result) (c .amount .result) e in
+    dead-when-minutes-exceeded J (at .sets .now) (at .numbers .now) (at .frame) described marked (at .st) stands (h .3)
+    (at .missing) (c-minutes .result) (h .2) missing (c-minutes .ensures) (omega arith)
+
+pub minutes-suffice-spec : {M : Type 1} → statement M
+minutes-suffice-spec =
+    tie.close
+    (tie.spec minutes-requires wide-requires wide-requires-2 sub-amount amount-requires returns)

@@ -1,0 +1,53 @@
+-- `suffices` meets its contract: both tests are of the landmarks of what must hold.
+-- Assumes nothing.
+use mathlib.Core.Path.{_≡_, ap, _∙_}
+use borrow.Author.Tests.{not-true}
+use Rattle.landmarks.specs.Landmarks.{marksOf}
+use Rattle.landmarks.specs.Tables.{markAt}
+use Rattle.search.proofs.AmountLaws.{sums-of-more}
+use Rattle.search.proofs.missing.suffices.Statement.{statement}
+use Rattle.search.proofs.missing.suffices.Tie as tie
+
+union-requires : tie.Need-union-requires
+union-requires c κs = tt
+
+of-set-requires : tie.Need-of-set-requires
+of-set-requires c κs = c .before .before .before .pre .0 .lent .setCount
+
+stores-suffice-requires : tie.Need-stores-suffice-requires
+stores-suffice-requires c κs =
+    let c-pre = c .before .before .before .before .pre in
+    let safe = c-pre .0 in
+    (safe .lent .amounts .numberCount, safe .stores, sums-of-more _ 32 _ (safe .known .few) (safe .small .spent), c-pre .1)
+
+returns : tie.Need-returns
+returns c =
+    let c-args = c .before .before .before .before .before .before .args in
+    let c-union = c .before .before .before .union in
+    let c-stores-suffice = c .before .stores-suffice in
+    let missing = c .before .before .of-set .ensures ∙ ap (marksOf (markAt (c-args .sets .now)) 64) (c-union .ensures .0) in
+    λ e. c-stores-suffice .ensures (c-args .sets .now) missing (not-true (c-stores-suffice .result) (c .if1 .taken))
+
+minutes-suffice-requires : tie.Need-minutes-suffice-requires
+minutes-suffice-requires c κs =
+    let c-pre = c .before .before .before .before .before .before .pre in
+    let h = c-pre in (h .0 .lent .setCount, h .0 .lent .amounts .numberCount, h .2, h .1)
+
+returns-2 : tie.Need-returns-2
+returns-2 c =
+    let c-args = c .before .before .before .before .before .before .before .args in
+    let c-union = c .before .before .before .before .union in
+    let c-of-set = c .before .before .before .of-set in
+    let missing = c-of-set .ensures ∙ ap (marksOf (markAt (c-args .sets .now)) 64) (c-union .ensures .0) in
+    c .minutes-suffice .ensures missing
+
+pub suffices-spec : {M : Type 1} → statement M
+suffices-spec =
+    tie.close
+    (tie.spec
+    union-requires
+    of-set-requires
+    stores-suffice-requires
+    returns
+    minutes-suffice-requires
+    returns-2)
