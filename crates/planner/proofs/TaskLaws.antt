@@ -17,8 +17,10 @@ use Rattle.tables.specs.declared.Frame.{Frame}
 use Rattle.tables.specs.Filled.{Filled, frameOf}
 use Rattle.tables.proofs.Describing.{describes}
 use Rattle.landmarks.specs.Tables.{KeptBefore, Closed, WithinAll}
-use Rattle.landmarks.proofs.TableLaws.{landmarks-when-closed}
-use Rattle.landmarks.proofs.ShareLaws.{stores-when-within}
+use Rattle.landmarks.specs.Cliques.{CliquesAt}
+use Rattle.landmarks.proofs.TableLaws.{kept-again, closed-kept, landmarks-when-closed}
+use Rattle.landmarks.proofs.ShareLaws.{kept-less, all-within-kept, stores-when-within}
+use Rattle.landmarks.proofs.CliqueTables.{cliques-of-tables}
 use Rattle.earliest.specs.Sweep as earliest
 use Rattle.leaf.specs.Answer.{FileOf}
 use Rattle.tables.specs.Tables.{Numbers, Lent}
@@ -69,13 +71,37 @@ filled-still job sets numbers sets′ numbers′ passes filled keptSets keptNumb
           };
     }
 
+-- the tables of the job, with landmarks, shares and cliques
+pub record MarkedTables (job : held.Job) (sets numbers : List ℕ) : Type 0 where
+  pub filled : Filled job sets numbers
+  pub closed : Closed sets (job .counts .actions) (job .start)
+  pub within : WithinAll sets numbers (job .counts .actions) (job .start)
+  pub cliques : CliquesAt sets numbers (job .counts .pools) (job .pools) (job .counts .actions)
+
+-- landmarks are put first, then shares, then cliques, each behind what is there
+pub tables-marked : (job : held.Job) (sets sets′ sets″ numbers numbers′ numbers″ : List ℕ)
+    → first (jobRows (jobIn job)) ≡ Pass → Filled job sets numbers → KeptBefore 256 384 sets sets′
+    → Closed sets′ (job .counts .actions) (job .start) → KeptBefore 576 1152 numbers numbers′
+    → WithinAll sets′ numbers′ (job .counts .actions) (job .start) → KeptBefore 320 384 sets′ sets″
+    → KeptBefore 1088 1152 numbers′ numbers″
+    → CliquesAt sets″ numbers″ (job .counts .pools) (job .pools) (job .counts .actions) → MarkedTables job sets″ numbers″
+tables-marked job sets sets′ sets″ numbers numbers′ numbers″ passes filled marks closed shares within apart least cliques =
+    let few = fits-of-pass job passes .2 in
+    record {
+      filled = filled-still job sets numbers sets″ numbers″ passes filled
+          (kept-again 256 384 sets sets′ sets″ marks (kept-less 256 320 384 sets′ sets″ (omega arith) apart))
+          (kept-again 576 1152 numbers numbers′ numbers″ shares (kept-less 576 1088 1152 numbers′ numbers″ (omega arith) least));
+      closed = closed-kept sets′ sets″ _ _ few apart closed;
+      within = all-within-kept sets′ sets″ numbers′ numbers″ _ _ few apart least within;
+      cliques = cliques;
+    }
+
 module _ (job : held.Job) (sets numbers times : List ℕ) (passes : first (jobRows (jobIn job)) ≡ Pass)
-    (filled : Filled job sets numbers) (closed : Closed sets (job .counts .actions) (job .start))
-    (within : WithinAll sets numbers (job .counts .actions) (job .start)) (timed : earliest.Filled (jobIn job) times)
-    (frame : Frame) (same : frame ≡ frameOf job (job .goal) 0 (job .deadline)) where
+    (tables : MarkedTables job sets numbers) (timed : earliest.Filled (jobIn job) times) (frame : Frame)
+    (same : frame ≡ frameOf job (job .goal) 0 (job .deadline)) where
   pub task-of-job : (file : List ℕ) → FileOf (jobIn job) file → TaskOf (jobIn job) file sets numbers times frame
   task-of-job file inFile =
-      let described = describes job sets numbers filled passes (job .goal) 0 (job .deadline) (omega arith) in
+      let described = describes job sets numbers (tables .filled) passes (job .goal) 0 (job .deadline) (omega arith) in
       subst (λ (f : Frame). TaskOf (jobIn job) file sets numbers times f) (sym same)
       (record {
         inFile = inFile;
@@ -84,13 +110,19 @@ module _ (job : held.Job) (sets numbers times : List ℕ) (passes : first (jobRo
         goal = passed (jobIn job) passes .goal .within;
         marked = record {
           first = refl;
-          landmarks = landmarks-when-closed (jobIn job) sets numbers _ (job .start) (described .actions) (described .each) closed;
-          stores = stores-when-within (jobIn job) sets numbers _ (job .start) (described .actions) (described .each) within;
+          landmarks = landmarks-when-closed (jobIn job) sets numbers _ (job .start) (described .actions) (described .each) (tables .closed);
+          stores = stores-when-within (jobIn job) sets numbers _ (job .start) (described .actions) (described .each) (tables .within);
+          cliques = cliques-of-tables (jobIn job) sets numbers _ _ _ (described .actions) (described .each) (described .pools)
+              (described .available) (tables .cliques);
         };
       })
 
   lent : Lent sets numbers (job .counts .actions)
-  lent = record { setCount = filled .setCount; amounts = numbers-of-job job sets numbers passes filled }
+  lent =
+      record {
+        setCount = tables .filled .setCount;
+        amounts = numbers-of-job job sets numbers passes (tables .filled);
+      }
 
   -- what the search requires of the tables and the frame
   pub whole-of-job : Whole sets numbers times frame

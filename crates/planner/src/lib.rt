@@ -17,6 +17,7 @@ use job::refusal::Verdict;
 use job::validate::validate;
 use jobfile::Layout;
 use jobfile::Written;
+use landmarks::cliques;
 use landmarks::marks;
 use landmarks::shares;
 use leaf::Answer;
@@ -52,9 +53,18 @@ fn solve(job: Job) -> Answer
     let mut sets = [0u64; Frame::SETS];
     let mut numbers = [0u32; Frame::NUMBERS];
     tables::fill::fill(&mut sets, &mut numbers, job);
-    let actions = job.counts.actions;
-    marks::fill(&mut sets, actions, job.start);
-    shares::fill(&mut numbers, &sets, actions, job.start);
+    let counts = job.counts;
+    let available = job.pools;
+    marks::fill(&mut sets, counts.actions, job.start);
+    shares::fill(&mut numbers, &sets, counts.actions, job.start);
+    cliques::fill(
+        &mut sets,
+        &mut numbers,
+        counts.actions,
+        counts.pools,
+        available,
+        job.start,
+    );
     let mut times = [set_time::NONE; Pair::COUNT];
     earliest::sweep::fill(&mut times, job);
     let mut file = [0u8; Layout::FILE];

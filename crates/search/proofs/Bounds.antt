@@ -58,7 +58,7 @@ module _ (file sets numbers times : List ℕ) (frame : Frame) (T : ℕ) (within 
           first = task .marked .first;
           landmarks = task .marked .landmarks;
           stores = task .marked .stores;
-        cliques = task .marked .cliques;
+          cliques = task .marked .cliques;
         };
       }
 

@@ -406,9 +406,14 @@ choose-in-time-requires t c κs =
     let c-pre = c .before .before .before .before .before .before .pre in
     let h = c-pre .1 in
     let ready = h .0 in
-    let inv = c .loop .inv in
-    (ready .safe .lent, ready .safe .known, ready .timeCount, ready .facts,
-    (λ a member. let may = inv .1 a member in let fits = may .1 .fits refl in (may .0, omega arith)), h .1)
+    let inv = c .loop .inv in (
+      ready .safe .lent,
+      ready .safe .known,
+      ready .timeCount,
+      ready .facts,
+      (λ a member. let may = inv .1 a member in let fits = may .1 .fits refl in (may .0, omega arith)),
+      h .1,
+    )
 
 choose-back-requires : (t : ℕ) → choose-lts.Need-back-requires (
   candidates-reads.Asked,
@@ -462,10 +467,13 @@ choose-regress-requires t c κs =
     let m = c-pre .0 in
     let h = c-pre .1 in
     let b = c .back .ensures in
-    let earlier = b .2 in
-    (omega arith,
-    (ready-back _ _ _ (c-args .frame) (c-args .st) (h .0) _ (b .0) (b .1) (b .2) (b .3),
-    fresh-back _ _ _ (c-args .frame) (c-args .st) (h .0) _ (b .0) (b .1) (b .2) (b .3)))
+    let earlier = b .2 in (
+      omega arith,
+      (
+        ready-back _ _ _ (c-args .frame) (c-args .st) (h .0) _ (b .0) (b .1) (b .2) (b .3),
+        fresh-back _ _ _ (c-args .frame) (c-args .st) (h .0) _ (b .0) (b .1) (b .2) (b .3),
+      ),
+    )
 
 choose-returns : (t : ℕ) → choose-lts.Need-returns (
   candidates-reads.Asked,
