@@ -9,13 +9,16 @@ use native.Mathlib.Omega.{arith}
 use lib.ListN.{length, getD}
 use borrow.Author.Tests.{not-true, ltb-false, ne-eqb}
 use Rattle.facts.specs.FactSet.{has, Subset}
+use Rattle.facts.proofs.SetLaws.{in-union-cases}
 use Rattle.job.specs.Job.{Job}
 use Rattle.timeline.specs.Step.{Step, total}
+use Rattle.timeline.specs.Timeline.{held}
 use Rattle.timeline.proofs.Tests.{not-both, or-neither, le-or-lt}
 use Rattle.timeline.proofs.Places.{Place, EachStep, split-place, place-append, each-cons, length-place, total-zero}
 use Rattle.timeline.proofs.Places.{below-none}
 use Rattle.times.specs.Earliest.{actionOf}
-use Rattle.times.proofs.PlanSteps.{PlanOf, Paired, own-action, own-stop, paired-when-shared}
+use Rattle.times.proofs.PlanSteps.{PlanOf, Paired, own-action, own-stop, needs-at}
+use Rattle.times.proofs.PlanSteps.{paired-when-shared}
 use Rattle.regression.specs.Tests.{mustHold}
 use Rattle.regression.specs.DeadEnd.{Until, Dead}
 use Rattle.regression.proofs.TailTests.{must-hold-holds}
@@ -76,18 +79,24 @@ module _ (J : Job) (b t goal T : ℕ) (E L : List Step) (plan : PlanOf J T goal 
   abbrev use-of : ℕ → ℕ → ℕ
   use-of i pool = getD (actionOf J i .pools) pool 0
 
-  not-paired : (x y : Step) → NeverOverlap J (x .number) (y .number) → Paired J x y → ⊥
-  not-paired x y never paired =
+  not-paired : (x y : Step) (m : ℕ) → NeverOverlap J (x .number) (y .number) → Paired J x y
+      → Subset (actionOf J (x .number) .needs) (held (J .start) (E ++ L) m)
+      → Subset (actionOf J (y .number) .needs) (held (J .start) (E ++ L) m) → ⊥
+  not-paired x y m never paired needs needsToo =
       ⊎-elim
       (λ clash.
       not-both clash
       (or-neither (ne-eqb (x .number) (y .number) (paired .different)) (or-neither (paired .spares) (paired .spared))))
+      (⊎-elim
       (λ exceeds.
       let inside = exceeds .1 in
       let more = exceeds .2 in
       let fits : use-of (x .number) (exceeds .0) + use-of (y .number) (exceeds .0) ≤ getD (J .pools) (exceeds .0) 0 =
       ltb-false _ _ (below-none (length (J .pools)) _ (not-true _ (paired .fits)) (exceeds .0) inside) in
       omega arith)
+      (λ apart.
+      apart T goal (E ++ L) plan m
+      (λ n h. ⊎-elim (needs n) (needsToo n) (in-union-cases (actionOf J (x .number) .needs) _ n h))))
       (never .why)
 
   never-shared : {x y : Step} {Q R : List Step} → Place x Q E → Place y R E → NeverOverlap J (x .number) (y .number)
@@ -101,10 +110,14 @@ module _ (J : Job) (b t goal T : ℕ) (E L : List Step) (plan : PlanOf J T goal 
       (λ other.
       let first = until x Q i .1 in
       let second = until y R j .1 in
+      let m : ℕ = max (x .start) (y .start) in
+      let here = place-append L i in
       absurd
-      (not-paired x y never
-      (paired-when-shared J T goal (E ++ L) plan (place-append L i) (place-append L (other .1))
-      (max (x .start) (y .start)) (omega arith) (omega arith) (omega arith) (omega arith))))
+      (not-paired x y m never
+      (paired-when-shared J T goal (E ++ L) plan here (place-append L (other .1)) m (omega arith) (omega arith)
+      (omega arith) (omega arith))
+      (needs-at J T goal (E ++ L) plan here m (omega arith) (omega arith))
+      (needs-at J T goal (E ++ L) plan (place-append L j) m (omega arith) (omega arith))))
       (split-place i j))
       (le-or-lt (y .stop) (x .start)))
       (le-or-lt (x .stop) (y .start))

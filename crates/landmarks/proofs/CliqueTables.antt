@@ -8,57 +8,81 @@ use mathlib.Core.List.{List}
 use native.Mathlib.Nat.{eq-or-lt-of-le}
 use native.Mathlib.Omega.{arith}
 use lib.Bits.{bitAnd, and-le-r}
-use lib.ListN.{length, getD, set}
+use lib.ListN.{length, set}
 use lib.Seq.{getD-set-same, getD-set-other}
-use borrow.Author.Tests.{eqb-true}
+use borrow.Author.Tests.{eqb-true, lt-ltb}
 use Rattle.lists.proofs.Bools.{and-left, and-right}
 use Rattle.facts.specs.FactSet.{has, Members, union, difference, subset, Subset, single, NextFact}
 use Rattle.facts.proofs.Membership.{subset-decides}
 use Rattle.facts.proofs.SetLaws.{in-union-left, in-union-right, in-difference-parts}
 use Rattle.job.specs.Job.{Job}
 use Rattle.timeline.proofs.Tests.{not-both, false-unless, decided, trichotomy}
+use Rattle.times.specs.Time.{at, unreachable}
+use Rattle.times.specs.Earliest.{actionOf}
 use Rattle.times.proofs.Singles.{in-single}
-use Rattle.tables.specs.Tables.{addsAt, durationAt, DescribesEach}
+use Rattle.times.proofs.Admissible.{unreachable-set-never-holds}
+use Rattle.times.specs.Numbers.{tableIn}
+use Rattle.earliest.specs.Numbers.{setNumber}
+use Rattle.earliest.specs.Sweep.{Filled}
+use Rattle.earliest.proofs.SetTimes.{time-of-set}
+use Rattle.tables.specs.declared.Frame.{Frame}
+use Rattle.tables.specs.Tables.{addsAt, durationAt, Describes}
 use Rattle.landmarks.specs.Tables.{KeptBefore}
-use Rattle.landmarks.specs.Cliques.{NeverOverlap, Cliques, apartAt, leastAt, Exclude, ApartTo, LeastTo, CliquesAt}
-use Rattle.landmarks.specs.Cliques.{Outside, Lessened, LeastPut, Remaining}
+use Rattle.landmarks.specs.Cliques.{NeverHolds, NeverOverlap, Cliques, apartAt, leastAt, Exclude, CliquesAt}
+use Rattle.landmarks.specs.Cliques.{Unreached, ApartTo, LeastTo, Outside, Lessened, LeastPut, Remaining}
 use Rattle.landmarks.proofs.TableLaws.{kept-at-first, kept-when-set}
 
-module _ (J : Job) (sets numbers : List ℕ) (actions pools : ℕ) (available : List ℕ)
-    (count : length (J .actions) ≡ actions) (described : DescribesEach J sets numbers actions)
-    (poolCount : length (J .pools) ≡ pools)
-    (amounts : (pool : ℕ) → pool < pools → getD available pool 0 ≡ getD (J .pools) pool 0) where
-  never-when-excluded : (i j : ℕ) → i < actions → j < actions → Exclude sets numbers pools available i j
+module _ (J : Job) (sets numbers times : List ℕ) (frame : Frame) (described : Describes J sets numbers frame)
+    (filled : Filled J times) where
+  unreached-never-holds : (i j : ℕ) → i < frame .actions → j < frame .actions → Unreached sets times frame i j
+      → NeverHolds J (union (actionOf J i .needs) (actionOf J j .needs))
+  unreached-never-holds i j first second late T goal P plan m =
+      unreachable-set-never-holds J (tableIn times) (filled .solves) T goal P plan both m
+      (time-of-set J times (filled .able) both
+      ∙ ap (λ (b : Bool). cond b unreachable (at (setNumber times both (J .facts))))
+      (lt-ltb 530400 (setNumber times both (J .facts)) after))
+    where
+      both : ℕ
+      both = union (actionOf J i .needs) (actionOf J j .needs)
+
+      after : 530400 < setNumber times both (J .facts)
+      after =
+          rw (← described .each i first .needs, ← described .each j second .needs, described .facts) late
+
+  never-when-excluded : (i j : ℕ) → i < frame .actions → j < frame .actions → Exclude sets numbers times frame i j
       → NeverOverlap J i j
   never-when-excluded i j first second exclude =
       record {
         different = exclude .different;
-        why = ⊎-elim (λ clash. inl (sym (described i first .clash j (omega arith)) ∙ clash))
+        why = ⊎-elim (λ clash. inl (sym (described .each i first .clash j (rw (described .actions) second)) ∙ clash))
+            (⊎-elim
             (λ exceeds.
             let inside = exceeds .1 in
             let more = exceeds .2 in
-            let known : exceeds .0 < length (J .pools) = omega arith in
-            let use-first = described i first .pools (exceeds .0) known in
-            let use-second = described j second .pools (exceeds .0) known in
-            let amount = amounts (exceeds .0) inside in
-            inr (exceeds .0, known, omega arith))
+            let known : exceeds .0 < length (J .pools) = rw (described .pools) inside in
+            let use-first = described .each i first .pools (exceeds .0) known in
+            let use-second = described .each j second .pools (exceeds .0) known in
+            let amount = described .available (exceeds .0) inside in
+            inr (inl (exceeds .0, known, omega arith)))
+            (λ late. inr (inr (unreached-never-holds i j first second late))))
             (exclude .why);
       }
 
-  pub cliques-of-tables : CliquesAt sets numbers pools available actions → Cliques J 64 (apartAt sets) (leastAt numbers)
+  pub cliques-of-tables : CliquesAt sets numbers times frame → Cliques J 64 (apartAt sets) (leastAt numbers)
   cliques-of-tables tables =
       record {
         exclusive = λ q p i j below member first second adds addsToo.
-            let known : i < actions = omega arith in
-            let knownToo : j < actions = omega arith in
-            never-when-excluded i j known knownToo
-            (tables .exclusive i q p j known below (ap (λ (set : ℕ). has set q) (described i known .adds) ∙ adds) member
-            knownToo (ap (λ (set : ℕ). has set p) (described j knownToo .adds) ∙ addsToo));
+            let known : i < frame .actions = rw (described .actions) at first in
+            let knownToo : j < frame .actions = rw (described .actions) at second in
+            let adds-q = ap (λ (set : ℕ). has set q) (described .each i known .adds) ∙ adds in
+            let adds-p = ap (λ (set : ℕ). has set p) (described .each j knownToo .adds) ∙ addsToo in
+            let exclude = tables .exclusive i q p j known below adds-q member knownToo adds-p in
+            never-when-excluded i j known knownToo exclude;
         shortest = λ q i below first adds.
-            let known : i < actions = omega arith in
-            let adds-q = ap (λ (set : ℕ). has set q) (described i known .adds) ∙ adds in
+            let known : i < frame .actions = rw (described .actions) at first in
+            let adds-q = ap (λ (set : ℕ). has set q) (described .each i known .adds) ∙ adds in
             let least = tables .shortest q below i known adds-q in
-            let lasts = described i known .duration in
+            let lasts = described .each i known .duration in
             omega arith;
       }
 
@@ -112,13 +136,13 @@ module _ (from away : ℕ) (xs ys : List ℕ) (q v : ℕ) (below : q < 64) (less
       }
 
 -- ---- what the actions beside an action add
-module _ (sets numbers : List ℕ) (pools : ℕ) (available : List ℕ) (i : ℕ) where
-  pub outside-at-first : (all : ℕ) → Outside sets numbers pools available i 0 all
+module _ (sets numbers times : List ℕ) (frame : Frame) (i : ℕ) where
+  pub outside-at-first : (all : ℕ) → Outside sets numbers times frame i 0 all
   outside-at-first all j p l = absurd (omega arith)
 
-  pub outside-on : (j : ℕ) (test : Bool) (part all : ℕ) → (test ≡ true → Exclude sets numbers pools available i j)
-      → part ≡ cond (not test) (addsAt sets j) 0 → Outside sets numbers pools available i j all
-      → Outside sets numbers pools available i (j + 1) (union part all)
+  pub outside-on : (j : ℕ) (test : Bool) (part all : ℕ) → (test ≡ true → Exclude sets numbers times frame i j)
+      → part ≡ cond (not test) (addsAt sets j) 0 → Outside sets numbers times frame i j all
+      → Outside sets numbers times frame i (j + 1) (union part all)
   outside-on j test part all excludes is before k p l adds out =
       ⊎-elim
       (λ e.
@@ -135,24 +159,26 @@ module _ (sets numbers : List ℕ) (pools : ℕ) (available : List ℕ) (i : ℕ
       (eq-or-lt-of-le l)
 
 -- ---- action after action
-exclude-kept : (xs ys numbers : List ℕ) (pools : ℕ) (available : List ℕ) (i j : ℕ) → i < 64
-    → KeptBefore 320 384 xs ys → Exclude xs numbers pools available i j → Exclude ys numbers pools available i j
-exclude-kept xs ys numbers pools available i j few kept exclude =
+exclude-kept : (xs ys numbers times : List ℕ) (frame : Frame) (i j : ℕ) → i < 64 → j < 64 → KeptBefore 320 384 xs ys
+    → Exclude xs numbers times frame i j → Exclude ys numbers times frame i j
+exclude-kept xs ys numbers times frame i j few fewToo kept exclude =
+    let first = kept .same (i * 4) (omega arith) in
+    let second = kept .same (j * 4) (omega arith) in
     record {
       different = exclude .different;
       why = ⊎-elim (λ clash. inl (ap (λ (s : ℕ). has s j) (kept .same (i * 4 + 3) (omega arith)) ∙ clash))
-          (λ exceeds. inr exceeds) (exclude .why);
+          (⊎-elim (λ exceeds. inr (inl exceeds)) (λ late. inr (inr (rw (first, second) late)))) (exclude .why);
     }
 
-pub apart-on : (xs ys numbers : List ℕ) (pools : ℕ) (available : List ℕ) (actions i away : ℕ) → i < actions
-    → actions ≤ 64 → Outside xs numbers pools available i actions away → Lessened 64 (addsAt xs i) away xs ys
-    → ApartTo xs numbers pools available actions i → ApartTo ys numbers pools available actions (i + 1)
-apart-on xs ys numbers pools available actions i away known few outside lessened before k q p j l below adds member
-    knownToo addsToo =
+pub apart-on : (xs ys numbers times : List ℕ) (frame : Frame) (i away : ℕ) → i < frame .actions
+    → frame .actions ≤ 64 → Outside xs numbers times frame i (frame .actions) away
+    → Lessened 64 (addsAt xs i) away xs ys → ApartTo xs numbers times frame i → ApartTo ys numbers times frame (i + 1)
+apart-on xs ys numbers times frame i away known few outside lessened before k q p j l below adds member knownToo
+    addsToo =
     let kept = lessened .kept in
     let first = ap (λ (s : ℕ). has s q) (sym (kept .same (k * 4 + 1) (omega arith))) ∙ adds in
     let second = ap (λ (s : ℕ). has s p) (sym (kept .same (j * 4 + 1) (omega arith))) ∙ addsToo in
-    exclude-kept xs ys numbers pools available k j (omega arith) kept
+    exclude-kept xs ys numbers times frame k j (omega arith) (omega arith) kept
     (⊎-elim
     (λ e.
     let same : k ≡ i = omega arith in
@@ -196,22 +222,24 @@ least-put-on sets xs ys actions q v few below here before =
     }
 
 -- both tables
-pub cliques-filled : (sets xs ys : List ℕ) (pools : ℕ) (available : List ℕ) (actions : ℕ) → actions ≤ 64 → pools ≤ 4
-    → ApartTo sets xs pools available actions actions → LeastPut sets actions 64 xs ys
-    → CliquesAt sets ys pools available actions
-cliques-filled sets xs ys pools available actions few fewPools apart put =
+pub cliques-filled : (sets xs ys times : List ℕ) (frame : Frame) → frame .actions ≤ 64 → frame .pools ≤ 4
+    → ApartTo sets xs times frame (frame .actions) → LeastPut sets (frame .actions) 64 xs ys
+    → CliquesAt sets ys times frame
+cliques-filled sets xs ys times frame few fewPools apart put =
     record {
       exclusive = λ i q p j known below adds member knownToo addsToo.
           let exclude = apart i q p j known below adds member knownToo addsToo in
           record {
             different = exclude .different;
             why = ⊎-elim (λ clash. inl clash)
+                (⊎-elim
                 (λ exceeds.
                 let inside = exceeds .1 in
                 let more = exceeds .2 in
                 let first = put .kept .same (i * 9 + 1 + exceeds .0) (omega arith) in
                 let second = put .kept .same (j * 9 + 1 + exceeds .0) (omega arith) in
-                inr (exceeds .0, inside, rw (first, second) more))
+                inr (inl (exceeds .0, inside, rw (first, second) more)))
+                (λ late. inr (inr late)))
                 (exclude .why);
           };
       shortest = put .least;

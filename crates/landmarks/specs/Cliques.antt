@@ -6,19 +6,30 @@ use mathlib.Core.Bool.{true, false}
 use mathlib.Core.Logic.{_⊎_}
 use mathlib.Core.List.{List}
 use lib.ListN.{length, getD}
-use Rattle.facts.specs.FactSet.{has, Subset}
+use Rattle.facts.specs.FactSet.{has, union, Subset}
 use Rattle.job.specs.Job.{Job}
+use Rattle.timeline.specs.Step.{Step}
+use Rattle.timeline.specs.Timeline.{held}
 use Rattle.times.specs.Earliest.{actionOf}
-use Rattle.tables.specs.Tables.{clashes, addsAt, clashesAt, durationAt, poolUseAt}
+use Rattle.times.proofs.PlanSteps.{PlanOf}
+use Rattle.earliest.specs.Numbers.{setNumber}
+use Rattle.tables.specs.declared.Frame.{Frame}
+use Rattle.tables.specs.Tables.{clashes, needsAt, addsAt, clashesAt, durationAt, poolUseAt}
 use Rattle.landmarks.specs.Tables.{KeptBefore}
 
+-- in no plan does a set ever hold
+abbrev pub NeverHolds : Job → ℕ → Type 0
+NeverHolds J set =
+    (T goal : ℕ) (P : List Step) → PlanOf J T goal P → (m : ℕ) → Subset set (held (J .start) P m) → ⊥
+
 -- Actions i and j are different and no plan has both in one minute: they clash, or use more of some pool together than
--- there is.
+-- there is, or what they need never holds together.
 pub record NeverOverlap (J : Job) (i j : ℕ) : Type 0 where
   pub different : i ≡ j → ⊥
   pub why : (clashes J i j ≡ true)
-      ⊎ ((pool : ℕ) × (pool < length (J .pools))
+      ⊎ (((pool : ℕ) × (pool < length (J .pools))
       × (getD (J .pools) pool 0 < getD (actionOf J i .pools) pool 0 + getD (actionOf J j .pools) pool 0))
+      ⊎ NeverHolds J (union (actionOf J i .needs) (actionOf J j .needs)))
 
 -- For each fact below n, facts whose adders never overlap its own, and minutes that each of its adders takes.
 pub record Cliques (J : Job) (n : ℕ) (apart least : ℕ → ℕ) : Type 0 where
@@ -45,20 +56,25 @@ abbrev pub leastAt : List ℕ → ℕ → ℕ
 leastAt numbers q = getD numbers (1088 + q) 0
 
 -- actions i and j use more of some pool together than there is
-abbrev pub Exceeded : List ℕ → ℕ → List ℕ → ℕ → ℕ → Type 0
-Exceeded numbers pools available i j =
-    (pool : ℕ) × (pool < pools) × (getD available pool 0 < poolUseAt numbers i pool + poolUseAt numbers j pool)
+abbrev pub Exceeded : List ℕ → Frame → ℕ → ℕ → Type 0
+Exceeded numbers frame i j =
+    (pool : ℕ) × (pool < frame .pools)
+    × (getD (frame .available) pool 0 < poolUseAt numbers i pool + poolUseAt numbers j pool)
+
+-- what they need is unreachable together: later than any finite time
+abbrev pub Unreached : List ℕ → List ℕ → Frame → ℕ → ℕ → Type 0
+Unreached sets times frame i j = 530400 < setNumber times (union (needsAt sets i) (needsAt sets j)) (frame .facts)
 
 -- NeverOverlap by the tables
-pub record Exclude (sets numbers : List ℕ) (pools : ℕ) (available : List ℕ) (i j : ℕ) : Type 0 where
+pub record Exclude (sets numbers times : List ℕ) (frame : Frame) (i j : ℕ) : Type 0 where
   pub different : i ≡ j → ⊥
-  pub why : (has (clashesAt sets i) j ≡ true) ⊎ Exceeded numbers pools available i j
+  pub why : (has (clashesAt sets i) j ≡ true) ⊎ (Exceeded numbers frame i j ⊎ Unreached sets times frame i j)
 
 -- of the facts apart from q, none is added by an action that could overlap one of the first n actions that adds q
-abbrev pub ApartTo : List ℕ → List ℕ → ℕ → List ℕ → ℕ → ℕ → Type 0
-ApartTo sets numbers pools available actions n =
-    (i q p j : ℕ) → i < n → q < 64 → has (addsAt sets i) q ≡ true → has (apartAt sets q) p ≡ true → j < actions
-    → has (addsAt sets j) p ≡ true → Exclude sets numbers pools available i j
+abbrev pub ApartTo : List ℕ → List ℕ → List ℕ → Frame → ℕ → Type 0
+ApartTo sets numbers times frame n =
+    (i q p j : ℕ) → i < n → q < 64 → has (addsAt sets i) q ≡ true → has (apartAt sets q) p ≡ true
+    → j < frame .actions → has (addsAt sets j) p ≡ true → Exclude sets numbers times frame i j
 
 -- a number of minutes for fact q that each of the first n actions that adds it takes
 abbrev pub LeastTo : List ℕ → List ℕ → ℕ → ℕ → ℕ → Type 0
@@ -66,21 +82,28 @@ LeastTo sets numbers n q minutes =
     (i : ℕ) → i < n → has (addsAt sets i) q ≡ true → minutes ≤ durationAt numbers i
 
 -- the tables have cliques
-pub record CliquesAt (sets numbers : List ℕ) (pools : ℕ) (available : List ℕ) (actions : ℕ) : Type 0 where
-  pub exclusive : ApartTo sets numbers pools available actions actions
-  pub shortest : (q : ℕ) → q < 64 → LeastTo sets numbers actions q (leastAt numbers q)
+pub record CliquesAt (sets numbers times : List ℕ) (frame : Frame) : Type 0 where
+  pub exclusive : ApartTo sets numbers times frame (frame .actions)
+  pub shortest : (q : ℕ) → q < 64 → LeastTo sets numbers (frame .actions) q (leastAt numbers q)
 
 -- the minutes of some clique of a set
 abbrev pub CliqueMinutes : List ℕ → List ℕ → ℕ → ℕ → Type 0
 CliqueMinutes sets numbers set minutes =
     (rest : ℕ) × Taken 64 (apartAt sets) (leastAt numbers) set rest minutes
 
+-- the table of times is long enough, and the frame within the limits
+pub record WithinLimits (times : List ℕ) (frame : Frame) : Type 0 where
+  pub timeCount : length times ≡ 2080
+  pub facts : frame .facts ≤ 64
+  pub actions : frame .actions ≤ 64
+  pub pools : frame .pools ≤ 4
+
 -- ---- what inner functions promise
 
 -- of the first n actions, those that add a fact outside the set never overlap action i
-abbrev pub Outside : List ℕ → List ℕ → ℕ → List ℕ → ℕ → ℕ → ℕ → Type 0
-Outside sets numbers pools available i n set =
-    (j p : ℕ) → j < n → has (addsAt sets j) p ≡ true → has set p ≡ false → Exclude sets numbers pools available i j
+abbrev pub Outside : List ℕ → List ℕ → List ℕ → Frame → ℕ → ℕ → ℕ → Type 0
+Outside sets numbers times frame i n set =
+    (j p : ℕ) → j < n → has (addsAt sets j) p ≡ true → has set p ≡ false → Exclude sets numbers times frame i j
 
 -- no fact of a set is apart any more from a fact, below n, of another set; and no facts are apart that were not
 pub record Lessened (n from away : ℕ) (xs ys : List ℕ) : Type 0 where

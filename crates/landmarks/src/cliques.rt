@@ -8,21 +8,23 @@ ghost use lib.ListN.{length};
 ghost use Rattle.facts.specs.FactSet.{has};
 ghost use Rattle.tables.specs.Tables.{addsAt, durationAt};
 ghost use Rattle.landmarks.specs.Tables.{KeptBefore};
-ghost use Rattle.landmarks.specs.Cliques.{Exceeded, Exclude, Outside, Lessened, ApartTo};
-ghost use Rattle.landmarks.specs.Cliques.{LeastTo, LeastPut, CliquesAt, Remaining, CliqueMinutes};
+ghost use Rattle.landmarks.specs.Cliques.{WithinLimits, Exceeded, Unreached, Exclude, Outside, Lessened};
+ghost use Rattle.landmarks.specs.Cliques.{ApartTo, LeastTo, LeastPut, CliquesAt, Remaining, CliqueMinutes};
 use crate::shares;
-use job::Job;
+use earliest::set_time;
+use tables::Frame;
 
 // No plan is longer than a day: a clique that takes more need not be added up further.
 const DAY: u64 = 1440;
 
 // Whether actions i and j use more of some pool together than there is.
-fn exceed(numbers: &[u32], pools: usize, available: [u32; Job::POOLS], i: usize, j: usize) -> bool
-    requires { ⌜ (length (now numbers) ≡ 1152) × (pools ≤ 4) × (i < 64) × (j < 64) ⌝ }
-    ensures { λ r. ⌜ (r ≡ true → Exceeded (now (numbers .entry)) pools available i j) ⌝ }
+fn exceed(numbers: &[u32], frame: Frame, i: usize, j: usize) -> bool
+    requires { ⌜ (length (now numbers) ≡ 1152) × (frame .pools ≤ 4) × (i < 64) × (j < 64) ⌝ }
+    ensures { λ r. ⌜ (r ≡ true → Exceeded (now (numbers .entry)) frame i j) ⌝ }
 {
+    let available = frame.available;
     let mut pool = 0;
-    while pool < pools {
+    while pool < frame.pools {
         let first = shares::wide(numbers[i * 9 + 1 + pool]);
         let second = shares::wide(numbers[j * 9 + 1 + pool]);
         if shares::wide(available[pool]) < first + second {
@@ -33,17 +35,21 @@ fn exceed(numbers: &[u32], pools: usize, available: [u32; Job::POOLS], i: usize,
     false
 }
 
+// Whether what actions i and j need is unreachable together.
+fn unreached(sets: &[u64], times: &[u32], frame: Frame, i: usize, j: usize) -> bool
+    requires { ⌜ (length (now sets) ≡ 384) × WithinLimits (now times) frame × (i < 64) × (j < 64) ⌝ }
+    ensures { λ r. ⌜ (r ≡ true → Unreached (now (sets .entry)) (now (times .entry)) frame i j) ⌝ }
+{
+    let needs = facts::union(sets[i * 4], sets[j * 4]);
+    set_time::LATEST < set_time::set_time(times, frame.facts, needs)
+}
+
 // Whether actions i and j are different, and never overlap.
-fn exclude(
-    sets: &[u64],
-    numbers: &[u32],
-    pools: usize,
-    available: [u32; Job::POOLS],
-    i: usize,
-    j: usize,
-) -> bool
-    requires { ⌜ (length (now sets) ≡ 384) × (length (now numbers) ≡ 1152) × (pools ≤ 4) × (i < 64) × (j < 64) ⌝ }
-    ensures { λ r. ⌜ (r ≡ true → Exclude (now (sets .entry)) (now (numbers .entry)) pools available i j) ⌝ }
+fn exclude(sets: &[u64], numbers: &[u32], times: &[u32], frame: Frame, i: usize, j: usize) -> bool
+    requires { ⌜ (length (now sets) ≡ 384) × (length (now numbers) ≡ 1152) × WithinLimits (now times) frame
+        × (i < 64) × (j < 64) ⌝ }
+    ensures { λ r. ⌜ (r ≡ true
+        → Exclude (now (sets .entry)) (now (numbers .entry)) (now (times .entry)) frame i j) ⌝ }
 {
     if i == j {
         return false;
@@ -51,25 +57,23 @@ fn exclude(
     if facts::has(sets[i * 4 + 3], j as u8) {
         return true;
     }
-    exceed(numbers, pools, available, i, j)
+    if exceed(numbers, frame, i, j) {
+        return true;
+    }
+    unreached(sets, times, frame, i, j)
 }
 
 // What the actions add that can overlap action i, and action i itself.
-fn beside(
-    sets: &[u64],
-    numbers: &[u32],
-    actions: usize,
-    pools: usize,
-    available: [u32; Job::POOLS],
-    i: usize,
-) -> u64
-    requires { ⌜ (length (now sets) ≡ 384) × (length (now numbers) ≡ 1152) × (actions ≤ 64) × (pools ≤ 4) × (i < 64) ⌝ }
-    ensures { λ r. ⌜ Outside (now (sets .entry)) (now (numbers .entry)) pools available i actions r ⌝ }
+fn beside(sets: &[u64], numbers: &[u32], times: &[u32], frame: Frame, i: usize) -> u64
+    requires { ⌜ (length (now sets) ≡ 384) × (length (now numbers) ≡ 1152) × WithinLimits (now times) frame
+        × (i < 64) ⌝ }
+    ensures { λ r. ⌜ Outside (now (sets .entry)) (now (numbers .entry)) (now (times .entry)) frame i
+        (frame .actions) r ⌝ }
 {
     let mut all: u64 = 0;
     let mut j = 0;
-    while j < actions {
-        let apart = exclude(sets, numbers, pools, available, i, j);
+    while j < frame.actions {
+        let apart = exclude(sets, numbers, times, frame, i, j);
         all = facts::union(facts::when(!apart, sets[j * 4 + 1]), all);
         j += 1;
     }
@@ -115,23 +119,16 @@ fn begin(sets: &mut [u64], all: u64)
 }
 
 // Puts for each fact those that are apart from it, of the facts that actions add and that are not there at the start.
-fn fill_apart(
-    sets: &mut [u64],
-    numbers: &[u32],
-    actions: usize,
-    pools: usize,
-    available: [u32; Job::POOLS],
-    start: u64,
-)
-    requires { ⌜ (length (now sets) ≡ 384) × (length (now numbers) ≡ 1152) × (actions ≤ 64) × (pools ≤ 4) ⌝ }
+fn fill_apart(sets: &mut [u64], numbers: &[u32], times: &[u32], frame: Frame, start: u64)
+    requires { ⌜ (length (now sets) ≡ 384) × (length (now numbers) ≡ 1152) × WithinLimits (now times) frame ⌝ }
     ensures { λ r. ⌜ KeptBefore 320 384 (now (sets .entry)) (now (sets .exit))
-        × ApartTo (now (sets .exit)) (now (numbers .entry)) pools available actions actions ⌝ }
+        × ApartTo (now (sets .exit)) (now (numbers .entry)) (now (times .entry)) frame (frame .actions) ⌝ }
 {
-    let all = facts::difference(added(sets, actions), start);
+    let all = facts::difference(added(sets, frame.actions), start);
     begin(sets, all);
     let mut i = 0;
-    while i < actions {
-        let away = beside(sets, numbers, actions, pools, available, i);
+    while i < frame.actions {
+        let away = beside(sets, numbers, times, frame, i);
         let from = sets[i * 4 + 1];
         lessen(sets, from, away);
         i += 1;
@@ -185,21 +182,14 @@ fn fill_least(numbers: &mut [u32], sets: &[u64], actions: usize)
 }
 
 // Puts into the tables, for each fact, the facts that are apart from it and its least minutes.
-pub fn fill(
-    sets: &mut [u64],
-    numbers: &mut [u32],
-    actions: usize,
-    pools: usize,
-    available: [u32; Job::POOLS],
-    start: u64,
-)
-    requires { ⌜ (length (now sets) ≡ 384) × (length (now numbers) ≡ 1152) × (actions ≤ 64) × (pools ≤ 4) ⌝ }
+pub fn fill(sets: &mut [u64], numbers: &mut [u32], times: &[u32], frame: Frame, start: u64)
+    requires { ⌜ (length (now sets) ≡ 384) × (length (now numbers) ≡ 1152) × WithinLimits (now times) frame ⌝ }
     ensures { λ r. ⌜ KeptBefore 320 384 (now (sets .entry)) (now (sets .exit))
         × KeptBefore 1088 1152 (now (numbers .entry)) (now (numbers .exit))
-        × CliquesAt (now (sets .exit)) (now (numbers .exit)) pools available actions ⌝ }
+        × CliquesAt (now (sets .exit)) (now (numbers .exit)) (now (times .entry)) frame ⌝ }
 {
-    fill_apart(sets, numbers, actions, pools, available, start);
-    fill_least(numbers, sets, actions);
+    fill_apart(sets, numbers, times, frame, start);
+    fill_least(numbers, sets, frame.actions);
 }
 
 // The one of two facts with more minutes.

@@ -9,42 +9,41 @@ use Rattle.landmarks.proofs.cliques.beside.Statement.{statement}
 use Rattle.landmarks.proofs.cliques.beside.Tie as tie
 
 abbrev Inv-loop : tie.InvT-loop
-Inv-loop sets numbers actions pools available i all₀ j₀ all j =
-    (j ≤ actions)
-    × Outside sets numbers pools available i j all
+Inv-loop sets numbers times frame i all₀ j₀ all j = (j ≤ frame .actions) × Outside sets numbers times frame i j all
 
 abbrev μ-loop : tie.MeasureT-loop
-μ-loop sets numbers actions pools available i all₀ j₀ all j = actions - j
+μ-loop sets numbers times frame i all₀ j₀ all j = frame .actions - j
 
 loop-holds : tie.Need-loop-holds Inv-loop μ-loop
 loop-holds c =
-    let a = c .before .before .args in
-    (omega arith, outside-at-first (a .sets .now) (a .numbers .now) (a .pools) (a .available) (a .i) _)
+    let c-args = c .before .before .before .args in
+    let a = c-args in
+    (omega arith, outside-at-first (a .sets .now) (a .numbers .now) (a .times .now) (a .frame) (a .i) _)
 
 exclude-requires : tie.Need-exclude-requires Inv-loop μ-loop
 exclude-requires c κs =
-    let c-pre = c .before .before .before .before .pre in
-    let h = c-pre in (h .0, h .1, h .3, h .4, omega arith)
+    let c-pre = c .before .before .before .before .before .before .pre in
+    let h = c-pre in let few = h .2 .actions in (h .0, h .1, h .2, h .3, omega arith)
 
 mul-when : tie.Need-mul-when Inv-loop μ-loop
 mul-when c =
-    let c-pre = c .before .before .before .before .before .pre in
-    let h = c-pre in omega arith
+    let c-pre = c .before .before .before .before .before .before .before .pre in
+    let h = c-pre in let few = h .2 .actions in omega arith
 
 add-when : tie.Need-add-when Inv-loop μ-loop
 add-when c =
-    let c-pre = c .before .before .before .before .before .pre in
-    let h = c-pre in omega arith
+    let c-pre = c .before .before .before .before .before .before .before .pre in
+    let h = c-pre in let few = h .2 .actions in omega arith
 
 mul-when-2 : tie.Need-mul-when-2 Inv-loop μ-loop
 mul-when-2 c =
-    let c-pre = c .before .before .before .before .before .pre in
-    let h = c-pre in omega arith
+    let c-pre = c .before .before .before .before .before .before .before .pre in
+    let h = c-pre in let few = h .2 .actions in omega arith
 
 shared-slice-read-when : tie.Need-shared-slice-read-when Inv-loop μ-loop
 shared-slice-read-when c =
-    let c-pre = c .before .before .before .before .before .before .pre in
-    let h = c-pre in omega arith
+    let c-pre = c .before .before .before .before .before .before .before .before .pre in
+    let h = c-pre in let few = h .2 .actions in omega arith
 
 when-requires : tie.Need-when-requires Inv-loop μ-loop
 when-requires c κs = tt
@@ -54,29 +53,31 @@ union-requires c κs = tt
 
 add-j : tie.Need-add-j Inv-loop μ-loop
 add-j c =
-    let c-pre = c .before .before .before .before .before .before .before .before .pre in
-    let h = c-pre in omega arith
+    let at8 = c .before .before .before .before .before .before .before .before in
+    let c-pre = at8 .before .before .pre in
+    let h = c-pre in let few = h .2 .actions in omega arith
 
 loop-less : tie.Need-loop-less Inv-loop μ-loop
 loop-less c = omega arith
 
 loop-again : tie.Need-loop-again Inv-loop μ-loop
 loop-again c =
-    let c-args = c .before .before .before .before .before .before .before .before .args in
-    let c-loop = c .before .before .before .before .before .loop in
+    let at8 = c .before .before .before .before .before .before .before .before in
+    let c-args = at8 .before .before .args in
+    let c-loop = c .before .before .before .before .before .before .loop in
     let c-exclude = c .before .before .before .exclude in
     let a = c-args in (
       omega arith,
       rw (c .union .ensures .0)
-          (outside-on (a .sets .now) (a .numbers .now) (a .pools) (a .available) (a .i) (c-loop .j)
+          (outside-on (a .sets .now) (a .numbers .now) (a .times .now) (a .frame) (a .i) (c-loop .j)
           (c-exclude .result) _ _ (c-exclude .ensures) (c .before .when .ensures) (c-loop .inv .1)),
     )
 
 returns : tie.Need-returns Inv-loop μ-loop
 returns c =
-    let c-args = c .before .before .before .before .args in
-    let c-loop = c .before .loop in
-    let all : c-loop .j ≡ c-args .actions = omega arith in
+    let c-args = c .before .before .before .before .before .before .args in
+    let c-loop = c .before .before .loop in
+    let all : c-loop .j ≡ c-args .frame .actions = omega arith in
     rw all at (c-loop .inv .1)
 
 pub beside-spec : {M : Type 1} → statement M

@@ -8,29 +8,35 @@ use Rattle.landmarks.proofs.cliques.exceed.Statement.{statement}
 use Rattle.landmarks.proofs.cliques.exceed.Tie as tie
 
 abbrev Inv-loop : tie.InvT-loop
-Inv-loop numbers pools i j available pool₀ pool = pool ≤ pools
+Inv-loop numbers frame i j available pool₀ pool = pool ≤ frame .pools
 
 abbrev μ-loop : tie.MeasureT-loop
-μ-loop numbers pools i j available pool₀ pool = pools - pool
+μ-loop numbers frame i j available pool₀ pool = frame .pools - pool
 
 loop-holds : tie.Need-loop-holds Inv-loop μ-loop
 loop-holds c = omega arith
 
 mul-wide : tie.Need-mul-wide Inv-loop μ-loop
-mul-wide c = let h = c .before .before .before .pre in omega arith
+mul-wide c =
+    let c-pre = c .before .before .before .before .before .pre in
+    let h = c-pre in omega arith
 
 add-wide : tie.Need-add-wide Inv-loop μ-loop
-add-wide c = let h = c .before .before .before .pre in omega arith
+add-wide c =
+    let c-pre = c .before .before .before .before .before .pre in
+    let h = c-pre in omega arith
 
 add-wide-2 : tie.Need-add-wide-2 Inv-loop μ-loop
-add-wide-2 c = let h = c .before .before .before .pre in omega arith
+add-wide-2 c =
+    let c-pre = c .before .before .before .before .before .pre in
+    let h = c-pre in omega arith
 
 mul-wide-2 : tie.Need-mul-wide-2 Inv-loop μ-loop
 mul-wide-2 c = omega arith
 
 shared-slice-read-wide : tie.Need-shared-slice-read-wide Inv-loop μ-loop
 shared-slice-read-wide c =
-    let c-pre = c .before .before .before .before .pre in
+    let c-pre = c .before .before .before .before .before .before .pre in
     let h = c-pre in omega arith
 
 wide-requires : tie.Need-wide-requires Inv-loop μ-loop
@@ -38,17 +44,17 @@ wide-requires c κs = tt
 
 mul-wide-3 : tie.Need-mul-wide-3 Inv-loop μ-loop
 mul-wide-3 c =
-    let c-pre = c .before .before .before .before .before .pre in
+    let c-pre = c .before .before .before .before .before .before .before .pre in
     let h = c-pre in omega arith
 
 add-wide-3 : tie.Need-add-wide-3 Inv-loop μ-loop
 add-wide-3 c =
-    let c-pre = c .before .before .before .before .before .pre in
+    let c-pre = c .before .before .before .before .before .before .before .pre in
     let h = c-pre in omega arith
 
 add-wide-4 : tie.Need-add-wide-4 Inv-loop μ-loop
 add-wide-4 c =
-    let c-pre = c .before .before .before .before .before .pre in
+    let c-pre = c .before .before .before .before .before .before .before .pre in
     let h = c-pre in omega arith
 
 mul-wide-4 : tie.Need-mul-wide-4 Inv-loop μ-loop
@@ -56,7 +62,7 @@ mul-wide-4 c = omega arith
 
 shared-slice-read-wide-2 : tie.Need-shared-slice-read-wide-2 Inv-loop μ-loop
 shared-slice-read-wide-2 c =
-    let c-pre = c .before .before .before .before .before .before .pre in
+    let c-pre = c .before .before .before .before .before .before .before .before .pre in
     let h = c-pre in omega arith
 
 wide-requires-2 : tie.Need-wide-requires-2 Inv-loop μ-loop
@@ -67,14 +73,15 @@ mul-wide-5 c = omega arith
 
 array-read-wide : tie.Need-array-read-wide Inv-loop μ-loop
 array-read-wide c =
-    let c-pre = c .before .before .before .before .before .before .before .pre in
+    let at8 = c .before .before .before .before .before .before .before .before in
+    let c-pre = at8 .before .pre in
     let h = c-pre in omega arith
 
 wide-requires-3 : tie.Need-wide-requires-3 Inv-loop μ-loop
 wide-requires-3 c κs = tt
 
-add-if1 : tie.Need-add-if1 Inv-loop μ-loop
-add-if1 c =
+add-if2 : tie.Need-add-if2 Inv-loop μ-loop
+add-if2 c =
     let c-wide = c .before .before .before .wide in
     let a = c-wide .ensures .1 in
     let b = c .before .wide2 .ensures .1 in
@@ -82,19 +89,19 @@ add-if1 c =
 
 returns : tie.Need-returns Inv-loop μ-loop
 returns c =
-    let c-loop = c .before .before .before .before .before .before .before .loop in
-    let c-loop-test = c .before .before .before .before .before .before .loop-test in
+    let c-loop = c .before .before .before .before .before .before .before .before .loop in
+    let c-if1 = c .before .before .before .before .before .before .if1 in
     let c-wide = c .before .before .before .before .wide in
     let a = c-wide .ensures .0 in
     let b = c .before .before .wide2 .ensures .0 in
     let most = c .before .wide3 .ensures .0 in
-    let more = c .if1 .taken in
-    λ e. (c-loop .pool, c-loop-test .taken, omega arith)
+    let more = c .if2 .taken in
+    λ e. (c-loop .pool, c-if1 .taken, omega arith)
 
 add-pool : tie.Need-add-pool Inv-loop μ-loop
 add-pool c =
     let at8 = c .before .before .before .before .before .before .before .before in
-    let c-pre = at8 .before .pre in
+    let c-pre = at8 .before .before .before .pre in
     let h = c-pre in omega arith
 
 loop-less : tie.Need-loop-less Inv-loop μ-loop
@@ -128,7 +135,7 @@ exceed-spec =
     mul-wide-5
     array-read-wide
     wide-requires-3
-    add-if1
+    add-if2
     returns
     add-pool
     loop-less

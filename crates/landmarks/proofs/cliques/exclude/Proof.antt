@@ -12,22 +12,26 @@ returns : tie.Need-returns
 returns c = λ e. absurd (true≢false (sym e))
 
 mul-has : tie.Need-mul-has
-mul-has c = let h = c .before .before .before .pre in omega arith
+mul-has c =
+    let c-pre = c .before .before .before .before .pre in
+    let h = c-pre in omega arith
 
 add-has : tie.Need-add-has
-add-has c = let h = c .before .before .before .pre in omega arith
+add-has c =
+    let c-pre = c .before .before .before .before .pre in
+    let h = c-pre in omega arith
 
 mul-has-2 : tie.Need-mul-has-2
 mul-has-2 c = search needs
 
 shared-slice-read-has : tie.Need-shared-slice-read-has
 shared-slice-read-has c =
-    let c-pre = c .before .before .before .before .pre in
+    let c-pre = c .before .before .before .before .before .pre in
     let h = c-pre in omega arith
 
 cast-has : tie.Need-cast-has
 cast-has c =
-    let c-pre = c .before .before .before .before .pre in
+    let c-pre = c .before .before .before .before .before .pre in
     let h = c-pre in omega arith
 
 has-requires : tie.Need-has-requires
@@ -41,13 +45,24 @@ returns-2 c =
 
 exceed-requires : tie.Need-exceed-requires
 exceed-requires c κs =
-    let c-pre = c .before .before .before .before .before .before .pre in
-    let h = c-pre in (h .1, h .2, h .3, h .4)
+    let c-pre = c .before .before .before .before .before .before .before .pre in
+    let h = c-pre in (h .1, h .2 .pools, h .3, h .4)
 
 returns-3 : tie.Need-returns-3
 returns-3 c =
-    let c-if1 = c .before .before .before .before .if1 in
-    λ e. record { different = c-if1 .left; why = inr (c .exceed .ensures e) }
+    let c-if1 = c .before .before .before .before .before .if1 in
+    λ e. record { different = c-if1 .left; why = inr (inl (c .before .exceed .ensures (c .if3 .taken))) }
+
+unreached-requires : tie.Need-unreached-requires
+unreached-requires c κs =
+    let at8 = c .before .before .before .before .before .before .before .before in
+    let c-pre = at8 .before .pre in
+    let h = c-pre in (h .0, h .2, h .3, h .4)
+
+returns-4 : tie.Need-returns-4
+returns-4 c =
+    let c-if1 = c .before .before .before .before .before .before .if1 in
+    λ e. record { different = c-if1 .left; why = inr (inr (c .unreached .ensures e)) }
 
 pub exclude-spec : {M : Type 1} → statement M
 exclude-spec =
@@ -62,4 +77,6 @@ exclude-spec =
     has-requires
     returns-2
     exceed-requires
-    returns-3)
+    returns-3
+    unreached-requires
+    returns-4)

@@ -11,21 +11,23 @@ use Rattle.landmarks.proofs.cliques.fill_apart.Statement.{statement}
 use Rattle.landmarks.proofs.cliques.fill_apart.Tie as tie
 
 abbrev Inv-loop : tie.InvT-loop
-Inv-loop sets₀ numbers actions pools available start all i₀ sets i =
-    (i ≤ actions) × KeptBefore 320 384 sets₀ sets × ApartTo sets numbers pools available actions i
+Inv-loop sets₀ numbers times frame start all i₀ sets i =
+    (i ≤ frame .actions) × KeptBefore 320 384 sets₀ sets × ApartTo sets numbers times frame i
 
 abbrev μ-loop : tie.MeasureT-loop
-μ-loop sets₀ numbers actions pools available start all i₀ sets i = actions - i
+μ-loop sets₀ numbers times frame start all i₀ sets i = frame .actions - i
 
 added-requires : tie.Need-added-requires Inv-loop μ-loop
-added-requires c κs = let h = c .before .before .before .pre in (h .0, h .2)
+added-requires c κs =
+    let c-pre = c .before .before .before .before .pre in
+    let h = c-pre in (h .0, h .2 .actions)
 
 difference-requires : tie.Need-difference-requires Inv-loop μ-loop
 difference-requires c κs = tt
 
 begin-requires : tie.Need-begin-requires Inv-loop μ-loop
 begin-requires c κs =
-    let c-pre = c .before .before .before .before .before .before .pre in
+    let c-pre = c .before .before .before .before .before .before .before .pre in
     c-pre .0
 
 loop-holds : tie.Need-loop-holds Inv-loop μ-loop
@@ -35,45 +37,49 @@ loop-holds c =
 beside-requires : tie.Need-beside-requires Inv-loop μ-loop
 beside-requires c κs =
     let at8 = c .before .before .before .before .before .before .before .before in
-    let c-pre = at8 .before .before .before .before .pre in
-    let h = c-pre in (c .before .before .loop .inv .1 .size, h .1, h .2, h .3, omega arith)
+    let c-pre = at8 .before .before .before .before .before .before .pre in
+    let c-loop = c .before .before .before .loop in
+    let h = c-pre in
+    let few = h .2 .actions in
+    (c-loop .inv .1 .size, h .1, h .2, omega arith)
 
 mul-from : tie.Need-mul-from Inv-loop μ-loop
 mul-from c =
     let at8 = c .before .before .before .before .before .before .before .before in
-    let c-pre = at8 .before .before .before .before .before .pre in
-    let h = c-pre in omega arith
+    let c-pre = at8 .before .before .before .before .before .before .before .pre in
+    let h = c-pre in let few = h .2 .actions in omega arith
 
 add-from : tie.Need-add-from Inv-loop μ-loop
 add-from c =
     let at8 = c .before .before .before .before .before .before .before .before in
-    let c-pre = at8 .before .before .before .before .before .pre in
-    let h = c-pre in omega arith
+    let c-pre = at8 .before .before .before .before .before .before .before .pre in
+    let h = c-pre in let few = h .2 .actions in omega arith
 
 mul-from-2 : tie.Need-mul-from-2 Inv-loop μ-loop
 mul-from-2 c =
     let at8 = c .before .before .before .before .before .before .before .before in
-    let c-pre = at8 .before .before .before .before .before .pre in
-    let h = c-pre in omega arith
+    let c-pre = at8 .before .before .before .before .before .before .before .pre in
+    let h = c-pre in let few = h .2 .actions in omega arith
 
 slice-read-from : tie.Need-slice-read-from Inv-loop μ-loop
 slice-read-from c =
     let at8 = c .before .before .before .before .before .before .before .before in
-    let c-pre = at8 .before .before .before .before .before .before .pre in
-    let c-loop = c .before .before .before .before .loop in
-    let h = c-pre in let n = c-loop .inv .1 .size in omega arith
+    let at16 = at8 .before .before .before .before .before .before .before .before in
+    let c-pre = at16 .pre in
+    let c-loop = c .before .before .before .before .before .loop in
+    let few = c-pre .2 .actions in let n = c-loop .inv .1 .size in omega arith
 
 lessen-requires : tie.Need-lessen-requires Inv-loop μ-loop
 lessen-requires c κs =
-    let c-loop = c .before .before .before .before .before .loop in
+    let c-loop = c .before .before .before .before .before .before .loop in
     c-loop .inv .1 .size
 
 add-i : tie.Need-add-i Inv-loop μ-loop
 add-i c =
     let at8 = c .before .before .before .before .before .before .before .before in
     let at16 = at8 .before .before .before .before .before .before .before .before in
-    let c-pre = at16 .before .before .pre in
-    let h = c-pre in omega arith
+    let c-pre = at16 .before .before .before .before .pre in
+    let h = c-pre in let few = h .2 .actions in omega arith
 
 loop-less : tie.Need-loop-less Inv-loop μ-loop
 loop-less c = omega arith
@@ -82,34 +88,34 @@ loop-again : tie.Need-loop-again Inv-loop μ-loop
 loop-again c =
     let at8 = c .before .before .before .before .before .before .before .before in
     let at16 = at8 .before .before .before .before .before .before .before .before in
-    let c-args = at16 .before .before .args in
-    let c-pre = at16 .before .before .pre in
-    let c-loop = c .before .before .before .before .before .before .before .before .loop in
-    let c-loop-test = c .before .before .before .before .before .before .before .loop-test in
+    let c-args = at16 .before .before .before .before .args in
+    let c-pre = at16 .before .before .before .before .pre in
+    let c-loop = at8 .before .loop in
+    let c-if1 = c .before .before .before .before .before .before .before .if1 in
     let c-beside = c .before .before .before .before .before .beside in
     let a = c-args in
     let inv = c-loop .inv in
     let r = c .before .before .lessen .ensures in (
       omega arith,
       kept-again 320 384 _ _ _ (inv .1) (r .kept),
-      apart-on _ _ (a .numbers .now) (a .pools) (a .available) (a .actions) (c-loop .i) _ (c-loop-test .taken)
-          (c-pre .2) (c-beside .ensures) r (inv .2),
+      apart-on _ _ (a .numbers .now) (a .times .now) (a .frame) (c-loop .i) _ (c-if1 .taken) (c-pre .2 .actions)
+          (c-beside .ensures) r (inv .2),
     )
 
 same-length : tie.Need-same-length Inv-loop μ-loop
 same-length c =
     let at8 = c .before .before .before .before .before .before .before .before in
-    let c-pre = at8 .before .before .before .pre in
-    let h = c-pre .0 in let n = c .before .loop .inv .1 .size in omega arith
+    let c-pre = at8 .before .before .before .before .before .pre in
+    let h = c-pre .0 in let n = c .before .before .loop .inv .1 .size in omega arith
 
 returns : tie.Need-returns Inv-loop μ-loop
 returns c =
     let at8 = c .before .before .before .before .before .before .before .before in
-    let c-args = at8 .before .before .before .args in
-    let c-begin = c .before .before .before .before .begin in
-    let c-loop = c .before .loop in
+    let c-args = at8 .before .before .before .before .before .args in
+    let c-begin = c .before .before .before .before .before .begin in
+    let c-loop = c .before .before .loop in
     let inv = c-loop .inv in
-    let all : c-loop .i ≡ c-args .actions = omega arith in
+    let all : c-loop .i ≡ c-args .frame .actions = omega arith in
     (kept-again 320 384 _ _ _ (c-begin .ensures) (inv .1), rw all at (inv .2))
 
 pub fill-apart-spec : {M : Type 1} → statement M
