@@ -44,7 +44,7 @@ returns c =
     same-time-as (a .times .now) (a .frame .facts) _ _ (c .set-time .result) (c .before .union .ensures .0)
     (c .set-time .ensures) in
     λ e.
-    let late = ltb-true 530400 (c .set-time .result) e in
+    let late = ltb-true _ (c .set-time .result) e in
     ⊎-elim (λ same. omega arith) (λ both. both .1) time
 
 pub unreached-spec : {M : Type 1} → statement M
