@@ -5,3 +5,4 @@ pub mod TableLaws
 pub mod ShareLaws
 pub mod CliqueLaws
 pub mod CliqueTables
+pub mod KeptTables

@@ -1,0 +1,40 @@
+-- Landmarks and shares stay in the tables while cliques are filled behind them.
+-- Assumes nothing.
+use Prim.Native.Nat.{ℕ, zero, suc, _+_, _*_, _≤_, _<_}
+use mathlib.Core.Path.{_≡_, refl, sym, ap, ap₂, _∙_}
+use mathlib.Core.Bool.{cond}
+use mathlib.Core.List.{List}
+use native.Mathlib.Omega.{arith}
+use Rattle.facts.specs.FactSet.{has, union}
+use Rattle.tables.specs.Tables.{needsAt}
+use Rattle.landmarks.specs.Landmarks.{marksOf}
+use Rattle.landmarks.specs.Tables.{KeptBefore, markAt, Closed, WithinAll}
+use Rattle.landmarks.proofs.ShareLaws.{within-kept}
+
+marks-same : (f g : ℕ → ℕ) (n set : ℕ) → ((p : ℕ) → p < n → f p ≡ g p) → marksOf f n set ≡ marksOf g n set
+unfolding marksOf
+marks-same f g zero set h = refl
+marks-same f g (suc n) set h =
+    ap₂ union (ap (λ (k : ℕ). cond (has set n) k 0) (h n (omega arith)))
+    (marks-same f g n set (λ p l. h p (omega arith)))
+
+module _ (actions start : ℕ) (few : actions ≤ 64) (xs ys : List ℕ) (kept : KeptBefore 320 384 xs ys) where
+  pub closed-kept : Closed xs actions start → Closed ys actions start
+  closed-kept closed q below =
+      let mine = kept .same (256 + q) (omega arith) in
+      record {
+        atHand = λ here. mine ∙ closed q below .atHand here;
+        others = λ i known adds n h.
+            let needs = kept .same (i * 4) (omega arith) in
+            let adds-q = ap (λ (s : ℕ). has s q) (sym (kept .same (i * 4 + 1) (omega arith))) ∙ adds in
+            let marks = marks-same (markAt ys) (markAt xs) 64 (needsAt xs i)
+            (λ p l. kept .same (256 + p) (omega arith)) in
+            rw (needs, marks) (closed q below .others i known adds-q n (ap (λ (s : ℕ). has s n) (sym mine) ∙ h));
+      }
+
+  pub within-all-kept : (numbers more : List ℕ) → KeptBefore 1088 1152 numbers more
+      → WithinAll xs numbers actions start → WithinAll ys more actions start
+  within-all-kept numbers more same within row inside i known =
+      let adds = kept .same (i * 4 + 1) (omega arith) in
+      rw adds
+      (within-kept xs start numbers more actions 1088 row few inside (omega arith) same (within row inside) i known)
