@@ -124,10 +124,3 @@ stores-when-within J sets numbers actions start count described within store few
     let weight : weightAt numbers i store ≡ getD (actionOf J i .stores) store 0 =
     rw (lt-ltb store 4 few) (d .stores store inside) in
     rw (← d .adds, ← weight) (within store (omega arith) i below)
-
--- ---- the shares stay while only entries behind them change
-pub all-within-kept : (sets sets′ xs ys : List ℕ) (actions start : ℕ) → actions ≤ 64 → KeptBefore 320 384 sets sets′
-    → KeptBefore 1088 1152 xs ys → WithinAll sets xs actions start → WithinAll sets′ ys actions start
-all-within-kept sets sets′ xs ys actions start few keptSets kept within row inside i known =
-    rw (keptSets .same (i * 4 + 1) (omega arith))
-    (within-kept sets start xs ys actions 1088 row few inside (omega arith) kept (within row inside) i known)

@@ -1,6 +1,6 @@
 -- Landmarks in the table: unions and sums over the facts of a set, fact by fact; and what the test of the table says.
 -- Assumes nothing.
-use Prim.Native.Nat.{ℕ, zero, suc, _+_, _*_, _≤_, _<_}
+use Prim.Native.Nat.{ℕ, zero, suc, _+_, _≤_, _<_}
 use mathlib.Core.Path.{_≡_, refl, sym, ap, ap₂, _∙_}
 use mathlib.Core.Bool.{Bool, true, false, cond, not}
 use mathlib.Core.Logic.{inl, inr, ⊎-elim}
@@ -176,25 +176,3 @@ landmarks-when-closed J sets numbers actions start count described closed =
         (in-union-cases (single q) (marksOf (markAt sets) 64 (needsAt sets i)) p
         (closed q below .others i inside in-adds p mark)) in
         (m .0, m .1, ap (λ (set : ℕ). has set (m .0)) (sym (d .needs)) ∙ m .2, m .3)
-
--- ---- the landmarks stay while only entries behind them change
-marks-same : (f g : ℕ → ℕ) (n set : ℕ) → ((q : ℕ) → q < n → f q ≡ g q) → marksOf f n set ≡ marksOf g n set
-unfolding marksOf
-marks-same f g zero set h = refl
-marks-same f g (suc n) set h =
-    ap₂ union (ap (λ (marks : ℕ). cond (has set n) marks 0) (h n (omega arith))) (marks-same f g n set (λ q l. h q (omega arith)))
-
-pub closed-kept : (xs ys : List ℕ) (actions start : ℕ) → actions ≤ 64 → KeptBefore 320 384 xs ys → Closed xs actions start
-    → Closed ys actions start
-closed-kept xs ys actions start few kept closed q below =
-    record {
-      atHand = λ here. kept .same (256 + q) (omega arith) ∙ closed q below .atHand here;
-      others = λ i known adds n h.
-          let needs = kept .same (i * 4) (omega arith) in
-          let same = ap (marksOf (markAt ys) 64) needs
-          ∙ marks-same (markAt ys) (markAt xs) 64 (needsAt xs i) (λ p l. kept .same (256 + p) (omega arith)) in
-          let old = closed q below .others i known
-          (ap (λ (set : ℕ). has set q) (sym (kept .same (i * 4 + 1) (omega arith))) ∙ adds) n
-          (ap (λ (set : ℕ). has set n) (sym (kept .same (256 + q) (omega arith))) ∙ h) in
-          ap (λ (set : ℕ). has (union (single q) set) n) same ∙ old;
-    }

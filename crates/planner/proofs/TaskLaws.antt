@@ -17,9 +17,10 @@ use Rattle.tables.specs.declared.Frame.{Frame}
 use Rattle.tables.specs.Filled.{Filled, frameOf}
 use Rattle.tables.proofs.Describing.{describes}
 use Rattle.landmarks.specs.Tables.{KeptBefore, Closed, WithinAll}
-use Rattle.landmarks.specs.Cliques.{CliquesAt}
-use Rattle.landmarks.proofs.TableLaws.{kept-again, closed-kept, landmarks-when-closed}
-use Rattle.landmarks.proofs.ShareLaws.{kept-less, all-within-kept, stores-when-within}
+use Rattle.landmarks.specs.Cliques.{WithinLimits, CliquesAt}
+use Rattle.landmarks.proofs.TableLaws.{kept-again, landmarks-when-closed}
+use Rattle.landmarks.proofs.ShareLaws.{kept-less, stores-when-within}
+use Rattle.landmarks.proofs.KeptTables.{closed-kept, within-all-kept}
 use Rattle.landmarks.proofs.CliqueTables.{cliques-of-tables}
 use Rattle.earliest.specs.Sweep as earliest
 use Rattle.leaf.specs.Answer.{FileOf}
@@ -71,36 +72,47 @@ filled-still job sets numbers sets′ numbers′ passes filled keptSets keptNumb
           };
     }
 
--- the tables of the job, with landmarks, shares and cliques
+-- the tables of the job, with landmarks and shares
 pub record MarkedTables (job : held.Job) (sets numbers : List ℕ) : Type 0 where
   pub filled : Filled job sets numbers
   pub closed : Closed sets (job .counts .actions) (job .start)
   pub within : WithinAll sets numbers (job .counts .actions) (job .start)
-  pub cliques : CliquesAt sets numbers (job .counts .pools) (job .pools) (job .counts .actions)
 
 -- landmarks are put first, then shares, then cliques, each behind what is there
 pub tables-marked : (job : held.Job) (sets sets′ sets″ numbers numbers′ numbers″ : List ℕ)
     → first (jobRows (jobIn job)) ≡ Pass → Filled job sets numbers → KeptBefore 256 384 sets sets′
     → Closed sets′ (job .counts .actions) (job .start) → KeptBefore 576 1152 numbers numbers′
     → WithinAll sets′ numbers′ (job .counts .actions) (job .start) → KeptBefore 320 384 sets′ sets″
-    → KeptBefore 1088 1152 numbers′ numbers″
-    → CliquesAt sets″ numbers″ (job .counts .pools) (job .pools) (job .counts .actions) → MarkedTables job sets″ numbers″
-tables-marked job sets sets′ sets″ numbers numbers′ numbers″ passes filled marks closed shares within apart least cliques =
+    → KeptBefore 1088 1152 numbers′ numbers″ → MarkedTables job sets″ numbers″
+tables-marked job sets sets′ sets″ numbers numbers′ numbers″ passes filled marks closed shares within apart least =
     let few = fits-of-pass job passes .2 in
     record {
       filled = filled-still job sets numbers sets″ numbers″ passes filled
           (kept-again 256 384 sets sets′ sets″ marks (kept-less 256 320 384 sets′ sets″ (omega arith) apart))
           (kept-again 576 1152 numbers numbers′ numbers″ shares (kept-less 576 1088 1152 numbers′ numbers″ (omega arith) least));
-      closed = closed-kept sets′ sets″ _ _ few apart closed;
-      within = all-within-kept sets′ sets″ numbers′ numbers″ _ _ few apart least within;
-      cliques = cliques;
+      closed = closed-kept _ _ few sets′ sets″ apart closed;
+      within = within-all-kept _ _ few sets′ sets″ apart numbers′ numbers″ least within;
     }
+
+-- what the cliques are filled for
+pub limits-of-job : (job : held.Job) (times : List ℕ) (frame : Frame) → first (jobRows (jobIn job)) ≡ Pass
+    → earliest.Filled (jobIn job) times → frame ≡ frameOf job (job .goal) 0 (job .deadline) → WithinLimits times frame
+limits-of-job job times frame passes timed same =
+    let fits = fits-of-pass job passes in
+    subst (WithinLimits times) (sym same)
+    (record {
+      timeCount = timed .able .kept .whole;
+      facts = passed (jobIn job) passes .facts;
+      actions = fits .2;
+      pools = fits .0;
+    })
 
 module _ (job : held.Job) (sets numbers times : List ℕ) (passes : first (jobRows (jobIn job)) ≡ Pass)
     (tables : MarkedTables job sets numbers) (timed : earliest.Filled (jobIn job) times) (frame : Frame)
     (same : frame ≡ frameOf job (job .goal) 0 (job .deadline)) where
-  pub task-of-job : (file : List ℕ) → FileOf (jobIn job) file → TaskOf (jobIn job) file sets numbers times frame
-  task-of-job file inFile =
+  pub task-of-job : CliquesAt sets numbers times frame → (file : List ℕ) → FileOf (jobIn job) file
+      → TaskOf (jobIn job) file sets numbers times frame
+  task-of-job cliques file inFile =
       let described = describes job sets numbers (tables .filled) passes (job .goal) 0 (job .deadline) (omega arith) in
       subst (λ (f : Frame). TaskOf (jobIn job) file sets numbers times f) (sym same)
       (record {
@@ -112,8 +124,8 @@ module _ (job : held.Job) (sets numbers times : List ℕ) (passes : first (jobRo
           first = refl;
           landmarks = landmarks-when-closed (jobIn job) sets numbers _ (job .start) (described .actions) (described .each) (tables .closed);
           stores = stores-when-within (jobIn job) sets numbers _ (job .start) (described .actions) (described .each) (tables .within);
-          cliques = cliques-of-tables (jobIn job) sets numbers _ _ _ (described .actions) (described .each) (described .pools)
-              (described .available) (tables .cliques);
+          cliques = cliques-of-tables (jobIn job) sets numbers times _ described timed
+              (subst (CliquesAt sets numbers times) same cliques);
         };
       })
 

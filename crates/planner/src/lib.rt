@@ -54,25 +54,17 @@ fn solve(job: Job) -> Answer
     let mut numbers = [0u32; Frame::NUMBERS];
     tables::fill::fill(&mut sets, &mut numbers, job);
     let counts = job.counts;
-    let available = job.pools;
     marks::fill(&mut sets, counts.actions, job.start);
     shares::fill(&mut numbers, &sets, counts.actions, job.start);
-    cliques::fill(
-        &mut sets,
-        &mut numbers,
-        counts.actions,
-        counts.pools,
-        available,
-        job.start,
-    );
     let mut times = [set_time::NONE; Pair::COUNT];
     earliest::sweep::fill(&mut times, job);
+    let frame = Frame::of(job, job.goal, 0, job.deadline);
+    cliques::fill(&mut sets, &mut numbers, &times, frame, job.start);
     let mut file = [0u8; Layout::FILE];
     let written = writer::write(job, &mut file);
     let Written::Length(length) = written else {
         return leaf::nothing();
     };
-    let frame = Frame::of(job, job.goal, 0, job.deadline);
     horizons::shortest(&sets, &numbers, &times, &file[..length], frame)
 }
 

@@ -8,7 +8,8 @@ use Rattle.lists.proofs.Bools.{absurd}
 use Rattle.tables.specs.declared.Frame.{Frame}
 use Rattle.tables.proofs.Describing.{byte-durations}
 use Rattle.planner.proofs.FileLaws.{file-not-refused, file-in-slice, file-length, file-of-job}
-use Rattle.planner.proofs.TaskLaws.{numbers-of-job, tables-marked, task-of-job, whole-of-job}
+use Rattle.planner.proofs.TaskLaws.{numbers-of-job, limits-of-job, tables-marked}
+use Rattle.planner.proofs.TaskLaws.{task-of-job, whole-of-job}
 use Rattle.planner.proofs.Solving.{solved}
 use native.Mathlib.Omega.{arith}
 use borrow.Author.Needs.{needs}
@@ -29,9 +30,9 @@ slice-aggregate-fill-3 c = search needs
 
 fill-requires-2 : tie.Need-fill-requires-2
 fill-requires-2 c κs =
-    let c-args = c .before .before .before .before .before .before .before .before .args in
-    let c-pre = c .before .before .before .before .before .before .before .before .pre in
-    let c-fill = c .before .before .before .before .before .fill in
+    let c-args = c .before .before .before .before .before .before .before .args in
+    let c-pre = c .before .before .before .before .before .before .before .pre in
+    let c-fill = c .before .before .before .before .fill in
     (c-fill .ensures .setCount, fits-of-pass (c-args .job) (c-pre) .2)
 
 slice-aggregate-fill-4 : tie.Need-slice-aggregate-fill-4
@@ -43,31 +44,33 @@ slice-aggregate-fill-5 c = search needs
 fill-requires-3 : tie.Need-fill-requires-3
 fill-requires-3 c κs =
     let at8 = c .before .before .before .before .before .before .before .before in
-    let c-args = at8 .before .before .before .before .args in
-    let c-pre = at8 .before .before .before .before .pre in
-    let c-fill = at8 .before .fill in
+    let c-args = at8 .before .before .before .args in
+    let c-pre = at8 .before .before .before .pre in
+    let c-fill = c .before .before .before .before .before .before .before .before .fill in
     let c-fill2 = c .before .before .before .fill2 in
     (c-fill2 .ensures .0 .size, numbers-of-job (c-args .job) _ _ (c-pre) (c-fill .ensures))
 
 slice-aggregate-fill-6 : tie.Need-slice-aggregate-fill-6
 slice-aggregate-fill-6 c = search needs
 
-slice-aggregate-fill-7 : tie.Need-slice-aggregate-fill-7
-slice-aggregate-fill-7 c = search needs
-
 fill-requires-4 : tie.Need-fill-requires-4
 fill-requires-4 c κs =
     let at8 = c .before .before .before .before .before .before .before .before in
-    let at16 = at8 .before .before .before .before .before .before .before .before in
-    let c-args = at16 .args in
-    let c-pre = at16 .pre in
-    let c-fill2 = c .before .before .before .before .before .before .before .fill2 in
-    let c-fill3 = c .before .before .before .fill3 in
-    let fits = fits-of-pass (c-args .job) (c-pre) in
-    (c-fill2 .ensures .0 .size, c-fill3 .ensures .0 .size, fits .2, fits .0)
+    let c-args = at8 .before .before .before .before .before .before .args in
+    let c-pre = at8 .before .before .before .before .before .before .pre in
+    (refl, passed (jobIn (c-args .job)) c-pre .facts, fits-of-pass (c-args .job) (c-pre))
+
+of-requires : tie.Need-of-requires
+of-requires c κs = search needs
+
+slice-aggregate-fill-7 : tie.Need-slice-aggregate-fill-7
+slice-aggregate-fill-7 c = search needs
 
 slice-aggregate-fill-8 : tie.Need-slice-aggregate-fill-8
 slice-aggregate-fill-8 c = search needs
+
+slice-aggregate-fill-9 : tie.Need-slice-aggregate-fill-9
+slice-aggregate-fill-9 c = search needs
 
 fill-requires-5 : tie.Need-fill-requires-5
 fill-requires-5 c κs =
@@ -75,7 +78,14 @@ fill-requires-5 c κs =
     let at16 = at8 .before .before .before .before .before .before .before .before in
     let c-args = at16 .before .before .before .before .args in
     let c-pre = at16 .before .before .before .before .pre in
-    (refl, passed (jobIn (c-args .job)) c-pre .facts, fits-of-pass (c-args .job) (c-pre))
+    let c-fill2 = at8 .before .before .before .before .fill2 in
+    let c-fill3 = c .before .before .before .before .before .before .before .before .fill3 in
+    let c-fill4 = c .before .before .before .before .before .fill4 in
+    let c-of = c .before .before .before .of in (
+      c-fill2 .ensures .0 .size,
+      c-fill3 .ensures .0 .size,
+      limits-of-job (c-args .job) _ (c-of .result) c-pre (c-fill4 .ensures) (c-of .ensures),
+    )
 
 slice-aggregate-write : tie.Need-slice-aggregate-write
 slice-aggregate-write c = search needs
@@ -97,14 +107,11 @@ returns c =
     let at8 = c .before .before .before .before .before .before .before .before in
     let at16 = at8 .before .before .before .before .before .before .before .before in
     let at24 = at16 .before .before .before .before .before .before .before .before in
-    let c-args = at24 .before .before .before .before .args in
-    let c-pre = at24 .before .before .before .before .pre in
+    let c-args = at24 .before .before .before .before .before .args in
+    let c-pre = at24 .before .before .before .before .before .pre in
     let c-write = c .before .before .before .before .write in
     absurd
     (file-not-refused (c-args .job) c-pre _ refl (c-write .result) _ (c-write .ensures) _ (c .before .enum-told .given .1))
-
-of-requires : tie.Need-of-requires
-of-requires c κs = search needs
 
 slice-aggregate-shortest : tie.Need-slice-aggregate-shortest
 slice-aggregate-shortest c = search needs
@@ -123,8 +130,8 @@ array-share-prefix-file c =
     let at32 = at24 .before .before .before .before .before .before .before .before in
     let c-args = at32 .args in
     let c-pre = at32 .pre in
-    let c-write = c .before .before .before .before .before .before .before .before .write in
-    let c-written = c .before .before .before .before .before .written in
+    let c-write = c .before .before .before .before .before .before .before .write in
+    let c-written = c .before .before .before .before .written in
     file-in-slice (c-args .job) c-pre _ refl (c-write .result) _ (c-write .ensures) _ (c-written .given .1)
 
 slice-aggregate-shortest-4 : tie.Need-slice-aggregate-shortest-4
@@ -135,8 +142,8 @@ slice-aggregate-shortest-4 c =
     let at32 = at24 .before .before .before .before .before .before .before .before in
     let c-args = at32 .before .args in
     let c-pre = at32 .before .pre in
-    let c-write = at8 .before .write in
-    let c-written = c .before .before .before .before .before .before .written in
+    let c-write = c .before .before .before .before .before .before .before .before .write in
+    let c-written = c .before .before .before .before .before .written in
     file-length (c-args .job) c-pre _ refl (c-write .result) _ (c-write .ensures) _ (c-written .given .1)
 
 shortest-requires : tie.Need-shortest-requires
@@ -148,17 +155,17 @@ shortest-requires c κs =
     let c-args = at32 .before .args in
     let c-pre = at32 .before .pre in
     let c-fill = at24 .before .before .before .before .before .before .fill in
-    let c-fill2 = at24 .fill2 in
-    let c-fill3 = at16 .before .before .before .before .fill3 in
-    let c-fill4 = at16 .fill4 in
+    let c-fill2 = at24 .before .fill2 in
+    let c-fill3 = at16 .before .before .before .before .before .fill3 in
+    let c-fill4 = at16 .before .before .fill4 in
+    let c-of = at16 .of in
     let c-fill5 = at8 .before .before .before .before .fill5 in
-    let c-of = c .before .before .before .before .of in
     let marks = c-fill2 .ensures in
     let shares = c-fill3 .ensures in
-    let cliques = c-fill4 .ensures in
+    let cliques = c-fill5 .ensures in
     let tables = tables-marked (c-args .job) _ _ _ _ _ _ c-pre (c-fill .ensures) (marks .0) (marks .1) (shares .0) (shares .1)
-    (cliques .0) (cliques .1) (cliques .2) in
-    whole-of-job (c-args .job) _ _ _ c-pre tables (c-fill5 .ensures) (c-of .result) (c-of .ensures)
+    (cliques .0) (cliques .1) in
+    whole-of-job (c-args .job) _ _ _ c-pre tables (c-fill4 .ensures) (c-of .result) (c-of .ensures)
 
 returns-2 : tie.Need-returns-2
 returns-2 c =
@@ -169,23 +176,23 @@ returns-2 c =
     let c-args = at32 .before .before .args in
     let c-pre = at32 .before .before .pre in
     let c-fill = at24 .before .before .before .before .before .before .before .fill in
-    let c-fill2 = at24 .before .fill2 in
-    let c-fill3 = at16 .before .before .before .before .before .fill3 in
-    let c-fill4 = at16 .before .fill4 in
+    let c-fill2 = at24 .before .before .fill2 in
+    let c-fill3 = at16 .before .before .before .before .before .before .fill3 in
+    let c-fill4 = at16 .before .before .before .fill4 in
+    let c-of = at16 .before .of in
     let c-fill5 = at8 .before .before .before .before .before .fill5 in
-    let c-write = at8 .before .before .write in
-    let c-written = c .before .before .before .before .before .before .before .written in
-    let c-of = c .before .before .before .before .before .of in
+    let c-write = at8 .before .write in
+    let c-written = c .before .before .before .before .before .before .written in
     let job = c-args .job in
     let within = passed (jobIn job) c-pre in
     let marks = c-fill2 .ensures in
     let shares = c-fill3 .ensures in
-    let cliques = c-fill4 .ensures in
+    let cliques = c-fill5 .ensures in
     let tables = tables-marked job _ _ _ _ _ _ c-pre (c-fill .ensures) (marks .0) (marks .1) (shares .0) (shares .1)
-    (cliques .0) (cliques .1) (cliques .2) in
+    (cliques .0) (cliques .1) in
     let durations = byte-durations job _ _ (c-fill .ensures) in
     let file = file-of-job job _ (c-write .result) _ (c-write .ensures) durations _ (c-written .given .1) in
-    let task = task-of-job job _ _ _ c-pre tables (c-fill5 .ensures) (c-of .result) (c-of .ensures) _
+    let task = task-of-job job _ _ _ c-pre tables (c-fill4 .ensures) (c-of .result) (c-of .ensures) (cliques .2) _
     file in
     solved (jobIn job) (c .shortest .result) within (c-of .result .goal) (c-of .result .horizon)
     (ap (λ (f : Frame). f .goal) (c-of .ensures)) (ap (λ (f : Frame). f .horizon) (c-of .ensures))
@@ -206,9 +213,11 @@ solve-spec =
     slice-aggregate-fill-5
     fill-requires-3
     slice-aggregate-fill-6
-    slice-aggregate-fill-7
     fill-requires-4
+    of-requires
+    slice-aggregate-fill-7
     slice-aggregate-fill-8
+    slice-aggregate-fill-9
     fill-requires-5
     slice-aggregate-write
     write-requires
@@ -216,7 +225,6 @@ solve-spec =
     enum-told
     nothing-requires
     returns
-    of-requires
     slice-aggregate-shortest
     slice-aggregate-shortest-2
     slice-aggregate-shortest-3
