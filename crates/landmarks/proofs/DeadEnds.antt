@@ -1,6 +1,7 @@
--- Dead ends by landmarks: what must hold at a minute takes more than the stores, or the number of steps, have left.
+-- Dead ends by landmarks: what must hold at a minute takes more than is left of the stores, of the number of steps, or of
+-- the pools' minutes.
 -- Assumes nothing.
-use Prim.Native.Nat.{ℕ, _+_, _*_, _<_, _≤_}
+use Prim.Native.Nat.{ℕ, _+_, _*_, _-_, _<_, _≤_}
 use mathlib.Core.Path.{_≡_, ap}
 use mathlib.Core.List.{List, _++_}
 use native.Mathlib.Nat.{mul-add, mul-le-mul-left}
@@ -10,14 +11,15 @@ use Rattle.facts.specs.FactSet.{has, Subset}
 use Rattle.job.specs.Job.{Action, Job}
 use Rattle.timeline.specs.Step.{Step, total}
 use Rattle.timeline.specs.Timeline.{held, storeUse, storeCap, usedUp}
-use Rattle.timeline.proofs.Places.{EachStep, place-append, total-append}
+use Rattle.timeline.proofs.Places.{EachStep, place-append, total-append, total-mono}
 use Rattle.times.specs.Earliest.{actionOf}
-use Rattle.times.proofs.PlanSteps.{own-action}
+use Rattle.times.proofs.PlanSteps.{own-action, own-stop}
 use Rattle.regression.specs.Tests.{mustHold}
 use Rattle.regression.specs.DeadEnd.{NormalPlan, Until, Dead}
 use Rattle.regression.proofs.TailTests.{must-hold-holds}
 use Rattle.landmarks.specs.Landmarks.{Landmarks, marksOf, sumOver, Shares}
 use Rattle.landmarks.proofs.AddedOnTheWay.{AtHand, landmarks-added}
+use Rattle.landmarks.proofs.PoolMinutes.{minutesBefore, minutes-within}
 use Rattle.landmarks.proofs.Sums.{shares-of-added, total-times, total-of-ones}
 
 -- an ordinary day: no step of L stops by t, and the start set is at hand
@@ -47,13 +49,14 @@ module _ (J : Job) (b goal T t : ℕ) (after : b ≤ t) (inTime : t ≤ T) (L : 
   -- weights of a scale, beside what the chosen steps have
   exceeded : (scale cap used : ℕ) (weight : Action → ℕ) → Shares J atHand share n (λ a. scale * weight a)
       → scale * cap < sumOver share n missing + scale * used
-      → ((E : List Step) → NormalPlan J b goal T (E ++ L) → total (λ x. weight (x .action)) E + used ≤ cap)
+      → ((E : List Step) → EachStep (Until b t) E → NormalPlan J b goal T (E ++ L)
+      → total (λ x. weight (x .action)) E + used ≤ cap)
       → Dead J b goal T (Until b t) L
   exceeded scale cap used weight shares exceeds within E until normal =
       let least = shares-within (λ a. scale * weight a) shares E until normal in
       let scaled = total-times scale (λ x. weight (x .action)) E in
       let both = mul-add scale (total (λ x. weight (x .action)) E) used in
-      let most = mul-le-mul-left scale (within E normal) in
+      let most = mul-le-mul-left scale (within E until normal) in
       omega arith
 
   pub dead-when-store-short : (store : ℕ) → store < length (J .stores) → (scale : ℕ)
@@ -62,7 +65,7 @@ module _ (J : Job) (b goal T t : ℕ) (after : b ≤ t) (inTime : t ≤ T) (L : 
   unfolding storeUse
   dead-when-store-short store inside scale shares exceeds =
       exceeded scale (storeCap J store) (usedUp J store L) (λ a. getD (a .stores) store 0) shares exceeds
-      (λ E normal.
+      (λ E until normal.
       let sum = total-append (storeUse J store) E L in
       let within = normal .plan .keeps .stores store inside in
       omega arith)
@@ -71,10 +74,42 @@ module _ (J : Job) (b goal T t : ℕ) (after : b ≤ t) (inTime : t ≤ T) (L : 
       → scale * 32 < sumOver share n missing + scale * length L → Dead J b goal T (Until b t) L
   dead-when-steps-short scale shares exceeds =
       exceeded scale 32 (length L) (λ a. 1) shares exceeds
-      (λ E normal.
+      (λ E until normal.
       let ones = total-of-ones E in
       let sum = total-append (λ x. 1) E L in
       let all = total-of-ones (E ++ L) in
       let rest = total-of-ones L in
       let few = normal .fewSteps in
       omega arith)
+
+  -- m: no step that uses the pool starts before it; the chosen steps all stop at t or later
+  pub dead-when-pool-short : (pool : ℕ) → pool < length (J .pools) → (scale m : ℕ)
+      → Shares J atHand share n (λ a. scale * (getD (a .pools) pool 0 * a .duration))
+      → ((E : List Step) → NormalPlan J b goal T (E ++ L)
+      → EachStep (λ x. 0 < getD (x .action .pools) pool 0 → m ≤ x .start) (E ++ L))
+      → EachStep (λ x. t ≤ x .stop) L
+      → scale * (getD (J .pools) pool 0 * (t - m))
+      < sumOver share n missing + scale * total (λ x. getD (x .action .pools) pool 0 * (t - x .start)) L
+      → Dead J b goal T (Until b t) L
+  dead-when-pool-short pool inside scale m shares starts later exceeds =
+      exceeded scale (getD (J .pools) pool 0 * (t - m)) (total running L) (λ a. getD (a .pools) pool 0 * a .duration) shares
+      exceeds
+      (λ E until normal.
+      let sum = minutes-within J pool m t (getD (J .pools) pool 0) (E ++ L) (starts E normal)
+      (λ k. normal .plan .keeps .pools pool k inside) in
+      let parts = total-append (λ x. getD (x .action .pools) pool 0 * minutesBefore t x) E L in
+      let first = total-mono (λ x. getD (x .action .pools) pool 0 * x .action .duration)
+      (λ x. getD (x .action .pools) pool 0 * minutesBefore t x) E
+      (λ x Q i.
+      let inPlan = place-append L i in
+      let stop = own-stop J T goal (E ++ L) (normal .plan) inPlan in
+      let own = ap (λ (a : Action). a .duration) (own-action J T goal (E ++ L) (normal .plan) inPlan) in
+      let by = until x Q i .2 in
+      mul-le-mul-left (getD (x .action .pools) pool 0) (omega arith)) in
+      let rest = total-mono running (λ x. getD (x .action .pools) pool 0 * minutesBefore t x) L
+      (λ x Q i. let l = later x Q i in mul-le-mul-left (getD (x .action .pools) pool 0) (omega arith)) in
+      omega arith)
+    where
+      -- what a chosen step uses before t
+      running : Step → ℕ
+      running x = getD (x .action .pools) pool 0 * (t - x .start)

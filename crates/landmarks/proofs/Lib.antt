@@ -1,5 +1,6 @@
 pub mod AddedOnTheWay
 pub mod Sums
+mod PoolMinutes
 pub mod DeadEnds
 pub mod TableLaws
 pub mod ShareLaws

@@ -1,0 +1,95 @@
+-- Minutes of a pool: what steps use of it before a minute, each minute for itself, is within what there is in all.
+-- Assumes nothing.
+use Prim.Native.Nat.{ℕ, zero, suc, _+_, _*_, _-_, _<_, _≤_, min}
+use mathlib.Core.Path.{_≡_, refl}
+use mathlib.Core.Logic.{⊎-elim}
+use mathlib.Core.List.{List, [], _∷_}
+use native.Mathlib.Nat.{mul-suc, mul-zero, zero-mul, mul-le-mul-left}
+use native.Mathlib.Omega.{arith}
+use lib.ListN.{getD}
+use Rattle.job.specs.Job.{Job}
+use Rattle.timeline.specs.Step.{Step, total}
+use Rattle.timeline.specs.Timeline.{inUse}
+use Rattle.timeline.proofs.Tests.{le-or-lt}
+use Rattle.timeline.proofs.Places.{EachStep, total-mono}
+use Rattle.timeline.proofs.Shares.{useAt, share-when, use-of-share}
+
+-- the sum of f over n minutes from minute m on
+abbrev over : ℕ → ℕ → (ℕ → ℕ) → ℕ
+over m zero f = 0
+over m (suc n) f = f (m + n) + over m n f
+
+-- the minutes of a step before t
+abbrev pub minutesBefore : ℕ → Step → ℕ
+minutesBefore t x = min (x .stop) t - x .start
+
+over-at-most : (m n most : ℕ) (f : ℕ → ℕ) → ((k : ℕ) → f k ≤ most) → over m n f ≤ most * n
+over-at-most m zero most f h = omega arith
+over-at-most m (suc n) most f h =
+    let here = h (m + n) in let rest = over-at-most m n most f h in let e = mul-suc most n in omega arith
+
+total-of-zeros : (P : List Step) → total (λ x. 0) P ≡ 0
+total-of-zeros [] = refl
+total-of-zeros (x ∷ P) = let rest = total-of-zeros P in omega arith
+
+total-of-sums : (f g : Step → ℕ) (P : List Step) → total (λ x. f x + g x) P ≡ total f P + total g P
+total-of-sums f g [] = refl
+total-of-sums f g (x ∷ P) = let rest = total-of-sums f g P in omega arith
+
+-- sums over minutes and over steps are the same sum
+over-total : (m n : ℕ) (g : ℕ → Step → ℕ) (P : List Step)
+    → total (λ x. over m n (λ k. g k x)) P ≡ over m n (λ k. total (g k) P)
+over-total m zero g P = total-of-zeros P
+over-total m (suc n) g P =
+    let rest = over-total m n g P in
+    let e = total-of-sums (g (m + n)) (λ x. over m n (λ k. g k x)) P in
+    omega arith
+
+module _ (J : Job) (pool : ℕ) where
+  abbrev share : Step → ℕ
+  share x = getD (x .action .pools) pool 0
+
+  -- a step has its use in each of its minutes
+  used-each-minute : (x : Step) (m n : ℕ) → m ≤ x .start
+      → share x * minutesBefore (m + n) x ≤ over m n (λ k. useAt J pool k x)
+  used-each-minute x m zero l =
+      let none : minutesBefore (m + 0) x ≡ 0 = omega arith in rw none (omega (arith, mul-zero (share x)))
+  used-each-minute x m (suc n) l =
+      let rest = used-each-minute x m n l in
+      ⊎-elim
+      (λ started.
+      ⊎-elim
+      (λ over.
+      let same : minutesBefore (m + suc n) x ≡ minutesBefore (m + n) x = omega arith in
+      rw same (omega arith))
+      (λ runs.
+      let more : minutesBefore (m + suc n) x ≡ suc (minutesBefore (m + n) x) = omega arith in
+      let e = mul-suc (share x) (minutesBefore (m + n) x) in
+      let same-use = use-of-share J pool (m + n) x (share-when J pool (m + n) x started (omega arith)) in
+      rw (more, same-use) (omega arith))
+      (le-or-lt (x .stop) (m + n)))
+      (λ later.
+      let same : minutesBefore (m + suc n) x ≡ minutesBefore (m + n) x = omega arith in
+      rw same (omega arith))
+      (le-or-lt (x .start) (m + n))
+
+  -- steps of which those that use the pool start at m or later
+  pub minutes-within : (m t most : ℕ) (P : List Step) → EachStep (λ x. 0 < share x → m ≤ x .start) P
+      → ((k : ℕ) → inUse J pool k P ≤ most) → total (λ x. share x * minutesBefore t x) P ≤ most * (t - m)
+  minutes-within m t most P after within =
+      let all = over-at-most m (t - m) most (λ k. inUse J pool k P) within in
+      let same = over-total m (t - m) (useAt J pool) P in
+      let each : total (λ x. share x * minutesBefore t x) P ≤ total (λ x. over m (t - m) (λ k. useAt J pool k x)) P =
+      total-mono (λ x. share x * minutesBefore t x) (λ x. over m (t - m) (λ k. useAt J pool k x)) P
+      (λ x Q i. one x (share x) refl (after x Q i)) in
+      omega arith
+    where
+      one : (x : Step) (u : ℕ) → share x ≡ u → (0 < u → m ≤ x .start)
+          → share x * minutesBefore t x ≤ over m (t - m) (λ k. useAt J pool k x)
+      one x zero e later = rw e (omega (arith, zero-mul (minutesBefore t x)))
+      one x (suc u) e later =
+          let starts = later (omega arith) in
+          let sum = used-each-minute x m (t - m) starts in
+          let no-less : minutesBefore t x ≤ minutesBefore (m + (t - m)) x = omega arith in
+          let more = mul-le-mul-left (share x) no-less in
+          omega arith
