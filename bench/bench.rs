@@ -1,5 +1,6 @@
 //! Times the proved calls beside the plain ones, on the same inputs in one run, and compares their answers.
 mod days;
+#[allow(dead_code)]
 mod plain;
 #[allow(dead_code)]
 #[path = "../tests/cases.rs"]

@@ -16,7 +16,7 @@ pub fn day(path: &Path) -> String {
     path.file_stem().unwrap_or_default().to_string_lossy().into_owned()
 }
 
-/// For each day the least end, and the nodes of the prototype with the same rules, where it solved the day.
+/// For each day the least end, and the nodes of the prototype with the first rules, where it solved the day.
 pub struct Known(HashMap<String, (String, Option<u64>)>);
 
 impl Known {

@@ -231,18 +231,18 @@ pub fn check(j: &Job, plan: &[u8]) -> Result<u64, u64> {
 
 const NONE: u32 = u32::MAX;
 
-fn entry(p: u32, q: u32) -> usize {
+fn entry(p: usize, q: usize) -> usize {
     let (p, q) = (p.min(q), p.max(q));
-    (q * (q + 1) / 2 + p) as usize
+    q * (q + 1) / 2 + p
 }
 
-/// The facts of a set.
-fn facts_of(mut set: u64) -> impl Iterator<Item = u32> {
+/// The members of a set: facts, or actions by their numbers.
+pub fn members(mut set: u64) -> impl Iterator<Item = usize> {
     std::iter::from_fn(move || {
         if set == 0 {
             return None;
         }
-        let n = set.trailing_zeros();
+        let n = set.trailing_zeros() as usize;
         set &= set - 1;
         Some(n)
     })
@@ -252,21 +252,30 @@ fn facts_of(mut set: u64) -> impl Iterator<Item = u32> {
 pub struct Times([u32; 2080]);
 
 impl Times {
+    /// The time of a set: the latest of the entries of its facts.
     pub fn of(&self, set: u64) -> u32 {
         let mut latest = 0;
-        for q in facts_of(set) {
+        for q in members(set) {
             let row = entry(0, q);
-            for p in facts_of(set & (u64::MAX >> (63 - q))) {
-                latest = latest.max(self.0[row + p as usize]);
+            for p in members(set & (u64::MAX >> (63 - q))) {
+                latest = latest.max(self.0[row + p]);
             }
         }
         latest
     }
 
+    /// Whether the time of a set is at most the limit: no at the first entry that is later.
+    pub fn by(&self, set: u64, limit: u32) -> bool {
+        members(set).all(|q| {
+            let row = entry(0, q);
+            members(set & (u64::MAX >> (63 - q))).all(|p| self.0[row + p] <= limit)
+        })
+    }
+
     fn lower(&mut self, first: u64, second: u64, time: u32) -> bool {
         let mut changed = false;
-        for p in facts_of(first) {
-            for q in facts_of(second) {
+        for p in members(first) {
+            for q in members(second) {
                 let at = &mut self.0[entry(p, q)];
                 if time < *at {
                     *at = time;
@@ -287,7 +296,7 @@ impl Times {
             return false;
         }
         let mut changed = self.lower(a.adds, a.adds, after(a, self.of(a.needs)));
-        for q in 0..j.facts as u32 {
+        for q in 0..j.facts as usize {
             if (a.adds | a.deletes) >> q & 1 == 0 {
                 changed |= self.lower(1 << q, a.adds, after(a, self.of(a.needs | 1 << q)));
             }

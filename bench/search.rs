@@ -2,10 +2,14 @@
 //! one for each call of `regress`. Without an argument it plans the job file on standard input and prints the end (22:
 //! no plan; -: not planned in ten seconds) and the nodes; given a folder of job files it prints a table.
 mod known;
+mod landmarks;
 #[allow(dead_code)]
 mod plain;
+mod rows;
 use known::Known;
-use plain::{Action, Job, Times};
+use landmarks::{Landmarks, SCALE};
+use plain::{members, Job, Times};
+use rows::{exceeds, Row};
 use std::io::Read;
 use std::time::{Duration, Instant};
 
@@ -14,17 +18,6 @@ const STEPS: usize = 32;
 
 /// The limit passed before the search ended.
 struct Late;
-
-/// An action in the tables of the search.
-struct Row {
-    needs: u64,
-    adds: u64,
-    deletes: u64,
-    clashes: u64, // the actions that clash with it, by their numbers
-    duration: u32,
-    pools: [u64; 4],
-    stores: [u64; 4],
-}
 
 #[derive(Clone, Copy, Default)]
 struct Step {
@@ -80,40 +73,11 @@ fn plus(sums: &mut [u64; 4], amounts: &[u64; 4], counts: bool) {
     }
 }
 
-/// Whether a sum with its amount is over its limit.
-fn exceeds(limits: &[u32; 4], sums: &[u64; 4], amounts: &[u64; 4]) -> bool {
-    (0..4).any(|k| (limits[k] as u64) < sums[k] + amounts[k])
-}
-
-fn hinders(a: &Action, b: &Action) -> bool {
-    a.deletes & (b.needs | b.adds) != 0
-}
-
-/// The set of the actions that clash with action i.
-fn clash_set(job: &Job, i: usize) -> u64 {
-    let a = &job.actions[i];
-    let clash = |j: usize, b: &Action| i == j || hinders(a, b) || hinders(b, a);
-    job.actions.iter().enumerate().filter(|&(j, b)| clash(j, b)).fold(0, |set, (j, _)| set | 1 << j)
-}
-
-/// The row of action i.
-fn row(job: &Job, i: usize) -> Row {
-    let a = &job.actions[i];
-    Row {
-        needs: a.needs,
-        adds: a.adds,
-        deletes: a.deletes,
-        clashes: clash_set(job, i),
-        duration: a.duration as u32,
-        pools: a.pools.map(u64::from),
-        stores: a.stores.map(u64::from),
-    }
-}
-
 /// The search for plans of a job: its tables, the horizon, the nodes so far and the instant at which it gives up.
 struct Search<'a> {
     job: &'a Job,
     rows: Vec<Row>,
+    landmarks: Landmarks,
     times: Times,
     horizon: u32,
     nodes: u64,
@@ -186,6 +150,12 @@ impl Search<'_> {
             && self.affordable(st, row)
     }
 
+    /// Those of the undecided actions that may stop at the state's minute.
+    fn candidates(&self, st: &State, undecided: u64) -> u64 {
+        let actions = members(undecided).take_while(|&i| i < self.rows.len());
+        actions.filter(|&i| self.may_stop(st, &self.rows[i])).fold(0, |set, i| set | 1 << i)
+    }
+
     /// The state with the step, which stops at its minute.
     fn take(&self, st: &State, step: Step) -> State {
         let mut next = *st;
@@ -211,18 +181,40 @@ impl Search<'_> {
     /// Whether what the steps need that run at a start from this minute on, before the state's, can be there by then.
     fn all_reached(&self, st: &State, from: u32) -> bool {
         let starts = st.steps().iter().map(|step| step.start as u32);
-        starts.filter(|&s| from <= s && s < st.minute).all(|s| self.times.of(self.needs_at(st, s)) <= s)
+        starts.filter(|&s| from <= s && s < st.minute).all(|s| self.times.by(self.needs_at(st, s), s))
     }
 
-    /// Whether what must hold at the state's minute can hold by then.
-    fn timely(&self, st: &State) -> bool {
-        self.times.of(st.wanted | st.at.across) <= st.minute
-    }
-
-    /// The state at the event minute before: the last start of a chosen step, or 0.
-    fn back(&self, st: &State) -> State {
+    /// The event minute before: the last start of a chosen step, or 0.
+    fn event(&self, st: &State) -> u32 {
         let starts = st.steps().iter().map(|step| step.start as u32);
-        let minute = starts.filter(|&s| s < st.minute).max().unwrap_or(0);
+        starts.filter(|&s| s < st.minute).max().unwrap_or(0)
+    }
+
+    /// Whether what is wanted, and added neither now nor by the actions left, and what the steps that run in the minute
+    /// before need, can hold at the event minute before.
+    fn in_time(&self, st: &State, left: u64) -> bool {
+        let starts = members(left).map(|i| st.minute - self.rows[i].duration);
+        let event = starts.fold(self.event(st), u32::max);
+        let added = members(left).fold(st.at.added, |set, i| set | self.rows[i].adds);
+        self.times.by(st.wanted & !added | st.at.held, event)
+    }
+
+    /// Whether a store has enough left for what is missing.
+    fn store_suffices(&self, st: &State, missing: u64, k: usize) -> bool {
+        let used = self.landmarks.share(k, missing) + SCALE * st.uses.spent[k];
+        used <= SCALE * self.job.store[k] as u64
+    }
+
+    /// Whether stores and minutes suffice for what is missing: the landmarks of what must hold at the state's minute.
+    fn suffices(&self, st: &State) -> bool {
+        let missing = self.landmarks.of(st.wanted | st.at.across);
+        (0..self.job.stores).all(|k| self.store_suffices(st, missing, k))
+            && self.landmarks.minutes(missing) <= st.minute
+    }
+
+    /// The state at the event minute before.
+    fn back(&self, st: &State) -> State {
+        let minute = self.event(st);
         let gone = |step: &&Step| minute < self.stop(step) && self.stop(step) <= st.minute;
         let added = st.steps().iter().filter(gone).fold(0, |set, step| set | self.row(step).adds);
         let mut before = State { count: st.count, steps: st.steps, minute, since: st.count, ..State::default() };
@@ -243,28 +235,33 @@ impl Search<'_> {
         (end <= self.horizon).then_some(end)
     }
 
-    /// With action i stopping at the state's minute.
-    fn attempt(&mut self, st: &State, i: usize) -> Result<Option<u32>, Late> {
+    /// With action i stopping at the state's minute, and the actions left not decided.
+    fn attempt(&mut self, st: &State, i: usize, left: u64) -> Result<Option<u32>, Late> {
         let start = st.minute - self.rows[i].duration;
         let next = self.take(st, Step { action: i as u8, start: start as u16 });
         if !self.all_needed(&next) || !self.all_reached(&next, start) {
             return Ok(None);
         }
-        self.choose(&next, i + 1)
+        self.choose(&next, left)
     }
 
-    /// Decides for the actions from this one on which stop at the state's minute; then goes back to the event before.
-    fn choose(&mut self, st: &State, from: usize) -> Result<Option<u32>, Late> {
-        for i in from..self.rows.len() {
-            if self.may_stop(st, &self.rows[i]) {
-                let end = self.attempt(st, i)?;
-                if end.is_some() {
-                    return Ok(end);
-                }
+    /// Decides for the undecided actions which stop at the state's minute, the last first; then goes back to the event
+    /// before.
+    fn choose(&mut self, st: &State, undecided: u64) -> Result<Option<u32>, Late> {
+        let mut left = self.candidates(st, undecided);
+        while self.in_time(st, left) {
+            if left == 0 {
+                let before = self.back(st);
+                return self.regress(&before);
+            }
+            let i = left.ilog2() as usize;
+            left ^= 1 << i;
+            let end = self.attempt(st, i, left)?;
+            if end.is_some() {
+                return Ok(end);
             }
         }
-        let before = self.back(st);
-        self.regress(&before)
+        Ok(None)
     }
 
     /// Counts a node, and looks at the clock at some.
@@ -279,19 +276,22 @@ impl Search<'_> {
     /// The end of a plan from a state, whose minute is an event.
     fn regress(&mut self, st: &State) -> Result<Option<u32>, Late> {
         self.count()?;
-        if !self.timely(st) {
-            return Ok(None);
-        }
         if st.minute == 0 {
             return Ok(self.finish(st));
         }
-        self.choose(st, 0)
+        if !self.suffices(st) {
+            return Ok(None);
+        }
+        self.choose(st, u64::MAX)
     }
 
-    /// The end of a plan that ends by the horizon.
+    /// The end of a plan that ends by the horizon. With no minute left there are no steps, and no node.
     fn solve(&mut self, horizon: u32) -> Result<Option<u32>, Late> {
         self.horizon = horizon;
         let st = State { minute: horizon, wanted: self.job.goal, ..State::default() };
+        if horizon == 0 {
+            return Ok(self.finish(&st));
+        }
         self.regress(&st)
     }
 
@@ -341,8 +341,10 @@ fn plan(file: &[u8]) -> (String, u64) {
         Ok(job) => job,
         Err(number) => return (number.to_string(), 0),
     };
-    let rows = (0..job.actions.len()).map(|i| row(&job, i)).collect();
-    let mut search = Search { job: &job, rows, times: plain::times(&job), horizon: 0, nodes: 0, until };
+    let rows = rows::rows(&job);
+    let landmarks = Landmarks::new(&job, &rows);
+    let times = plain::times(&job);
+    let mut search = Search { job: &job, rows, landmarks, times, horizon: 0, nodes: 0, until };
     let end = match search.shortest() {
         Ok(Some(end)) => end.to_string(),
         Ok(None) => "22".to_string(),
