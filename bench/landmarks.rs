@@ -1,6 +1,6 @@
 //! Landmarks: what every plan that makes a fact true must add on the way, and what that takes at least of the stores
 //! and of the minutes.
-use crate::plain::{members, Job};
+use crate::plain::{members, Job, Times, NONE};
 use crate::rows::{exceeds, Row};
 
 /// Parts of a unit: a share of one unit among up to ten facts is a whole number of them.
@@ -21,8 +21,8 @@ pub struct Landmarks {
 }
 
 impl Landmarks {
-    pub fn new(job: &Job, rows: &[Row]) -> Landmarks {
-        let apart = find_apart(job, rows);
+    pub fn new(job: &Job, rows: &[Row], times: &Times) -> Landmarks {
+        let apart = find_apart(job, rows, times);
         Landmarks {
             marks: find_marks(rows, job.start),
             shares: std::array::from_fn(|k| find_shares(rows, job.start, k)),
@@ -107,23 +107,28 @@ fn find_shares(rows: &[Row], start: u64, store: usize) -> [u64; 64] {
     shares
 }
 
-/// Whether actions i and j are different, and never overlap.
-fn exclude(job: &Job, rows: &[Row], i: usize, j: usize) -> bool {
-    i != j && (rows[i].clashes >> j & 1 == 1 || exceeds(&job.pool, &rows[i].pools, &rows[j].pools))
+/// Whether actions i and j are different, and never overlap: they clash, exceed a pool together, or need what is
+/// unreachable together.
+fn exclude(job: &Job, rows: &[Row], times: &Times, i: usize, j: usize) -> bool {
+    let clash = rows[i].clashes >> j & 1 == 1;
+    i != j
+        && (clash
+            || exceeds(&job.pool, &rows[i].pools, &rows[j].pools)
+            || times.of(rows[i].needs | rows[j].needs) == NONE)
 }
 
 /// What the actions add that can overlap action i, and action i itself.
-fn beside(job: &Job, rows: &[Row], i: usize) -> u64 {
-    let others = (0..rows.len()).filter(|&j| !exclude(job, rows, i, j));
+fn beside(job: &Job, rows: &[Row], times: &Times, i: usize) -> u64 {
+    let others = (0..rows.len()).filter(|&j| !exclude(job, rows, times, i, j));
     others.fold(0, |all, j| all | rows[j].adds)
 }
 
 /// For each fact those that are apart from it, of the facts that actions add and that are not there at the start.
-fn find_apart(job: &Job, rows: &[Row]) -> [u64; 64] {
+fn find_apart(job: &Job, rows: &[Row], times: &Times) -> [u64; 64] {
     let added = rows.iter().fold(0, |all, row| all | row.adds);
     let mut apart = [added & !job.start; 64];
     for i in 0..rows.len() {
-        let away = beside(job, rows, i);
+        let away = beside(job, rows, times, i);
         for q in members(rows[i].adds) {
             apart[q] &= !away;
         }

@@ -229,7 +229,7 @@ pub fn check(j: &Job, plan: &[u8]) -> Result<u64, u64> {
     Ok(end as u64)
 }
 
-const NONE: u32 = u32::MAX;
+pub const NONE: u32 = u32::MAX;
 
 fn entry(p: usize, q: usize) -> usize {
     let (p, q) = (p.min(q), p.max(q));

@@ -342,8 +342,8 @@ fn plan(file: &[u8]) -> (String, u64) {
         Err(number) => return (number.to_string(), 0),
     };
     let rows = rows::rows(&job);
-    let landmarks = Landmarks::new(&job, &rows);
     let times = plain::times(&job);
+    let landmarks = Landmarks::new(&job, &rows, &times);
     let mut search = Search { job: &job, rows, landmarks, times, horizon: 0, nodes: 0, until };
     let end = match search.shortest() {
         Ok(Some(end)) => end.to_string(),
