@@ -1,5 +1,5 @@
-//! Landmarks: what every plan that makes a fact true must add on the way, and what that takes at least of the stores
-//! and of the minutes.
+//! Landmarks: what every plan that makes a fact true must add on the way, and what that takes at least of the stores,
+//! of the pools' minutes and of the minutes.
 use crate::plain::{members, Job, Times, NONE};
 use crate::rows::{exceeds, Row};
 
@@ -12,10 +12,15 @@ const MOST: u64 = u32::MAX as u64;
 /// No plan is longer than a day: a clique that takes more need not be added up further.
 const DAY: u32 = 1440;
 
-/// One entry for each fact.
+/// No finite time is later.
+const LATEST: u32 = 530_400;
+
+/// One entry for each fact, or for each pool.
 pub struct Landmarks {
     marks: [u64; 64],       // its landmarks
-    shares: [[u64; 64]; 4], // for each store, what it takes at least, in parts
+    stores: [[u64; 64]; 4], // for each store, what it takes at least, in parts
+    pools: [[u64; 64]; 4],  // for each pool, what it takes at least over its minutes, in parts
+    opens: [u32; 4],        // before which minute no plan uses the pool
     apart: [u64; 64],       // the facts whose adders never overlap its own
     least: [u32; 64],       // the least minutes of an adder; 0 where no fact is apart from it
 }
@@ -25,7 +30,9 @@ impl Landmarks {
         let apart = find_apart(job, rows, times);
         Landmarks {
             marks: find_marks(rows, job.start),
-            shares: std::array::from_fn(|k| find_shares(rows, job.start, k)),
+            stores: std::array::from_fn(|k| find_shares(rows, job.start, |row| row.stores[k])),
+            pools: std::array::from_fn(|k| find_shares(rows, job.start, |row| row.pools[k] * row.duration as u64)),
+            opens: std::array::from_fn(|k| find_opening(rows, times, k)),
             apart,
             least: std::array::from_fn(|q| find_least(rows, apart[q], q)),
         }
@@ -37,8 +44,18 @@ impl Landmarks {
     }
 
     /// What the facts of a set take of a store at least, in parts.
-    pub fn share(&self, store: usize, set: u64) -> u64 {
-        members(set).map(|p| self.shares[store][p]).sum()
+    pub fn of_store(&self, store: usize, set: u64) -> u64 {
+        members(set).map(|p| self.stores[store][p]).sum()
+    }
+
+    /// What the facts of a set take of a pool at least, each minute for itself, in parts.
+    pub fn of_pool(&self, pool: usize, set: u64) -> u64 {
+        members(set).map(|p| self.pools[pool][p]).sum()
+    }
+
+    /// The minutes before t in which a pool can be used.
+    pub fn pool_minutes(&self, pool: usize, t: u32) -> u64 {
+        t.saturating_sub(self.opens[pool]) as u64
     }
 
     /// The first of the facts of a set with the most minutes.
@@ -95,16 +112,22 @@ fn find_marks(rows: &[Row], start: u64) -> [u64; 64] {
     marks
 }
 
-/// The least share of each fact in what an adder uses of a store, which the new facts that it adds share equally.
-fn find_shares(rows: &[Row], start: u64, store: usize) -> [u64; 64] {
+/// The least share of each fact in what an adder uses, which the new facts that it adds share equally.
+fn find_shares(rows: &[Row], start: u64, used: impl Fn(&Row) -> u64) -> [u64; 64] {
     let mut shares = [MOST; 64];
     for row in rows {
         let new = row.adds & !start;
         for p in members(new) {
-            shares[p] = shares[p].min(SCALE * row.stores[store] / new.count_ones() as u64);
+            shares[p] = shares[p].min(SCALE * used(row) / new.count_ones() as u64);
         }
     }
     shares
+}
+
+/// The earliest time of what an action needs that uses the pool.
+fn find_opening(rows: &[Row], times: &Times, pool: usize) -> u32 {
+    let users = rows.iter().filter(|row| row.pools[pool] > 0);
+    users.map(|row| times.of(row.needs)).fold(LATEST, u32::min)
 }
 
 /// Whether actions i and j are different, and never overlap: they clash, exceed a pool together, or need what is

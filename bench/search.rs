@@ -201,14 +201,28 @@ impl Search<'_> {
 
     /// Whether a store has enough left for what is missing.
     fn store_suffices(&self, st: &State, missing: u64, k: usize) -> bool {
-        let used = self.landmarks.share(k, missing) + SCALE * st.uses.spent[k];
+        let used = self.landmarks.of_store(k, missing) + SCALE * st.uses.spent[k];
         used <= SCALE * self.job.store[k] as u64
     }
 
-    /// Whether stores and minutes suffice for what is missing: the landmarks of what must hold at the state's minute.
+    /// What the chosen steps use of a pool before the state's minute, each minute for itself.
+    fn used_before(&self, st: &State, k: usize) -> u64 {
+        let minutes = |step: &Step| self.row(step).duration.min(st.minute.saturating_sub(step.start as u32));
+        st.steps().iter().map(|step| self.row(step).pools[k] * minutes(step) as u64).sum()
+    }
+
+    /// Whether a pool has minutes enough left for what is missing.
+    fn pool_suffices(&self, st: &State, missing: u64, k: usize) -> bool {
+        let used = self.landmarks.of_pool(k, missing) + SCALE * self.used_before(st, k);
+        used <= SCALE * self.job.pool[k] as u64 * self.landmarks.pool_minutes(k, st.minute)
+    }
+
+    /// Whether stores, pools and minutes suffice for what is missing: the landmarks of what must hold at the state's
+    /// minute.
     fn suffices(&self, st: &State) -> bool {
         let missing = self.landmarks.of(st.wanted | st.at.across);
         (0..self.job.stores).all(|k| self.store_suffices(st, missing, k))
+            && (0..self.job.pools).all(|k| self.pool_suffices(st, missing, k))
             && self.landmarks.minutes(missing) <= st.minute
     }
 

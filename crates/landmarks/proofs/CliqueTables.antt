@@ -195,28 +195,28 @@ least-on sets numbers q i best less fewer here before k l adds =
     (λ lower. let rest = before k (omega arith) adds in omega arith)
     (eq-or-lt-of-le l)
 
-pub least-put-at-first : (sets : List ℕ) (actions : ℕ) (xs : List ℕ) → length xs ≡ 1152 → LeastPut sets actions 0 xs xs
+pub least-put-at-first : (sets : List ℕ) (actions : ℕ) (xs : List ℕ) → length xs ≡ 1156 → LeastPut sets actions 0 xs xs
 least-put-at-first sets actions xs size =
-    record { kept = kept-at-first 1088 1152 xs size; least = λ q l. absurd (omega arith) }
+    record { kept = kept-at-first 1092 1156 xs size; least = λ q l. absurd (omega arith) }
 
 pub least-put-on : (sets xs ys : List ℕ) (actions q v : ℕ) → actions ≤ 64 → q < 64 → LeastTo sets ys actions q v
-    → LeastPut sets actions q xs ys → LeastPut sets actions (q + 1) xs (set ys (1088 + q) v)
+    → LeastPut sets actions q xs ys → LeastPut sets actions (q + 1) xs (set ys (1092 + q) v)
 least-put-on sets xs ys actions q v few below here before =
     let size = before .kept .size in
     record {
-      kept = kept-when-set 1088 1152 xs ys (1088 + q) v (omega arith) (before .kept);
+      kept = kept-when-set 1092 1156 xs ys (1092 + q) v (omega arith) (before .kept);
       least = λ k l i known adds.
-          let apart : i * 9 ≡ 1088 + q → ⊥ = λ e. omega arith in
-          let lasts = getD-set-other ys (1088 + q) (i * 9) v 0 apart in
+          let apart : i * 9 ≡ 1092 + q → ⊥ = λ e. omega arith in
+          let lasts = getD-set-other ys (1092 + q) (i * 9) v 0 apart in
           ⊎-elim
           (λ e.
           let same : k ≡ q = omega arith in
-          let put = getD-set-same ys (1088 + q) v 0 (omega arith) in
+          let put = getD-set-same ys (1092 + q) v 0 (omega arith) in
           let least = here i known (rw same at adds) in
           rw (same, put, lasts) least)
           (λ lower.
-          let other : 1088 + k ≡ 1088 + q → ⊥ = λ e. omega arith in
-          let stays = getD-set-other ys (1088 + q) (1088 + k) v 0 other in
+          let other : 1092 + k ≡ 1092 + q → ⊥ = λ e. omega arith in
+          let stays = getD-set-other ys (1092 + q) (1092 + k) v 0 other in
           rw (stays, lasts) (before .least k (omega arith) i known adds))
           (eq-or-lt-of-le l);
     }

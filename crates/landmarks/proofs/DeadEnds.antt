@@ -17,9 +17,10 @@ use Rattle.times.proofs.PlanSteps.{own-action, own-stop}
 use Rattle.regression.specs.Tests.{mustHold}
 use Rattle.regression.specs.DeadEnd.{NormalPlan, Until, Dead}
 use Rattle.regression.proofs.TailTests.{must-hold-holds}
-use Rattle.landmarks.specs.Landmarks.{Landmarks, marksOf, sumOver, Shares}
+use Rattle.landmarks.specs.Landmarks.{Landmarks, marksOf, sumOver, Shares, minutesBefore}
+use Rattle.landmarks.specs.Openings.{OpensAt}
 use Rattle.landmarks.proofs.AddedOnTheWay.{AtHand, landmarks-added}
-use Rattle.landmarks.proofs.PoolMinutes.{minutesBefore, minutes-within}
+use Rattle.landmarks.proofs.PoolMinutes.{minutes-within}
 use Rattle.landmarks.proofs.Sums.{shares-of-added, total-times, total-of-ones}
 
 -- an ordinary day: no step of L stops by t, and the start set is at hand
@@ -82,34 +83,28 @@ module _ (J : Job) (b goal T t : ℕ) (after : b ≤ t) (inTime : t ≤ T) (L : 
       let few = normal .fewSteps in
       omega arith)
 
-  -- m: no step that uses the pool starts before it; the chosen steps all stop at t or later
+  -- the pool opens at minute m
   pub dead-when-pool-short : (pool : ℕ) → pool < length (J .pools) → (scale m : ℕ)
-      → Shares J atHand share n (λ a. scale * (getD (a .pools) pool 0 * a .duration))
-      → ((E : List Step) → NormalPlan J b goal T (E ++ L)
-      → EachStep (λ x. 0 < getD (x .action .pools) pool 0 → m ≤ x .start) (E ++ L))
-      → EachStep (λ x. t ≤ x .stop) L
+      → Shares J atHand share n (λ a. scale * (getD (a .pools) pool 0 * a .duration)) → OpensAt J pool m
       → scale * (getD (J .pools) pool 0 * (t - m))
-      < sumOver share n missing + scale * total (λ x. getD (x .action .pools) pool 0 * (t - x .start)) L
+      < sumOver share n missing + scale * total (λ x. getD (x .action .pools) pool 0 * minutesBefore t x) L
       → Dead J b goal T (Until b t) L
-  dead-when-pool-short pool inside scale m shares starts later exceeds =
-      exceeded scale (getD (J .pools) pool 0 * (t - m)) (total running L) (λ a. getD (a .pools) pool 0 * a .duration) shares
+  dead-when-pool-short pool inside scale m shares opens exceeds =
+      exceeded scale (getD (J .pools) pool 0 * (t - m)) (total used L) (λ a. getD (a .pools) pool 0 * a .duration) shares
       exceeds
       (λ E until normal.
-      let sum = minutes-within J pool m t (getD (J .pools) pool 0) (E ++ L) (starts E normal)
+      let sum = minutes-within J pool m t (getD (J .pools) pool 0) (E ++ L) (opens T goal (E ++ L) (normal .plan))
       (λ k. normal .plan .keeps .pools pool k inside) in
-      let parts = total-append (λ x. getD (x .action .pools) pool 0 * minutesBefore t x) E L in
-      let first = total-mono (λ x. getD (x .action .pools) pool 0 * x .action .duration)
-      (λ x. getD (x .action .pools) pool 0 * minutesBefore t x) E
+      let parts = total-append used E L in
+      let whole = total-mono (λ x. getD (x .action .pools) pool 0 * x .action .duration) used E
       (λ x Q i.
       let inPlan = place-append L i in
       let stop = own-stop J T goal (E ++ L) (normal .plan) inPlan in
       let own = ap (λ (a : Action). a .duration) (own-action J T goal (E ++ L) (normal .plan) inPlan) in
       let by = until x Q i .2 in
       mul-le-mul-left (getD (x .action .pools) pool 0) (omega arith)) in
-      let rest = total-mono running (λ x. getD (x .action .pools) pool 0 * minutesBefore t x) L
-      (λ x Q i. let l = later x Q i in mul-le-mul-left (getD (x .action .pools) pool 0) (omega arith)) in
       omega arith)
     where
-      -- what a chosen step uses before t
-      running : Step → ℕ
-      running x = getD (x .action .pools) pool 0 * (t - x .start)
+      -- what a step uses before t
+      used : Step → ℕ
+      used x = getD (x .action .pools) pool 0 * minutesBefore t x

@@ -1,4 +1,4 @@
--- Landmarks and shares stay in the tables while cliques are filled behind them.
+-- Landmarks, shares and openings stay in the tables while more is filled behind them.
 -- Assumes nothing.
 use Prim.Native.Nat.{ℕ, zero, suc, _+_, _*_, _≤_, _<_}
 use mathlib.Core.Path.{_≡_, refl, sym, ap, ap₂, _∙_}
@@ -8,8 +8,14 @@ use native.Mathlib.Omega.{arith}
 use Rattle.facts.specs.FactSet.{has, union}
 use Rattle.tables.specs.Tables.{needsAt}
 use Rattle.landmarks.specs.Landmarks.{marksOf}
+use Rattle.tables.specs.declared.Frame.{Frame}
 use Rattle.landmarks.specs.Tables.{KeptBefore, markAt, Closed, WithinAll}
-use Rattle.landmarks.proofs.ShareLaws.{within-kept}
+use Rattle.landmarks.specs.Openings.{OpeningsPut}
+use Rattle.landmarks.specs.Cliques.{CliquesAt}
+use Rattle.landmarks.specs.Marked.{MarkedTables}
+use Rattle.landmarks.proofs.TableLaws.{kept-again}
+use Rattle.landmarks.proofs.ShareLaws.{kept-less, within-kept}
+use Rattle.landmarks.proofs.OpeningLaws.{openings-kept}
 
 marks-same : (f g : ℕ → ℕ) (n set : ℕ) → ((p : ℕ) → p < n → f p ≡ g p) → marksOf f n set ≡ marksOf g n set
 unfolding marksOf
@@ -19,7 +25,7 @@ marks-same f g (suc n) set h =
     (marks-same f g n set (λ p l. h p (omega arith)))
 
 module _ (actions start : ℕ) (few : actions ≤ 64) (xs ys : List ℕ) (kept : KeptBefore 320 384 xs ys) where
-  pub closed-kept : Closed xs actions start → Closed ys actions start
+  closed-kept : Closed xs actions start → Closed ys actions start
   closed-kept closed q below =
       let mine = kept .same (256 + q) (omega arith) in
       record {
@@ -32,9 +38,31 @@ module _ (actions start : ℕ) (few : actions ≤ 64) (xs ys : List ℕ) (kept :
             rw (needs, marks) (closed q below .others i known adds-q n (ap (λ (s : ℕ). has s n) (sym mine) ∙ h));
       }
 
-  pub within-all-kept : (numbers more : List ℕ) → KeptBefore 1088 1152 numbers more
+  within-all-kept : (numbers more : List ℕ) → KeptBefore 1088 1156 numbers more
       → WithinAll xs numbers actions start → WithinAll ys more actions start
   within-all-kept numbers more same within row inside i known =
       let adds = kept .same (i * 4 + 1) (omega arith) in
       rw adds
       (within-kept xs start numbers more actions 1088 row few inside (omega arith) same (within row inside) i known)
+
+-- landmarks are put first, then shares, then openings, then cliques, each behind what is there
+pub marked-tables : (sets sets′ sets″ numbers numbers′ numbers″ numbers‴ times : List ℕ) (frame : Frame) (start : ℕ)
+    → frame .actions ≤ 64 → KeptBefore 256 384 sets sets′ → Closed sets′ (frame .actions) start
+    → KeptBefore 576 1156 numbers numbers′ → WithinAll sets′ numbers′ (frame .actions) start
+    → OpeningsPut sets′ times frame 4 numbers′ numbers″ → KeptBefore 320 384 sets′ sets″
+    → KeptBefore 1092 1156 numbers″ numbers‴ → CliquesAt sets″ numbers‴ times frame
+    → KeptBefore 256 384 sets sets″ × KeptBefore 576 1156 numbers numbers‴
+    × MarkedTables sets″ numbers‴ times frame start
+marked-tables sets sets′ sets″ numbers numbers′ numbers″ numbers‴ times frame start few marks closed shares within put
+    apart least cliques =
+    let behind = kept-again 1088 1156 numbers′ numbers″ numbers‴ (put .kept)
+    (kept-less 1088 1092 1156 numbers″ numbers‴ (omega arith) least) in (
+      kept-again 256 384 sets sets′ sets″ marks (kept-less 256 320 384 sets′ sets″ (omega arith) apart),
+      kept-again 576 1156 numbers numbers′ numbers‴ shares (kept-less 576 1088 1156 numbers′ numbers‴ (omega arith) behind),
+      record {
+        closed = closed-kept _ start few sets′ sets″ apart closed;
+        within = within-all-kept _ start few sets′ sets″ apart numbers′ numbers‴ behind within;
+        openings = openings-kept sets′ sets″ numbers″ numbers‴ times frame few apart least (put .openings);
+        cliques = cliques;
+      },
+    )

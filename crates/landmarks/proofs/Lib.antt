@@ -6,4 +6,5 @@ pub mod TableLaws
 pub mod ShareLaws
 pub mod CliqueLaws
 pub mod CliqueTables
-pub mod KeptTables
+pub mod OpeningLaws
+mod KeptTables

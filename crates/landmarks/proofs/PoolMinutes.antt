@@ -1,6 +1,6 @@
 -- Minutes of a pool: what steps use of it before a minute, each minute for itself, is within what there is in all.
 -- Assumes nothing.
-use Prim.Native.Nat.{ℕ, zero, suc, _+_, _*_, _-_, _<_, _≤_, min}
+use Prim.Native.Nat.{ℕ, zero, suc, _+_, _*_, _-_, _<_, _≤_}
 use mathlib.Core.Path.{_≡_, refl}
 use mathlib.Core.Logic.{⊎-elim}
 use mathlib.Core.List.{List, [], _∷_}
@@ -13,15 +13,12 @@ use Rattle.timeline.specs.Timeline.{inUse}
 use Rattle.timeline.proofs.Tests.{le-or-lt}
 use Rattle.timeline.proofs.Places.{EachStep, total-mono}
 use Rattle.timeline.proofs.Shares.{useAt, share-when, use-of-share}
+use Rattle.landmarks.specs.Landmarks.{minutesBefore}
 
 -- the sum of f over n minutes from minute m on
 abbrev over : ℕ → ℕ → (ℕ → ℕ) → ℕ
 over m zero f = 0
 over m (suc n) f = f (m + n) + over m n f
-
--- the minutes of a step before t
-abbrev pub minutesBefore : ℕ → Step → ℕ
-minutesBefore t x = min (x .stop) t - x .start
 
 over-at-most : (m n most : ℕ) (f : ℕ → ℕ) → ((k : ℕ) → f k ≤ most) → over m n f ≤ most * n
 over-at-most m zero most f h = omega arith

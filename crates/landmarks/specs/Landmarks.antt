@@ -1,12 +1,13 @@
 -- Landmarks: the facts that every plan adds that makes a fact true; and shares, what a fact takes at least.
 -- Assumes nothing.
-use Prim.Native.Nat.{ℕ, zero, suc, _+_, _<_, _≤_}
+use Prim.Native.Nat.{ℕ, zero, suc, _+_, _-_, _<_, _≤_, min}
 use mathlib.Core.Path.{_≡_}
 use mathlib.Core.Bool.{true, false, cond}
 use mathlib.Core.Logic.{_⊎_}
 use lib.ListN.{length}
 use Rattle.facts.specs.FactSet.{has, union, difference}
 use Rattle.job.specs.Job.{Action, Job}
+use Rattle.timeline.specs.Step.{Step}
 use Rattle.times.specs.Earliest.{actionOf}
 
 -- One set for each fact below n. A fact at hand has no landmarks; a landmark of another fact is that fact itself, or, for
@@ -33,3 +34,7 @@ abbrev pub Shares : Job → ℕ → (ℕ → ℕ) → ℕ → (Action → ℕ) �
 Shares J atHand share n weight =
     (i : ℕ) → i < length (J .actions)
     → sumOver share n (difference (actionOf J i .adds) atHand) ≤ weight (actionOf J i)
+
+-- the minutes of a step before t
+abbrev pub minutesBefore : ℕ → Step → ℕ
+minutesBefore t x = min (x .stop) t - x .start

@@ -55,7 +55,7 @@ pub record Begun (n start all : ℕ) (xs ys : List ℕ) : Type 0 where
 
 -- n times the number from the place on, and before it the entries of xs
 pub record PutFrom (n at number : ℕ) (xs ys : List ℕ) : Type 0 where
-  pub kept : KeptBefore at 1152 xs ys
+  pub kept : KeptBefore at 1156 xs ys
   pub put : (k : ℕ) → k < n → getD ys (at + k) 0 ≡ number
 
 -- r is within all, and within the landmarks of what action i needs, if it adds q

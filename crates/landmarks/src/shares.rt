@@ -21,7 +21,7 @@ pub fn wide(number: u32) -> u64
 
 // The sum over the facts of a set of the numbers from place `at` on.
 pub fn sum(numbers: &[u32], at: usize, set: u64) -> u64
-    requires { ⌜ (length (now numbers) ≡ 1152) × (at + 64 ≤ 1152) ⌝ }
+    requires { ⌜ (length (now numbers) ≡ 1156) × (at + 64 ≤ 1156) ⌝ }
     ensures { λ r. ⌜ (r ≡ sumOver (shareFrom (now (numbers .entry)) at) 64 set) × (r ≤ 2 ^ 38) ⌝ }
 {
     let mut all: u64 = 0;
@@ -35,7 +35,7 @@ pub fn sum(numbers: &[u32], at: usize, set: u64) -> u64
 
 // What action i uses of the row's store, or its minutes times what it uses of the row's pool.
 fn weight(numbers: &[u32], i: usize, row: usize) -> u64
-    requires { ⌜ (length (now numbers) ≡ 1152) × (i < 64) × (row < 8) × (durationAt (now numbers) i ≤ 255) ⌝ }
+    requires { ⌜ (length (now numbers) ≡ 1156) × (i < 64) × (row < 8) × (durationAt (now numbers) i ≤ 255) ⌝ }
     ensures { λ r. ⌜ (r ≡ weightAt (now (numbers .entry)) i row) × (r ≤ 2 ^ 40) ⌝ }
 {
     if row < 4 {
@@ -46,7 +46,7 @@ fn weight(numbers: &[u32], i: usize, row: usize) -> u64
 
 // Whether the shares of what action i adds are within its weight.
 fn within_at(sets: &[u64], numbers: &[u32], start: u64, row: usize, i: usize) -> bool
-    requires { ⌜ (length (now sets) ≡ 384) × (length (now numbers) ≡ 1152) × (i < 64) × (row < 8)
+    requires { ⌜ (length (now sets) ≡ 384) × (length (now numbers) ≡ 1156) × (i < 64) × (row < 8)
         × (durationAt (now numbers) i ≤ 255) ⌝ }
     ensures { λ r. ⌜ (r ≡ true → WithinAt (now (sets .entry)) (now (numbers .entry)) start row i) ⌝ }
 {
@@ -98,8 +98,8 @@ fn share(weight: u64, among: u64) -> u32
 
 // Leaves the lesser of an entry and a share.
 fn lower_at(numbers: &mut [u32], at: usize, share: u32)
-    requires { ⌜ (length (now numbers) ≡ 1152) × (at < 1152) ⌝ }
-    ensures { λ r. ⌜ KeptBefore at 1152 (now (numbers .entry)) (now (numbers .exit)) ⌝ }
+    requires { ⌜ (length (now numbers) ≡ 1156) × (at < 1156) ⌝ }
+    ensures { λ r. ⌜ KeptBefore at 1156 (now (numbers .entry)) (now (numbers .exit)) ⌝ }
 {
     if share < numbers[at] {
         numbers[at] = share;
@@ -108,8 +108,8 @@ fn lower_at(numbers: &mut [u32], at: usize, share: u32)
 
 // The same for the facts of a set, from place `at` on.
 fn lower(numbers: &mut [u32], at: usize, set: u64, share: u32)
-    requires { ⌜ (length (now numbers) ≡ 1152) × (at + 64 ≤ 1152) ⌝ }
-    ensures { λ r. ⌜ KeptBefore at 1152 (now (numbers .entry)) (now (numbers .exit)) ⌝ }
+    requires { ⌜ (length (now numbers) ≡ 1156) × (at + 64 ≤ 1156) ⌝ }
+    ensures { λ r. ⌜ KeptBefore at 1156 (now (numbers .entry)) (now (numbers .exit)) ⌝ }
 {
     let mut p = facts::next(set, 0);
     while p < 64 {
@@ -120,7 +120,7 @@ fn lower(numbers: &mut [u32], at: usize, set: u64, share: u32)
 
 // Puts a number into each of 64 entries from place `at` on.
 fn put(numbers: &mut [u32], at: usize, number: u32)
-    requires { ⌜ (length (now numbers) ≡ 1152) × (at + 64 ≤ 1152) ⌝ }
+    requires { ⌜ (length (now numbers) ≡ 1156) × (at + 64 ≤ 1156) ⌝ }
     ensures { λ r. ⌜ PutFrom 64 at number (now (numbers .entry)) (now (numbers .exit)) ⌝ }
 {
     let mut k = 0;
@@ -133,7 +133,7 @@ fn put(numbers: &mut [u32], at: usize, number: u32)
 // Puts the least share of each fact into the row.
 fn search(numbers: &mut [u32], sets: &[u64], actions: usize, start: u64, row: usize)
     requires { ⌜ (length (now sets) ≡ 384) × Numbers (now numbers) actions × (row < 8) ⌝ }
-    ensures { λ r. ⌜ KeptBefore (rowAt row) 1152 (now (numbers .entry)) (now (numbers .exit)) ⌝ }
+    ensures { λ r. ⌜ KeptBefore (rowAt row) 1156 (now (numbers .entry)) (now (numbers .exit)) ⌝ }
 {
     let at = 576 + row * 64;
     put(numbers, at, 4_294_967_295);
@@ -149,7 +149,7 @@ fn search(numbers: &mut [u32], sets: &[u64], actions: usize, start: u64, row: us
 // Fills one row, and puts it to nothing should it not pass the test.
 fn fill_row(numbers: &mut [u32], sets: &[u64], actions: usize, start: u64, row: usize)
     requires { ⌜ (length (now sets) ≡ 384) × Numbers (now numbers) actions × (row < 8) ⌝ }
-    ensures { λ r. ⌜ KeptBefore (rowAt row) 1152 (now (numbers .entry)) (now (numbers .exit))
+    ensures { λ r. ⌜ KeptBefore (rowAt row) 1156 (now (numbers .entry)) (now (numbers .exit))
         × Within (now (sets .entry)) (now (numbers .exit)) actions start row ⌝ }
 {
     search(numbers, sets, actions, start, row);
@@ -161,7 +161,7 @@ fn fill_row(numbers: &mut [u32], sets: &[u64], actions: usize, start: u64, row: 
 // Fills all rows.
 pub fn fill(numbers: &mut [u32], sets: &[u64], actions: usize, start: u64)
     requires { ⌜ (length (now sets) ≡ 384) × Numbers (now numbers) actions ⌝ }
-    ensures { λ r. ⌜ KeptBefore 576 1152 (now (numbers .entry)) (now (numbers .exit))
+    ensures { λ r. ⌜ KeptBefore 576 1156 (now (numbers .entry)) (now (numbers .exit))
         × WithinAll (now (sets .entry)) (now (numbers .exit)) actions start ⌝ }
 {
     let mut row = 0;

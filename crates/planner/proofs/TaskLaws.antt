@@ -15,16 +15,17 @@ use Rattle.job.proofs.Passed.{passed}
 use Rattle.job.proofs.Rows.{fits-of-pass}
 use Rattle.tables.specs.declared.Frame.{Frame}
 use Rattle.tables.specs.Filled.{Filled, frameOf}
+use Rattle.tables.specs.Tables.{Numbers, Lent, Describes}
 use Rattle.tables.proofs.Describing.{describes}
-use Rattle.landmarks.specs.Tables.{KeptBefore, Closed, WithinAll}
-use Rattle.landmarks.specs.Cliques.{WithinLimits, CliquesAt}
-use Rattle.landmarks.proofs.TableLaws.{kept-again, landmarks-when-closed}
-use Rattle.landmarks.proofs.ShareLaws.{kept-less, stores-when-within}
-use Rattle.landmarks.proofs.KeptTables.{closed-kept, within-all-kept}
+use Rattle.landmarks.specs.Tables.{KeptBefore}
+use Rattle.landmarks.specs.Cliques.{WithinLimits}
+use Rattle.landmarks.specs.Marked.{MarkedTables}
+use Rattle.landmarks.proofs.TableLaws.{landmarks-when-closed}
+use Rattle.landmarks.proofs.ShareLaws.{stores-when-within, pools-when-within}
+use Rattle.landmarks.proofs.OpeningLaws.{opens-of-tables}
 use Rattle.landmarks.proofs.CliqueTables.{cliques-of-tables}
 use Rattle.earliest.specs.Sweep as earliest
 use Rattle.leaf.specs.Answer.{FileOf}
-use Rattle.tables.specs.Tables.{Numbers, Lent}
 use Rattle.search.specs.Search.{TaskOf}
 use Rattle.search.specs.Horizons.{Whole}
 
@@ -42,9 +43,14 @@ numbers-of-job job sets numbers passes filled =
           omega arith;
     }
 
+pub numbers-of-frame : (job : held.Job) (sets numbers : List ℕ) (frame : Frame) → first (jobRows (jobIn job)) ≡ Pass
+    → Filled job sets numbers → frame ≡ frameOf job (job .goal) 0 (job .deadline) → Numbers numbers (frame .actions)
+numbers-of-frame job sets numbers frame passes filled same =
+    subst (λ (f : Frame). Numbers numbers (f .actions)) (sym same) (numbers-of-job job sets numbers passes filled)
+
 -- the tables of the actions stay while those of the facts are filled
 pub filled-still : (job : held.Job) (sets numbers sets′ numbers′ : List ℕ) → first (jobRows (jobIn job)) ≡ Pass
-    → Filled job sets numbers → KeptBefore 256 384 sets sets′ → KeptBefore 576 1152 numbers numbers′
+    → Filled job sets numbers → KeptBefore 256 384 sets sets′ → KeptBefore 576 1156 numbers numbers′
     → Filled job sets′ numbers′
 filled-still job sets numbers sets′ numbers′ passes filled keptSets keptNumbers =
     let fits = fits-of-pass job passes in
@@ -72,29 +78,7 @@ filled-still job sets numbers sets′ numbers′ passes filled keptSets keptNumb
           };
     }
 
--- the tables of the job, with landmarks and shares
-pub record MarkedTables (job : held.Job) (sets numbers : List ℕ) : Type 0 where
-  pub filled : Filled job sets numbers
-  pub closed : Closed sets (job .counts .actions) (job .start)
-  pub within : WithinAll sets numbers (job .counts .actions) (job .start)
-
--- landmarks are put first, then shares, then cliques, each behind what is there
-pub tables-marked : (job : held.Job) (sets sets′ sets″ numbers numbers′ numbers″ : List ℕ)
-    → first (jobRows (jobIn job)) ≡ Pass → Filled job sets numbers → KeptBefore 256 384 sets sets′
-    → Closed sets′ (job .counts .actions) (job .start) → KeptBefore 576 1152 numbers numbers′
-    → WithinAll sets′ numbers′ (job .counts .actions) (job .start) → KeptBefore 320 384 sets′ sets″
-    → KeptBefore 1088 1152 numbers′ numbers″ → MarkedTables job sets″ numbers″
-tables-marked job sets sets′ sets″ numbers numbers′ numbers″ passes filled marks closed shares within apart least =
-    let few = fits-of-pass job passes .2 in
-    record {
-      filled = filled-still job sets numbers sets″ numbers″ passes filled
-          (kept-again 256 384 sets sets′ sets″ marks (kept-less 256 320 384 sets′ sets″ (omega arith) apart))
-          (kept-again 576 1152 numbers numbers′ numbers″ shares (kept-less 576 1088 1152 numbers′ numbers″ (omega arith) least));
-      closed = closed-kept _ _ few sets′ sets″ apart closed;
-      within = within-all-kept _ _ few sets′ sets″ apart numbers′ numbers″ least within;
-    }
-
--- what the cliques are filled for
+-- what the landmarks are filled for
 pub limits-of-job : (job : held.Job) (times : List ℕ) (frame : Frame) → first (jobRows (jobIn job)) ≡ Pass
     → earliest.Filled (jobIn job) times → frame ≡ frameOf job (job .goal) 0 (job .deadline) → WithinLimits times frame
 limits-of-job job times frame passes timed same =
@@ -108,12 +92,11 @@ limits-of-job job times frame passes timed same =
     })
 
 module _ (job : held.Job) (sets numbers times : List ℕ) (passes : first (jobRows (jobIn job)) ≡ Pass)
-    (tables : MarkedTables job sets numbers) (timed : earliest.Filled (jobIn job) times) (frame : Frame)
+    (filled : Filled job sets numbers) (timed : earliest.Filled (jobIn job) times) (frame : Frame)
     (same : frame ≡ frameOf job (job .goal) 0 (job .deadline)) where
-  pub task-of-job : CliquesAt sets numbers times frame → (file : List ℕ) → FileOf (jobIn job) file
+  pub task-of-job : MarkedTables sets numbers times frame (job .start) → (file : List ℕ) → FileOf (jobIn job) file
       → TaskOf (jobIn job) file sets numbers times frame
-  task-of-job cliques file inFile =
-      let described = describes job sets numbers (tables .filled) passes (job .goal) 0 (job .deadline) (omega arith) in
+  task-of-job marked file inFile =
       subst (λ (f : Frame). TaskOf (jobIn job) file sets numbers times f) (sym same)
       (record {
         inFile = inFile;
@@ -122,19 +105,26 @@ module _ (job : held.Job) (sets numbers times : List ℕ) (passes : first (jobRo
         goal = passed (jobIn job) passes .goal .within;
         marked = record {
           first = refl;
-          landmarks = landmarks-when-closed (jobIn job) sets numbers _ (job .start) (described .actions) (described .each) (tables .closed);
-          stores = stores-when-within (jobIn job) sets numbers _ (job .start) (described .actions) (described .each) (tables .within);
-          cliques = cliques-of-tables (jobIn job) sets numbers times _ described timed
-              (subst (CliquesAt sets numbers times) same cliques);
+          landmarks = landmarks-when-closed (jobIn job) sets numbers _ (job .start) (described .actions)
+              (described .each) (tables .closed);
+          stores = stores-when-within (jobIn job) sets numbers _ (job .start) (described .actions) (described .each)
+              (tables .within);
+          pools = pools-when-within (jobIn job) sets numbers _ (job .start) (described .actions) (described .each)
+              (tables .within);
+          opens = λ pool few inside.
+              opens-of-tables (jobIn job) sets numbers times _ described timed pool _ inside (tables .openings pool few);
+          cliques = cliques-of-tables (jobIn job) sets numbers times _ described timed (tables .cliques);
         };
       })
+    where
+      described : Describes (jobIn job) sets numbers (frameOf job (job .goal) 0 (job .deadline))
+      described = describes job sets numbers filled passes (job .goal) 0 (job .deadline) (omega arith)
+
+      tables : MarkedTables sets numbers times (frameOf job (job .goal) 0 (job .deadline)) (job .start)
+      tables = subst (λ (f : Frame). MarkedTables sets numbers times f (job .start)) same marked
 
   lent : Lent sets numbers (job .counts .actions)
-  lent =
-      record {
-        setCount = tables .filled .setCount;
-        amounts = numbers-of-job job sets numbers passes (tables .filled);
-      }
+  lent = record { setCount = filled .setCount; amounts = numbers-of-job job sets numbers passes filled }
 
   -- what the search requires of the tables and the frame
   pub whole-of-job : Whole sets numbers times frame

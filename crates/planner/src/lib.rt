@@ -17,9 +17,6 @@ use job::refusal::Verdict;
 use job::validate::validate;
 use jobfile::Layout;
 use jobfile::Written;
-use landmarks::cliques;
-use landmarks::marks;
-use landmarks::shares;
 use leaf::Answer;
 use pairs::Pair;
 use search::horizons;
@@ -53,13 +50,10 @@ fn solve(job: Job) -> Answer
     let mut sets = [0u64; Frame::SETS];
     let mut numbers = [0u32; Frame::NUMBERS];
     tables::fill::fill(&mut sets, &mut numbers, job);
-    let counts = job.counts;
-    marks::fill(&mut sets, counts.actions, job.start);
-    shares::fill(&mut numbers, &sets, counts.actions, job.start);
     let mut times = [set_time::NONE; Pair::COUNT];
     earliest::sweep::fill(&mut times, job);
     let frame = Frame::of(job, job.goal, 0, job.deadline);
-    cliques::fill(&mut sets, &mut numbers, &times, frame, job.start);
+    landmarks::fill(&mut sets, &mut numbers, &times, frame, job.start);
     let mut file = [0u8; Layout::FILE];
     let written = writer::write(job, &mut file);
     let Written::Length(length) = written else {

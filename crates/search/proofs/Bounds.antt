@@ -58,6 +58,8 @@ module _ (file sets numbers times : List ℕ) (frame : Frame) (T : ℕ) (within 
           first = task .marked .first;
           landmarks = task .marked .landmarks;
           stores = task .marked .stores;
+          pools = task .marked .pools;
+          opens = task .marked .opens;
           cliques = task .marked .cliques;
         };
       }

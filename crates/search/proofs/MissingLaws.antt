@@ -1,4 +1,4 @@
--- A fresh state for whose landmarks a store has too little left, or the minutes are too few, is a dead end.
+-- A fresh state for whose landmarks a store or a pool has too little left, or the minutes are too few, is a dead end.
 -- Assumes nothing.
 use Prim.Native.Nat.{ℕ, _+_, _*_, _-_, _≤_, _<_}
 use mathlib.Core.Path.{_≡_, sym, ap, ap₂, _∙_}
@@ -18,13 +18,14 @@ use Rattle.tables.specs.Tables.{Describes, chosen}
 use Rattle.tables.specs.declared.Frame.{Frame}
 use Rattle.landmarks.specs.Landmarks.{marksOf, sumOver}
 use Rattle.landmarks.specs.Tables.{markAt, shareFrom, rowAt}
+use Rattle.landmarks.specs.Openings.{openAt}
 use Rattle.landmarks.specs.Cliques.{apartAt, leastAt, CliqueMinutes}
 use Rattle.landmarks.proofs.AddedOnTheWay.{AtHand}
-use Rattle.landmarks.proofs.DeadEnds.{at-hand-at-start, dead-when-store-short}
+use Rattle.landmarks.proofs.DeadEnds.{at-hand-at-start, dead-when-store-short, dead-when-pool-short}
 use Rattle.landmarks.proofs.CliqueLaws.{dead-when-clique-too-long}
 use Rattle.search.specs.declared.state.State.{State}
 use Rattle.search.specs.States.{Stands, DeadFor}
-use Rattle.search.specs.Missing.{Marked, Fresh, Missing, fits}
+use Rattle.search.specs.Missing.{Marked, Fresh, Missing, fits, UsedBefore}
 use Rattle.search.proofs.Chosen.{place-of-chosen}
 
 module _ (J : Job) (sets numbers : List ℕ) (frame : Frame) (described : Describes J sets numbers frame)
@@ -72,3 +73,18 @@ module _ (J : Job) (sets numbers : List ℕ) (frame : Frame) (described : Descri
       dead-when-clique-too-long J (frame .first) (frame .goal) (frame .horizon) (st .minute) after (stands .inTime) L
       (J .start) base 64 (markAt sets) (marked .landmarks) (apartAt sets) (leastAt numbers) (marked .cliques) (clique .0)
       minutes (rw (same ∙ missing-of) at (clique .1)) exceeds
+
+  pub dead-when-pool-exceeded : (pool missing used : ℕ) → pool < 4 → pool < frame .pools → Missing sets st missing
+      → UsedBefore numbers (frame .actions) (st .steps) pool (st .minute) (st .steps .count) used
+      → fits numbers (4 + pool) missing used (getD (frame .available) pool 0 * (st .minute - openAt numbers pool)) ≡ false
+      → DeadFor J frame (Until (frame .first) (st .minute)) L
+  dead-when-pool-exceeded pool missing used few inside same usedBefore fails =
+      let count = described .pools in
+      let first = marked .first in
+      let known : pool < length (J .pools) = omega arith in
+      let more = leb-false (sumOver (shareFrom numbers (rowAt (4 + pool))) 64 missing + 2520 * used)
+      (2520 * (getD (frame .available) pool 0 * (st .minute - openAt numbers pool))) fails in
+      dead-when-pool-short J (frame .first) (frame .goal) (frame .horizon) (st .minute) (omega arith) (stands .inTime) L
+      (J .start) base 64 (markAt sets) (marked .landmarks) (shareFrom numbers (rowAt (4 + pool))) pool known 2520
+      (openAt numbers pool) (marked .pools pool few known) (marked .opens pool few known)
+      (rw (same ∙ missing-of, usedBefore J sets (described .each) known, described .available pool inside) at more)

@@ -9,9 +9,12 @@ use lib.ListN.{length, getD}
 use Rattle.facts.specs.FactSet.{union}
 use Rattle.job.specs.Job.{Job}
 use Rattle.regression.specs.DeadEnd.{Until}
-use Rattle.tables.specs.Tables.{Describes, chosen}
+use Rattle.timeline.specs.Step.{total}
+use Rattle.tables.specs.Tables.{Describes, DescribesEach, chosenTo, chosen}
+use Rattle.tables.specs.declared.Steps.{Steps}
 use Rattle.tables.specs.declared.Frame.{Frame}
-use Rattle.landmarks.specs.Landmarks.{Landmarks, marksOf, sumOver, Shares}
+use Rattle.landmarks.specs.Landmarks.{Landmarks, marksOf, sumOver, Shares, minutesBefore}
+use Rattle.landmarks.specs.Openings.{OpensAt, openAt}
 use Rattle.landmarks.specs.Tables.{markAt, shareFrom, rowAt}
 use Rattle.landmarks.specs.Cliques.{Cliques, apartAt, leastAt}
 use Rattle.search.specs.declared.state.State.{State}
@@ -23,6 +26,9 @@ pub record Marked (J : Job) (sets numbers : List ℕ) (frame : Frame) : Type 0 w
   pub landmarks : Landmarks J (J .start) 64 (markAt sets)
   pub stores : (store : ℕ) → store < 4 → store < length (J .stores)
       → Shares J (J .start) (shareFrom numbers (rowAt store)) 64 (λ a. 2520 * getD (a .stores) store 0)
+  pub pools : (pool : ℕ) → pool < 4 → pool < length (J .pools)
+      → Shares J (J .start) (shareFrom numbers (rowAt (4 + pool))) 64 (λ a. 2520 * (getD (a .pools) pool 0 * a .duration))
+  pub opens : (pool : ℕ) → pool < 4 → pool < length (J .pools) → OpensAt J pool (openAt numbers pool)
   pub cliques : Cliques J 64 (apartAt sets) (leastAt numbers)
 
 -- the chosen steps all stop after the state's minute
@@ -39,7 +45,12 @@ DeadUnlessSuffices sets numbers frame st test =
     test ≡ false → (J : Job) → Describes J sets numbers frame → Marked J sets numbers frame → Stands J frame st
     → DeadFor J frame (Until (frame .first) (st .minute)) (chosen J (st .steps))
 
--- the row's shares of a set, and what is used besides, are within what there is
+-- the row's shares of a set, and what is used besides, are at most so much
 abbrev pub fits : List ℕ → ℕ → ℕ → ℕ → ℕ → Bool
-fits numbers row missing used available =
-    leb (sumOver (shareFrom numbers (rowAt row)) 64 missing + 2520 * used) (2520 * available)
+fits numbers row missing used most = leb (sumOver (shareFrom numbers (rowAt row)) 64 missing + 2520 * used) (2520 * most)
+
+-- what the first k steps use of the pool before t, each minute for itself
+abbrev pub UsedBefore : List ℕ → ℕ → Steps → ℕ → ℕ → ℕ → ℕ → Type 0
+UsedBefore numbers actions steps pool t k used =
+    (J : Job) (sets : List ℕ) → DescribesEach J sets numbers actions → pool < length (J .pools)
+    → used ≡ total (λ x. getD (x .action .pools) pool 0 * minutesBefore t x) (chosenTo J steps k)

@@ -6,6 +6,7 @@ mod rules; // which actions may stop at a minute
 mod moves; // from one state to the next
 mod tests; // tests of a state
 mod carried; // the test of facts that must be carried back
+mod pool_minutes; // what is left of a pool before a minute
 mod missing; // tests of what is missing in a state
 pub mod regress; // the search for one horizon
 pub mod horizons; // the least horizon with a plan

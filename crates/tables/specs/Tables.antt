@@ -71,7 +71,7 @@ pub record Describes (J : Job) (sets numbers : List ℕ) (frame : Frame) : Type 
 
 -- a table of numbers that is long enough, with durations of one byte
 pub record Numbers (numbers : List ℕ) (actions : ℕ) : Type 0 where
-  pub numberCount : length numbers ≡ 1152
+  pub numberCount : length numbers ≡ 1156
   pub few : actions ≤ 64
   pub short : (i : ℕ) → i < actions → durationAt numbers i ≤ 255
 
@@ -83,7 +83,7 @@ pub record Lent (sets numbers : List ℕ) (actions : ℕ) : Type 0 where
 -- the tables are long enough, and the frame within the limits
 pub record Sized (sets numbers : List ℕ) (frame : Frame) : Type 0 where
   pub setCount : length sets ≡ 384
-  pub numberCount : length numbers ≡ 1152
+  pub numberCount : length numbers ≡ 1156
   pub facts : frame .facts ≤ 64
   pub actions : frame .actions ≤ 64
   pub pools : frame .pools ≤ 4

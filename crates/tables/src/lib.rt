@@ -22,10 +22,11 @@ pub struct Frame {
 }
 
 impl Frame {
-    // How many entries the tables have: four sets for each action and two for each fact, nine numbers for each of both.
+    // How many entries the tables have: four sets for each action and two for each fact; nine numbers for each of both,
+    // and one for each pool.
     pub const SETS: usize = 384;
 
-    pub const NUMBERS: usize = 1152;
+    pub const NUMBERS: usize = 1156;
 
     // The frame of a job.
     pub fn of(job: Job, goal: u64, first: u16, horizon: u16) -> Frame

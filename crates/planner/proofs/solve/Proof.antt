@@ -8,7 +8,7 @@ use Rattle.lists.proofs.Bools.{absurd}
 use Rattle.tables.specs.declared.Frame.{Frame}
 use Rattle.tables.proofs.Describing.{byte-durations}
 use Rattle.planner.proofs.FileLaws.{file-not-refused, file-in-slice, file-length, file-of-job}
-use Rattle.planner.proofs.TaskLaws.{numbers-of-job, limits-of-job, tables-marked}
+use Rattle.planner.proofs.TaskLaws.{numbers-of-frame, limits-of-job, filled-still}
 use Rattle.planner.proofs.TaskLaws.{task-of-job, whole-of-job}
 use Rattle.planner.proofs.Solving.{solved}
 use native.Mathlib.Omega.{arith}
@@ -30,10 +30,12 @@ slice-aggregate-fill-3 c = search needs
 
 fill-requires-2 : tie.Need-fill-requires-2
 fill-requires-2 c κs =
-    let c-args = c .before .before .before .before .before .before .before .args in
-    let c-pre = c .before .before .before .before .before .before .before .pre in
-    let c-fill = c .before .before .before .before .fill in
-    (c-fill .ensures .setCount, fits-of-pass (c-args .job) (c-pre) .2)
+    let c-args = c .before .before .before .before .before .before .args in
+    let c-pre = c .before .before .before .before .before .before .pre in
+    (refl, passed (jobIn (c-args .job)) c-pre .facts, fits-of-pass (c-args .job) c-pre)
+
+of-requires : tie.Need-of-requires
+of-requires c κs = search needs
 
 slice-aggregate-fill-4 : tie.Need-slice-aggregate-fill-4
 slice-aggregate-fill-4 c = search needs
@@ -41,50 +43,20 @@ slice-aggregate-fill-4 c = search needs
 slice-aggregate-fill-5 : tie.Need-slice-aggregate-fill-5
 slice-aggregate-fill-5 c = search needs
 
-fill-requires-3 : tie.Need-fill-requires-3
-fill-requires-3 c κs =
-    let at8 = c .before .before .before .before .before .before .before .before in
-    let c-args = at8 .before .before .before .args in
-    let c-pre = at8 .before .before .before .pre in
-    let c-fill = c .before .before .before .before .before .before .before .before .fill in
-    let c-fill2 = c .before .before .before .fill2 in
-    (c-fill2 .ensures .0 .size, numbers-of-job (c-args .job) _ _ (c-pre) (c-fill .ensures))
-
 slice-aggregate-fill-6 : tie.Need-slice-aggregate-fill-6
 slice-aggregate-fill-6 c = search needs
 
-fill-requires-4 : tie.Need-fill-requires-4
-fill-requires-4 c κs =
+fill-requires-3 : tie.Need-fill-requires-3
+fill-requires-3 c κs =
     let at8 = c .before .before .before .before .before .before .before .before in
-    let c-args = at8 .before .before .before .before .before .before .args in
-    let c-pre = at8 .before .before .before .before .before .before .pre in
-    (refl, passed (jobIn (c-args .job)) c-pre .facts, fits-of-pass (c-args .job) (c-pre))
-
-of-requires : tie.Need-of-requires
-of-requires c κs = search needs
-
-slice-aggregate-fill-7 : tie.Need-slice-aggregate-fill-7
-slice-aggregate-fill-7 c = search needs
-
-slice-aggregate-fill-8 : tie.Need-slice-aggregate-fill-8
-slice-aggregate-fill-8 c = search needs
-
-slice-aggregate-fill-9 : tie.Need-slice-aggregate-fill-9
-slice-aggregate-fill-9 c = search needs
-
-fill-requires-5 : tie.Need-fill-requires-5
-fill-requires-5 c κs =
-    let at8 = c .before .before .before .before .before .before .before .before in
-    let at16 = at8 .before .before .before .before .before .before .before .before in
-    let c-args = at16 .before .before .before .before .args in
-    let c-pre = at16 .before .before .before .before .pre in
-    let c-fill2 = at8 .before .before .before .before .fill2 in
-    let c-fill3 = c .before .before .before .before .before .before .before .before .fill3 in
-    let c-fill4 = c .before .before .before .before .before .fill4 in
+    let c-args = at8 .before .before .before .before .args in
+    let c-pre = at8 .before .before .before .before .pre in
+    let c-fill = at8 .before .fill in
+    let c-fill2 = c .before .before .before .before .before .fill2 in
     let c-of = c .before .before .before .of in (
-      c-fill2 .ensures .0 .size,
-      c-fill3 .ensures .0 .size,
-      limits-of-job (c-args .job) _ (c-of .result) c-pre (c-fill4 .ensures) (c-of .ensures),
+      c-fill .ensures .setCount,
+      numbers-of-frame (c-args .job) _ _ (c-of .result) c-pre (c-fill .ensures) (c-of .ensures),
+      limits-of-job (c-args .job) _ (c-of .result) c-pre (c-fill2 .ensures) (c-of .ensures),
     )
 
 slice-aggregate-write : tie.Need-slice-aggregate-write
@@ -106,9 +78,8 @@ returns : tie.Need-returns
 returns c =
     let at8 = c .before .before .before .before .before .before .before .before in
     let at16 = at8 .before .before .before .before .before .before .before .before in
-    let at24 = at16 .before .before .before .before .before .before .before .before in
-    let c-args = at24 .before .before .before .before .before .args in
-    let c-pre = at24 .before .before .before .before .before .pre in
+    let c-args = at16 .before .before .before .before .before .args in
+    let c-pre = at16 .before .before .before .before .before .pre in
     let c-write = c .before .before .before .before .write in
     absurd
     (file-not-refused (c-args .job) c-pre _ refl (c-write .result) _ (c-write .ensures) _ (c .before .enum-told .given .1))
@@ -127,9 +98,8 @@ array-share-prefix-file c =
     let at8 = c .before .before .before .before .before .before .before .before in
     let at16 = at8 .before .before .before .before .before .before .before .before in
     let at24 = at16 .before .before .before .before .before .before .before .before in
-    let at32 = at24 .before .before .before .before .before .before .before .before in
-    let c-args = at32 .args in
-    let c-pre = at32 .pre in
+    let c-args = at24 .args in
+    let c-pre = at24 .pre in
     let c-write = c .before .before .before .before .before .before .before .write in
     let c-written = c .before .before .before .before .written in
     file-in-slice (c-args .job) c-pre _ refl (c-write .result) _ (c-write .ensures) _ (c-written .given .1)
@@ -139,9 +109,8 @@ slice-aggregate-shortest-4 c =
     let at8 = c .before .before .before .before .before .before .before .before in
     let at16 = at8 .before .before .before .before .before .before .before .before in
     let at24 = at16 .before .before .before .before .before .before .before .before in
-    let at32 = at24 .before .before .before .before .before .before .before .before in
-    let c-args = at32 .before .args in
-    let c-pre = at32 .before .pre in
+    let c-args = at24 .before .args in
+    let c-pre = at24 .before .pre in
     let c-write = c .before .before .before .before .before .before .before .before .write in
     let c-written = c .before .before .before .before .before .written in
     file-length (c-args .job) c-pre _ refl (c-write .result) _ (c-write .ensures) _ (c-written .given .1)
@@ -151,49 +120,36 @@ shortest-requires c κs =
     let at8 = c .before .before .before .before .before .before .before .before in
     let at16 = at8 .before .before .before .before .before .before .before .before in
     let at24 = at16 .before .before .before .before .before .before .before .before in
-    let at32 = at24 .before .before .before .before .before .before .before .before in
-    let c-args = at32 .before .args in
-    let c-pre = at32 .before .pre in
-    let c-fill = at24 .before .before .before .before .before .before .fill in
-    let c-fill2 = at24 .before .fill2 in
-    let c-fill3 = at16 .before .before .before .before .before .fill3 in
-    let c-fill4 = at16 .before .before .fill4 in
+    let c-args = at24 .before .args in
+    let c-pre = at24 .before .pre in
+    let c-fill = at16 .before .before .before .before .before .before .fill in
+    let c-fill2 = at16 .before .before .fill2 in
     let c-of = at16 .of in
-    let c-fill5 = at8 .before .before .before .before .fill5 in
-    let marks = c-fill2 .ensures in
-    let shares = c-fill3 .ensures in
-    let cliques = c-fill5 .ensures in
-    let tables = tables-marked (c-args .job) _ _ _ _ _ _ c-pre (c-fill .ensures) (marks .0) (marks .1) (shares .0) (shares .1)
-    (cliques .0) (cliques .1) in
-    whole-of-job (c-args .job) _ _ _ c-pre tables (c-fill4 .ensures) (c-of .result) (c-of .ensures)
+    let c-fill3 = at8 .before .before .before .before .fill3 in
+    let put = c-fill3 .ensures in
+    let filled = filled-still (c-args .job) _ _ _ _ c-pre (c-fill .ensures) (put .0) (put .1) in
+    whole-of-job (c-args .job) _ _ _ c-pre filled (c-fill2 .ensures) (c-of .result) (c-of .ensures)
 
 returns-2 : tie.Need-returns-2
 returns-2 c =
     let at8 = c .before .before .before .before .before .before .before .before in
     let at16 = at8 .before .before .before .before .before .before .before .before in
     let at24 = at16 .before .before .before .before .before .before .before .before in
-    let at32 = at24 .before .before .before .before .before .before .before .before in
-    let c-args = at32 .before .before .args in
-    let c-pre = at32 .before .before .pre in
-    let c-fill = at24 .before .before .before .before .before .before .before .fill in
-    let c-fill2 = at24 .before .before .fill2 in
-    let c-fill3 = at16 .before .before .before .before .before .before .fill3 in
-    let c-fill4 = at16 .before .before .before .fill4 in
+    let c-args = at24 .before .before .args in
+    let c-pre = at24 .before .before .pre in
+    let c-fill = at16 .before .before .before .before .before .before .before .fill in
+    let c-fill2 = at16 .before .before .before .fill2 in
     let c-of = at16 .before .of in
-    let c-fill5 = at8 .before .before .before .before .before .fill5 in
+    let c-fill3 = at8 .before .before .before .before .before .fill3 in
     let c-write = at8 .before .write in
     let c-written = c .before .before .before .before .before .before .written in
     let job = c-args .job in
     let within = passed (jobIn job) c-pre in
-    let marks = c-fill2 .ensures in
-    let shares = c-fill3 .ensures in
-    let cliques = c-fill5 .ensures in
-    let tables = tables-marked job _ _ _ _ _ _ c-pre (c-fill .ensures) (marks .0) (marks .1) (shares .0) (shares .1)
-    (cliques .0) (cliques .1) in
+    let put = c-fill3 .ensures in
+    let filled = filled-still job _ _ _ _ c-pre (c-fill .ensures) (put .0) (put .1) in
     let durations = byte-durations job _ _ (c-fill .ensures) in
     let file = file-of-job job _ (c-write .result) _ (c-write .ensures) durations _ (c-written .given .1) in
-    let task = task-of-job job _ _ _ c-pre tables (c-fill4 .ensures) (c-of .result) (c-of .ensures) (cliques .2) _
-    file in
+    let task = task-of-job job _ _ _ c-pre filled (c-fill2 .ensures) (c-of .result) (c-of .ensures) (put .2) _ file in
     solved (jobIn job) (c .shortest .result) within (c-of .result .goal) (c-of .result .horizon)
     (ap (λ (f : Frame). f .goal) (c-of .ensures)) (ap (λ (f : Frame). f .horizon) (c-of .ensures))
     (λ e.
@@ -209,16 +165,11 @@ solve-spec =
     fill-requires
     slice-aggregate-fill-3
     fill-requires-2
+    of-requires
     slice-aggregate-fill-4
     slice-aggregate-fill-5
-    fill-requires-3
     slice-aggregate-fill-6
-    fill-requires-4
-    of-requires
-    slice-aggregate-fill-7
-    slice-aggregate-fill-8
-    slice-aggregate-fill-9
-    fill-requires-5
+    fill-requires-3
     slice-aggregate-write
     write-requires
     enum-known-written

@@ -3,17 +3,13 @@
 use Prim.Native.Nat.{ℕ, _+_, _*_, _-_, _^_, _≤_}
 use mathlib.Core.Path.{_≡_, sym, ap₂, _∙_}
 use mathlib.Core.Bool.{Bool, cond}
-use native.Mathlib.Nat.{mul-le-mul-left}
+use native.Mathlib.Nat.{mul-le-mul}
 use borrow.Author.Tests.{lt-ltb, le-ltb}
 use Rattle.tables.specs.Tables.{durationAt, poolUseAt}
 use native.Mathlib.Omega.{arith}
 use borrow.Author.Needs.{needs}
 use Rattle.landmarks.proofs.shares.weight.Statement.{statement}
 use Rattle.landmarks.proofs.shares.weight.Tie as tie
-
--- a product of an amount and the minutes of an action
-small-product : (amount minutes : ℕ) → amount ≤ 2 ^ 32 → minutes ≤ 255 → amount * minutes ≤ 2 ^ 40
-small-product amount minutes a b = let most = mul-le-mul-left amount b in omega arith
 
 mul-wide : tie.Need-mul-wide
 mul-wide c = search needs
@@ -78,7 +74,8 @@ mul-result c =
     let h = c-pre in
     let small = c-wide2 .ensures .1 in
     let same = c .wide3 .ensures .0 in
-    let most = small-product (c-wide2 .result) (c .wide3 .result) (omega arith) (omega arith) in omega arith
+    let most = mul-le-mul {n₁ = c-wide2 .result} {m₁ = c .wide3 .result} {n₂ = 2 ^ 32} {m₂ = 255} (omega arith) (omega arith) in
+    omega arith
 
 returns-2 : tie.Need-returns-2
 returns-2 c =
@@ -88,9 +85,10 @@ returns-2 c =
     let c-wide2 = c .before .before .wide2 in
     let h = c-pre in
     let small = c-wide2 .ensures .1 in
-    let same = c .wide3 .ensures .0 in (
+    let same = c .wide3 .ensures .0 in
+    let most = mul-le-mul {n₁ = c-wide2 .result} {m₁ = c .wide3 .result} {n₂ = 2 ^ 32} {m₂ = 255} (omega arith) (omega arith) in (
       rw (le-ltb (c-args .row) 4 (c-if1 .left)) (ap₂ _*_ (c-wide2 .ensures .0) same),
-      small-product (c-wide2 .result) (c .wide3 .result) (omega arith) (omega arith),
+      omega arith,
     )
 
 pub weight-spec : {M : Type 1} → statement M

@@ -4,25 +4,24 @@ use mathlib.Core.Path.{_≡_}
 use borrow.Author.Tests.{leb-false}
 use Rattle.search.proofs.MissingLaws.{dead-when-minutes-exceeded}
 use native.Mathlib.Omega.{arith}
+use borrow.Author.Needs.{needs}
 use Rattle.search.proofs.missing.minutes_suffice.Statement.{statement}
 use Rattle.search.proofs.missing.minutes_suffice.Tie as tie
 
 minutes-requires : tie.Need-minutes-requires
-minutes-requires c κs = let h = c .before .before .pre in (h .0, h .1)
+minutes-requires c κs = search needs
 
 wide-requires : tie.Need-wide-requires
-wide-requires c κs = tt
+wide-requires c κs = search needs
 
 wide-requires-2 : tie.Need-wide-requires-2
-wide-requires-2 c κs = tt
+wide-requires-2 c κs = search needs
 
-sub-amount : tie.Need-sub-amount
-sub-amount c =
-    let c-pre = c .before .before .before .before .before .pre in
-    let h = c-pre in let a = c .before .wide .ensures .0 in let b = c .wide2 .ensures .0 in omega arith
+sub-wide : tie.Need-sub-wide
+sub-wide c = search needs
 
-amount-requires : tie.Need-amount-requires
-amount-requires c κs = tt
+wide-requires-3 : tie.Need-wide-requires-3
+wide-requires-3 c κs = search needs
 
 returns : tie.Need-returns
 returns c =
@@ -34,12 +33,12 @@ returns c =
     let h = c-pre in
     let a = c .before .before .wide .ensures .0 in
     let b = c .before .wide2 .ensures .0 in
-    let n = c .amount .ensures .0 in
-    let more = leb-false (c-minutes .result) (c .amount .result) e in
+    let n = c .wide3 .ensures .0 in
+    let more = leb-false (c-minutes .result) (c .wide3 .result) e in
     dead-when-minutes-exceeded J (at .sets .now) (at .numbers .now) (at .frame) described marked (at .st) stands (h .3)
     (at .missing) (c-minutes .result) (h .2) missing (c-minutes .ensures) (omega arith)
 
 pub minutes-suffice-spec : {M : Type 1} → statement M
 minutes-suffice-spec =
     tie.close
-    (tie.spec minutes-requires wide-requires wide-requires-2 sub-amount amount-requires returns)
+    (tie.spec minutes-requires wide-requires wide-requires-2 sub-wide wide-requires-3 returns)

@@ -1,9 +1,10 @@
 -- `stores_suffice` meets its contract: the store that does not makes a dead end.
 -- Assumes nothing.
 use Prim.Native.Nat.{ℕ, _-_, _≤_}
-use mathlib.Core.Path.{_≡_, sym, _∙_}
+use mathlib.Core.Path.{_≡_, sym, ap, _∙_}
 use mathlib.Core.Bool.{true≢false}
 use borrow.Author.Tests.{not-true}
+use Rattle.search.specs.Missing.{fits}
 use Rattle.search.proofs.MissingLaws.{dead-when-store-exceeded}
 use native.Mathlib.Omega.{arith}
 use Rattle.search.proofs.missing.stores_suffice.Statement.{statement}
@@ -18,39 +19,48 @@ abbrev μ-loop : tie.MeasureT-loop
 loop-holds : tie.Need-loop-holds Inv-loop μ-loop
 loop-holds c = omega arith
 
+mul-wide : tie.Need-mul-wide Inv-loop μ-loop
+mul-wide c = omega arith
+
+array-read-wide : tie.Need-array-read-wide Inv-loop μ-loop
+array-read-wide c =
+    let c-pre = c .before .before .before .before .before .before .pre in
+    let h = c-pre in omega arith
+
+wide-requires : tie.Need-wide-requires Inv-loop μ-loop
+wide-requires c κs = tt
+
 mul-fits : tie.Need-mul-fits Inv-loop μ-loop
 mul-fits c = omega arith
 
 array-read-fits : tie.Need-array-read-fits Inv-loop μ-loop
 array-read-fits c =
-    let c-pre = c .before .before .before .before .before .before .pre in
+    let c-pre = c .before .before .before .before .before .before .before .pre in
     let h = c-pre in let n = h .2 .four in omega arith
-
-mul-fits-2 : tie.Need-mul-fits-2 Inv-loop μ-loop
-mul-fits-2 c = omega arith
-
-array-read-fits-2 : tie.Need-array-read-fits-2 Inv-loop μ-loop
-array-read-fits-2 c =
-    let c-pre = c .before .before .before .before .before .before .pre in
-    let h = c-pre in omega arith
 
 fits-requires : tie.Need-fits-requires Inv-loop μ-loop
 fits-requires c κs =
-    let c-pre = c .before .before .before .before .before .before .pre in
-    let h = c-pre in (h .0, omega arith, h .2 .small (c .before .before .loop .k) (omega arith))
+    let c-pre = c .before .before .before .before .before .before .before .pre in
+    let c-loop = c .before .before .before .loop in
+    let h = c-pre in
+    let small = h .2 .small (c-loop .k) (omega arith) in
+    let stock = c .wide .ensures .1 in
+    (h .0, omega arith, omega arith, omega arith)
 
 returns : tie.Need-returns Inv-loop μ-loop
 returns c =
-    let c-pre = c .before .before .before .before .before .before .before .before .pre in
-    let c-args = c .before .before .before .before .before .before .before .before .args in
-    let c-loop = c .before .before .before .before .loop in
+    let at8 = c .before .before .before .before .before .before .before .before in
+    let c-pre = at8 .before .pre in
+    let c-args = at8 .before .args in
+    let c-loop = c .before .before .before .before .before .loop in
     let c-fits2 = c .before .fits2 in
     let h = c-pre in
     let at = c-args in
     λ sets missing e J described marked stands.
     dead-when-store-exceeded J sets (at .numbers .now) (at .frame) described marked (at .st) stands (h .3)
     (c-loop .k) (at .missing) (omega arith) (omega arith) missing
-    (sym (c-fits2 .ensures) ∙ not-true (c-fits2 .result) (c .if2 .taken))
+    (ap (fits (at .numbers .now) (c-loop .k) (at .missing) _) (sym (c .before .before .wide .ensures .0))
+    ∙ sym (c-fits2 .ensures) ∙ not-true (c-fits2 .result) (c .if2 .taken))
 
 add-k : tie.Need-add-k Inv-loop μ-loop
 add-k c = omega arith
@@ -71,10 +81,11 @@ stores-suffice-spec =
     Inv-loop
     μ-loop
     loop-holds
+    mul-wide
+    array-read-wide
+    wide-requires
     mul-fits
     array-read-fits
-    mul-fits-2
-    array-read-fits-2
     fits-requires
     returns
     add-k

@@ -1,4 +1,4 @@
--- `suffices` meets its contract: both tests are of the landmarks of what must hold.
+-- `suffices` meets its contract: the tests are of the landmarks of what must hold.
 -- Assumes nothing.
 use mathlib.Core.Path.{_≡_, ap, _∙_}
 use borrow.Author.Tests.{not-true}
@@ -28,16 +28,31 @@ returns c =
     let missing = c .before .before .of-set .ensures ∙ ap (marksOf (markAt (c-args .sets .now)) 64) (c-union .ensures .0) in
     λ e. c-stores-suffice .ensures (c-args .sets .now) missing (not-true (c-stores-suffice .result) (c .if1 .taken))
 
-minutes-suffice-requires : tie.Need-minutes-suffice-requires
-minutes-suffice-requires c κs =
+pools-suffice-requires : tie.Need-pools-suffice-requires
+pools-suffice-requires c κs =
     let c-pre = c .before .before .before .before .before .before .pre in
-    let h = c-pre in (h .0 .lent .setCount, h .0 .lent .amounts .numberCount, h .2, h .1)
+    let safe = c-pre .0 in (safe .lent .amounts, safe .known, safe .pools, c-pre .1)
 
 returns-2 : tie.Need-returns-2
 returns-2 c =
-    let c-args = c .before .before .before .before .before .before .before .args in
-    let c-union = c .before .before .before .before .union in
-    let c-of-set = c .before .before .before .of-set in
+    let c-args = c .before .before .before .before .before .before .before .before .args in
+    let c-union = c .before .before .before .before .before .union in
+    let c-of-set = c .before .before .before .before .of-set in
+    let c-pools-suffice = c .before .pools-suffice in
+    let missing = c-of-set .ensures ∙ ap (marksOf (markAt (c-args .sets .now)) 64) (c-union .ensures .0) in
+    λ e. c-pools-suffice .ensures (c-args .sets .now) missing (not-true (c-pools-suffice .result) (c .if2 .taken))
+
+minutes-suffice-requires : tie.Need-minutes-suffice-requires
+minutes-suffice-requires c κs =
+    let c-pre = c .before .before .before .before .before .before .before .before .pre in
+    let h = c-pre in (h .0 .lent .setCount, h .0 .lent .amounts .numberCount, h .2, h .1)
+
+returns-3 : tie.Need-returns-3
+returns-3 c =
+    let at8 = c .before .before .before .before .before .before .before .before in
+    let c-args = at8 .before .args in
+    let c-union = c .before .before .before .before .before .before .union in
+    let c-of-set = c .before .before .before .before .before .of-set in
     let missing = c-of-set .ensures ∙ ap (marksOf (markAt (c-args .sets .now)) 64) (c-union .ensures .0) in
     c .minutes-suffice .ensures missing
 
@@ -49,5 +64,7 @@ suffices-spec =
     of-set-requires
     stores-suffice-requires
     returns
+    pools-suffice-requires
+    returns-2
     minutes-suffice-requires
-    returns-2)
+    returns-3)

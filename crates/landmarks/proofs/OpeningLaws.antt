@@ -1,0 +1,96 @@
+-- Openings: how they are filled, and that no plan uses a pool before its opening.
+-- Assumes nothing.
+use Prim.Native.Nat.{ℕ, _+_, _*_, _≤_, _<_}
+use mathlib.Core.Path.{_≡_, sym, ap}
+use mathlib.Core.Logic.{⊎-elim}
+use mathlib.Core.List.{List}
+use native.Mathlib.Nat.{eq-or-lt-of-le}
+use native.Mathlib.Omega.{arith}
+use lib.ListN.{length, set, getD}
+use lib.Seq.{getD-set-same, getD-set-other}
+use Rattle.job.specs.Job.{Action, Job}
+use Rattle.times.specs.Numbers.{tableIn}
+use Rattle.times.proofs.PlanSteps.{own-action, needs-at}
+use Rattle.times.proofs.Admissible.{held-set-not-before-its-time}
+use Rattle.earliest.specs.Numbers.{setNumber}
+use Rattle.earliest.specs.Sweep.{Filled}
+use Rattle.earliest.proofs.SetTimes.{number-by-set}
+use Rattle.times.specs.Earliest.{actionOf}
+use Rattle.tables.specs.declared.Frame.{Frame}
+use Rattle.tables.specs.Tables.{needsAt, poolUseAt, Describes}
+use Rattle.landmarks.specs.Tables.{KeptBefore}
+use Rattle.landmarks.specs.Openings.{OpensAt, openAt, OpenTo, OpeningsTo, OpeningsPut}
+use Rattle.landmarks.proofs.TableLaws.{kept-at-first, kept-when-set}
+
+-- what a user of the pool needs holds at its start, so the start is not before the time of that
+pub opens-of-tables : (J : Job) (sets numbers times : List ℕ) (frame : Frame) → Describes J sets numbers frame
+    → Filled J times → (pool minute : ℕ) → pool < length (J .pools)
+    → OpenTo sets numbers times frame (frame .actions) pool minute → OpensAt J pool minute
+opens-of-tables J sets numbers times frame described filled pool minute inside opening T goal P plan x Q i uses =
+    let known : x .number < frame .actions = rw (described .actions) at (plan .known x Q i) in
+    let each = described .each (x .number) known in
+    let lasts = plan .keeps .lasting x Q i in
+    let own = ap (λ (a : Action). getD (a .pools) pool 0) (own-action J T goal P plan i) in
+    let use-of-pool = each .pools pool inside in
+    let soonest = opening (x .number) known (omega arith) in
+    let number = number-by-set J times (filled .able) (actionOf J (x .number) .needs) (x .start)
+    (held-set-not-before-its-time J (tableIn times) (filled .solves) T goal P plan _ (x .start)
+    (needs-at J T goal P plan i (x .start) (omega arith) lasts)) in
+    let same : setNumber times (needsAt sets (x .number)) (frame .facts)
+    ≡ setNumber times (actionOf J (x .number) .needs) (J .facts) = rw (each .needs, described .facts) in
+    omega arith
+
+-- ---- action after action
+pub open-on : (sets numbers times : List ℕ) (frame : Frame) (pool i best less : ℕ) → less ≤ best
+    → (0 < poolUseAt numbers i pool → less ≤ setNumber times (needsAt sets i) (frame .facts))
+    → OpenTo sets numbers times frame i pool best → OpenTo sets numbers times frame (i + 1) pool less
+open-on sets numbers times frame pool i best less fewer here before k l uses =
+    ⊎-elim (λ e. let same : k ≡ i = omega arith in rw same (here (rw same at uses)))
+    (λ lower. let rest = before k (omega arith) uses in omega arith)
+    (eq-or-lt-of-le l)
+
+-- ---- pool after pool
+pub openings-at-first : (sets times : List ℕ) (frame : Frame) (xs : List ℕ) → length xs ≡ 1156
+    → OpeningsPut sets times frame 0 xs xs
+openings-at-first sets times frame xs size =
+    record { kept = kept-at-first 1088 1156 xs size; openings = λ pool l. absurd (omega arith) }
+
+-- what is before the openings and the openings of the other pools stay
+open-still : (sets times : List ℕ) (frame : Frame) (ys : List ℕ) (at v pool minute : ℕ) → frame .actions ≤ 64 → pool < 4
+    → 576 ≤ at → OpenTo sets ys times frame (frame .actions) pool minute
+    → OpenTo sets (set ys at v) times frame (frame .actions) pool minute
+open-still sets times frame ys at v pool minute few inside behind opening i known uses =
+    let apart : i * 9 + 1 + pool ≡ at → ⊥ = λ e. omega arith in
+    opening i known (rw (getD-set-other ys at (i * 9 + 1 + pool) v 0 apart) at uses)
+
+pub openings-on : (sets times : List ℕ) (frame : Frame) (xs ys : List ℕ) (pool v : ℕ) → frame .actions ≤ 64 → pool < 4
+    → OpenTo sets ys times frame (frame .actions) pool v → OpeningsPut sets times frame pool xs ys
+    → OpeningsPut sets times frame (pool + 1) xs (set ys (1088 + pool) v)
+openings-on sets times frame xs ys pool v few inside here before =
+    let size = before .kept .size in
+    record {
+      kept = kept-when-set 1088 1156 xs ys (1088 + pool) v (omega arith) (before .kept);
+      openings = λ k l.
+          ⊎-elim
+          (λ e.
+          let same : k ≡ pool = omega arith in
+          let put = getD-set-same ys (1088 + pool) v 0 (omega arith) in
+          rw (same, put) (open-still sets times frame ys (1088 + pool) v pool v few inside (omega arith) here))
+          (λ lower.
+          let other : 1088 + k ≡ 1088 + pool → ⊥ = λ e. omega arith in
+          let stays = getD-set-other ys (1088 + pool) (1088 + k) v 0 other in
+          rw stays
+          (open-still sets times frame ys (1088 + pool) v k _ few (omega arith) (omega arith)
+          (before .openings k (omega arith))))
+          (eq-or-lt-of-le l);
+    }
+
+-- the openings stay while cliques are filled behind them
+pub openings-kept : (sets sets′ numbers numbers′ times : List ℕ) (frame : Frame) → frame .actions ≤ 64
+    → KeptBefore 320 384 sets sets′ → KeptBefore 1092 1156 numbers numbers′ → OpeningsTo sets numbers times frame 4
+    → OpeningsTo sets′ numbers′ times frame 4
+openings-kept sets sets′ numbers numbers′ times frame few kept keptNumbers openings pool inside i known uses =
+    let needs = kept .same (i * 4) (omega arith) in
+    let minute = keptNumbers .same (1088 + pool) (omega arith) in
+    let amount = keptNumbers .same (i * 9 + 1 + pool) (omega arith) in
+    rw (needs, minute) (openings pool inside i known (rw amount at uses))

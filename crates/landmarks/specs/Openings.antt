@@ -1,0 +1,42 @@
+-- Openings of pools: a minute for each pool before which no plan uses it.
+-- Assumes nothing.
+use Prim.Native.Nat.{ℕ, _+_, _≤_, _<_}
+use mathlib.Core.List.{List}
+use lib.ListN.{getD}
+use Rattle.job.specs.Job.{Job}
+use Rattle.timeline.specs.Step.{Step}
+use Rattle.timeline.proofs.Places.{EachStep}
+use Rattle.times.proofs.PlanSteps.{PlanOf}
+use Rattle.earliest.specs.Numbers.{setNumber}
+use Rattle.tables.specs.declared.Frame.{Frame}
+use Rattle.tables.specs.Tables.{needsAt, poolUseAt}
+use Rattle.landmarks.specs.Tables.{KeptBefore}
+
+-- in every plan, a step that uses the pool starts at the minute or later
+abbrev pub OpensAt : Job → ℕ → ℕ → Type 0
+OpensAt J pool minute =
+    (T goal : ℕ) (P : List Step) → PlanOf J T goal P
+    → EachStep (λ x. 0 < getD (x .action .pools) pool 0 → minute ≤ x .start) P
+
+-- ---- in the tables of a job
+
+-- where the table of numbers has the opening of a pool
+abbrev pub openAt : List ℕ → ℕ → ℕ
+openAt numbers pool = getD numbers (1088 + pool) 0
+
+-- what the first n actions need that use the pool is not there before the minute
+abbrev pub OpenTo : List ℕ → List ℕ → List ℕ → Frame → ℕ → ℕ → ℕ → Type 0
+OpenTo sets numbers times frame n pool minute =
+    (i : ℕ) → i < n → 0 < poolUseAt numbers i pool → minute ≤ setNumber times (needsAt sets i) (frame .facts)
+
+-- the table has openings of the first n pools
+abbrev pub OpeningsTo : List ℕ → List ℕ → List ℕ → Frame → ℕ → Type 0
+OpeningsTo sets numbers times frame n =
+    (pool : ℕ) → pool < n → OpenTo sets numbers times frame (frame .actions) pool (openAt numbers pool)
+
+-- ---- what inner functions promise
+
+-- the openings of the first n pools are put
+pub record OpeningsPut (sets times : List ℕ) (frame : Frame) (n : ℕ) (xs ys : List ℕ) : Type 0 where
+  pub kept : KeptBefore 1088 1156 xs ys
+  pub openings : OpeningsTo sets ys times frame n
