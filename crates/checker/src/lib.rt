@@ -1,8 +1,8 @@
 // The checker: a job and a plan's bytes in; the plan's end, or the first refusal of 3 to 20, out.
-pub mod decode; // the steps in a plan's bytes
-pub mod rules; // one check for each rule
-pub mod clock; // the facts that hold, minute by minute
-pub mod watch; // the clock over a whole plan
+mod decode; // the steps in a plan's bytes
+mod rules; // one check for each rule
+mod clock; // the facts that hold, minute by minute
+mod watch; // the clock over a whole plan
 
 ghost use mathlib.Core.Path.{_≡_};
 ghost use mathlib.Core.Bool.{false};

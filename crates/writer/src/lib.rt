@@ -1,5 +1,5 @@
 // The writer: a job and a lent slice in; the file at the front of the slice, or the first refusal of 3 to 11 and 23.
-pub mod encode; // the parts of a file
+mod encode; // the parts of a file
 
 ghost use Rattle.job.specs.Job.{jobIn};
 ghost use Rattle.writer.specs.Wrote.{Wrote};
