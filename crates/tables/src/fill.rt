@@ -1,6 +1,5 @@
 // Fills the tables of a job: four sets and nine numbers for each action.
 ghost use mathlib.Core.Path.{_≡_};
-ghost use mathlib.Core.Bool.{cond};
 ghost use Prim.Native.Nat.{_+_, _*_, _≤_, _<_};
 ghost use lib.ListN.{length};
 ghost use Rattle.job.specs.Job.{jobIn, Fits};
@@ -14,13 +13,6 @@ fn minutes(duration: u8) -> u32
     ensures { λ r. ⌜ (r ≡ duration) × (r < 256) ⌝ }
 {
     duration as u32
-}
-
-// The set where the test passes, else the empty set.
-fn when(test: bool, set: u64) -> u64
-    ensures { λ r. ⌜ r ≡ cond test set 0 ⌝ }
-{
-    if test { set } else { 0 }
 }
 
 // Whether actions i and j clash, which are a and b.
@@ -41,7 +33,7 @@ fn clash_set(job: Job, i: usize) -> u64
     let mut j = 0;
     while j < counts.actions {
         let b = job.actions[j];
-        let member = when(clash(i, j, a, b), facts::single(j as u8));
+        let member = facts::when(clash(i, j, a, b), facts::single(j as u8));
         set = facts::union(set, member);
         j += 1;
     }
