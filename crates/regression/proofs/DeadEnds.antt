@@ -18,11 +18,11 @@ use Rattle.times.specs.Earliest.{Table, timeOf, Solves}
 use Rattle.times.proofs.Times.{By}
 use Rattle.times.proofs.Admissible.{held-set-not-before-its-time}
 use Rattle.regression.specs.Normal.{blocked}
-use Rattle.regression.specs.Tests.{solelyProvides, deletesWanted, runningNeeds, mustHold}
+use Rattle.regression.specs.Tests.{solelyProvides, deletesWanted, runningNeeds}
 use Rattle.regression.specs.DeadEnd.{NormalPlan, Until, Dead}
 use Rattle.regression.proofs.Tail.{StopBy}
 use Rattle.regression.proofs.TailTests.{critical-solely-provides, blocked-by-tail, deletes-nothing-wanted}
-use Rattle.regression.proofs.TailTests.{running-needs-hold, must-hold-holds}
+use Rattle.regression.proofs.TailTests.{running-needs-hold}
 
 module _ (J : Job) (b goal T : ℕ) where
   -- with fewer steps left to choose it is a dead end all the more
@@ -92,13 +92,6 @@ module _ (J : Job) (b goal T : ℕ) where
   times-bound times solves P p = held-set-not-before-its-time J times solves T goal P (p .plan)
 
   module _ (bound : ℕ → ℕ → Type 0) (bounds : Bounds bound) (L : List Step) where
-    pub dead-when-too-early : (t m : ℕ) → t ≤ m → m ≤ T → (bound (mustHold goal T L m) m → ⊥)
-        → Dead J b goal T (Until b t) L
-    dead-when-too-early t m l inTime early E h p =
-        early
-        (bounds (E ++ L) p (mustHold goal T L m) m
-        (must-hold-holds J goal T E L (p .plan .keeps) t (until-stops t E h) m l inTime))
-
     pub dead-when-running-too-early : (X : Step → Type 0) (m : ℕ) → (bound (runningNeeds m L) m → ⊥)
         → Dead J b goal T X L
     dead-when-running-too-early X m early E h p =
