@@ -25,7 +25,7 @@ use Rattle.earliest.specs.Sweep.{Filled}
 use Rattle.earliest.proofs.SetTimes.{number-by-set}
 use Rattle.regression.specs.Wanted.{wantedAt}
 use Rattle.regression.specs.Normal.{addedBeside}
-use Rattle.regression.specs.Tests.{provided, solelyProvides, runningNeeds, mustHold}
+use Rattle.regression.specs.Tests.{provided, solelyProvides, runningNeeds}
 use Rattle.regression.specs.DeadEnd.{Until}
 use Rattle.regression.proofs.Gathered.{in-unionOf, in-unionOf-from}
 use Rattle.regression.proofs.DeadEnds.{dead-when-not-sole-provider, dead-when-running-too-early}
