@@ -1,0 +1,60 @@
+-- The rest of a begun day as a day of its own, which begins at minute M of the begun one. Kept steps start before M, new
+-- steps at M or later.
+-- Assumes nothing.
+use Prim.Native.Nat.{ℕ, suc, _-_}
+use mathlib.Core.Bool.{cond}
+use mathlib.Core.List.{List, [], _∷_, _++_, map}
+use lib.Dec.{ltb}
+use lib.ListN.{length}
+use Rattle.job.specs.Job.{Action, Job}
+use Rattle.timeline.specs.Step.{Step}
+use Rattle.timeline.specs.Timeline.{held}
+
+-- the kept steps that still run in minute M
+abbrev pub running : ℕ → List Step → List Step
+running M [] = []
+running M (x ∷ K) = cond (ltb M (x .stop)) (x ∷ running M K) (running M K)
+
+-- the action with another length
+abbrev pub withDuration : ℕ → Action → Action
+withDuration d a =
+    record {
+      duration = d;
+      needs = a .needs;
+      adds = a .adds;
+      deletes = a .deletes;
+      pools = a .pools;
+      stores = a .stores;
+    }
+
+-- what is left of a running step, as an action
+abbrev pub restAction : ℕ → Step → Action
+restAction M x = withDuration (x .stop - M) (x .action)
+
+-- the job of the rest: it starts with what holds at M, and has one more action for what is left of each running step
+abbrev pub restOfJob : Job → ℕ → List Step → Job
+restOfJob J M K =
+    record {
+      facts = J .facts;
+      deadline = J .deadline - M;
+      start = held (J .start) K M;
+      goal = J .goal;
+      pools = J .pools;
+      stores = J .stores;
+      actions = J .actions ++ map (restAction M) (running M K);
+    }
+
+-- a step by the minutes of the rest, with another number and action; what has started before M starts at 0
+abbrev pub restStep : ℕ → ℕ → Action → Step → Step
+restStep M number action x =
+    record { number = number; action = action; start = x .start - M; stop = x .stop - M }
+
+-- what is left of running steps, with the numbers from n on
+abbrev pub restSteps : ℕ → ℕ → List Step → List Step
+restSteps M n [] = []
+restSteps M n (x ∷ R) = restStep M n (restAction M x) x ∷ restSteps M (suc n) R
+
+-- the plan of the rest: the new steps N, and what is left of the kept steps K
+abbrev pub restOfPlan : Job → ℕ → List Step → List Step → List Step
+restOfPlan J M N K =
+    map (λ x. restStep M (x .number) (x .action) x) N ++ restSteps M (length (J .actions)) (running M K)
