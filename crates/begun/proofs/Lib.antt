@@ -1,3 +1,5 @@
 pub mod Rests
 pub mod WhatIsLeft
 pub mod HeldInRest
+pub mod RestPlan
+pub mod Bounds

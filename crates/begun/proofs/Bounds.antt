@@ -1,0 +1,34 @@
+-- The earliest times of the rest bound what holds in the begun day.
+-- Assumes nothing.
+use Prim.Native.Nat.{ℕ, _+_, _-_, _<_, _≤_}
+use mathlib.Core.Path.{_≡_, sym}
+use mathlib.Core.List.{List, _++_, append-assoc}
+use native.Mathlib.Omega.{arith}
+use Rattle.facts.specs.FactSet.{Subset}
+use Rattle.job.specs.Job.{Job}
+use Rattle.timeline.specs.Step.{Step}
+use Rattle.timeline.specs.Timeline.{held}
+use Rattle.timeline.proofs.Places.{EachStep}
+use Rattle.times.specs.Earliest.{Table, timeOf, Solves}
+use Rattle.times.proofs.Times.{By}
+use Rattle.times.proofs.PlanSteps.{PlanOf}
+use Rattle.times.proofs.Admissible.{held-set-not-before-its-time}
+use Rattle.regression.specs.DeadEnd.{NormalPlan}
+use Rattle.begun.specs.RestOfDay.{restOfJob, restOfPlan}
+use Rattle.begun.proofs.RestPlan.{held-in-rest-of-plan, rest-plan}
+
+module _ (J : Job) (M T goal : ℕ) (K : List Step) (kept : EachStep (λ x. x .start < M) K) (inTime : M ≤ T)
+    (times : Table) (solves : Solves (restOfJob J M K) times) (set m : ℕ) (later : M ≤ m) where
+  pub held-set-not-before-its-rest : (N : List Step) → EachStep (λ x. M ≤ x .start) N → PlanOf J T goal (N ++ K)
+      → Subset set (held (J .start) (N ++ K) m) → By (timeOf (restOfJob J M K) times set) (m - M)
+  held-set-not-before-its-rest N new plan inside =
+      let same : M + (m - M) ≡ m = omega arith in
+      held-set-not-before-its-time (restOfJob J M K) times solves (T - M) goal (restOfPlan J M N K)
+      (rest-plan J M T goal N K plan new kept inTime) set (m - M)
+      (λ f h. rw (held-in-rest-of-plan J M T goal N K plan new kept (m - M), same) (inside f h))
+
+  -- in a normal plan of the steps E still to be chosen and the chosen steps C
+  pub rest-times-bound : (E C : List Step) → EachStep (λ x. M ≤ x .start) (E ++ C) → NormalPlan J M goal T (E ++ (C ++ K))
+      → Subset set (held (J .start) (E ++ (C ++ K)) m) → By (timeOf (restOfJob J M K) times set) (m - M)
+  rest-times-bound E C new normal inside =
+      held-set-not-before-its-rest (E ++ C) new (rw append-assoc (normal .plan)) (rw append-assoc inside)
