@@ -15,7 +15,7 @@ use Rattle.times.proofs.PlanSteps.{PlanOf}
 use Rattle.times.proofs.Admissible.{held-set-not-before-its-time}
 use Rattle.regression.specs.DeadEnd.{NormalPlan}
 use Rattle.begun.specs.RestOfDay.{restOfJob, restOfPlan}
-use Rattle.begun.proofs.RestPlan.{held-in-rest-of-plan, rest-plan}
+use Rattle.begun.proofs.RestPlan.{rest-holds-the-same, rest-is-a-day}
 
 module _ (J : Job) (M T goal : ℕ) (K : List Step) (kept : EachStep (λ x. x .start < M) K) (inTime : M ≤ T)
     (times : Table) (solves : Solves (restOfJob J M K) times) (set m : ℕ) (later : M ≤ m) where
@@ -24,8 +24,8 @@ module _ (J : Job) (M T goal : ℕ) (K : List Step) (kept : EachStep (λ x. x .s
   held-set-not-before-its-rest N new plan inside =
       let same : M + (m - M) ≡ m = omega arith in
       held-set-not-before-its-time (restOfJob J M K) times solves (T - M) goal (restOfPlan J M N K)
-      (rest-plan J M T goal N K plan new kept inTime) set (m - M)
-      (λ f h. rw (held-in-rest-of-plan J M T goal N K plan new kept (m - M), same) (inside f h))
+      (rest-is-a-day J M T goal N K plan new kept inTime) set (m - M)
+      (λ f h. rw (rest-holds-the-same J M T goal N K plan new kept (m - M), same) (inside f h))
 
   -- in a normal plan of the steps E still to be chosen and the chosen steps C
   pub rest-times-bound : (E C : List Step) → EachStep (λ x. M ≤ x .start) (E ++ C) → NormalPlan J M goal T (E ++ (C ++ K))

@@ -44,7 +44,7 @@ module _ (S M : ℕ) (K : List Step) where
       (stops-of-kept (λ a. a .adds) (suc t) l N later)
 
 -- ---- after M what is left does the same
-module _ (J : Job) (M : ℕ) (was : ℕ → ℕ) {P R : List Step} (rest : Rest J M was P R) where
+module _ {J : Job} {M : ℕ} {was : ℕ → ℕ} {P R : List Step} (rest : Rest J M was P R) where
   same-minute : (t : ℕ) (x : Step) → eqb (x .stop - M) (suc t) ≡ eqb (x .stop) (suc (M + t))
   same-minute t x =
       same-test (eqb (x .stop - M) (suc t)) (eqb (x .stop) (suc (M + t)))
@@ -54,9 +54,9 @@ module _ (J : Job) (M : ℕ) (was : ℕ → ℕ) {P R : List Step} (rest : Rest 
   same-stops : (set : Action → ℕ) → ((d : ℕ) (a : Action) → set (withDuration d a) ≡ set a) → (t : ℕ)
       → atStop set (suc t) R ≡ atStop set (suc (M + t)) P
   same-stops set same t =
-      rest-union J M was (λ x. ifStops (suc t) (set (x .action)) x) (λ x. ifStops (suc (M + t)) (set (x .action)) x)
+      rest-union (λ x. ifStops (suc t) (set (x .action)) x) (λ x. ifStops (suc (M + t)) (set (x .action)) x) rest
       (λ x l. none-at-stop (suc (M + t)) (set (x .action)) x (λ e. omega arith))
-      (λ x n d l. ap₂ (λ (b : Bool) (s : ℕ). cond b s 0) (same-minute t x) (same d (x .action))) rest
+      (λ x n d l. ap₂ (λ (b : Bool) (s : ℕ). cond b s 0) (same-minute t x) (same d (x .action)))
 
   pub held-in-rest : (S t : ℕ) → held (held S P M) R t ≡ held S P (M + t)
   held-in-rest S zero = let e : M ≡ M + 0 = omega arith in ap (held S P) e

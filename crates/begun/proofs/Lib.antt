@@ -1,5 +1,6 @@
 pub mod Rests
 pub mod WhatIsLeft
 pub mod HeldInRest
+pub mod RulesInRest
 pub mod RestPlan
 pub mod Bounds

@@ -11,11 +11,11 @@ use lib.Seq.{getD-append-add}
 use borrow.Author.Tests.{ltb-true, ltb-false, lt-ltb, le-ltb}
 use Rattle.job.specs.Job.{Action, Job}
 use Rattle.timeline.specs.Step.{Step, noAction}
-use Rattle.timeline.proofs.Places.{here, EachStep, each-rest, place-append}
+use Rattle.timeline.proofs.Places.{Place, here, EachStep, each-rest, place-append}
 use Rattle.timeline.proofs.JobSteps.{OfJob}
 use Rattle.times.specs.Earliest.{actionOf}
 use Rattle.times.proofs.PlanSteps.{PlanOf, own-action, own-stop}
-use Rattle.begun.specs.RestOfDay.{running, restAction, restOfJob, restStep, restSteps, restOfPlan}
+use Rattle.begun.specs.RestOfDay.{running, restAction, restOfJob, newSteps, restSteps, restOfPlan}
 use Rattle.begun.proofs.Rests.{LeftAs, Rest, none, done, left}
 
 abbrev numbers : List Step → List ℕ
@@ -38,68 +38,59 @@ number-of-running J M K k =
     let place : n + k - n ≡ k = omega arith in
     rw (le-ltb (n + k) n (omega arith), place) refl
 
--- f gives the elements of xs from n on
-abbrev Gives : {A : Type 0} → (ℕ → A) → ℕ → List A → Type 0
-Gives f n [] = Unit
-Gives f n (x ∷ xs) = (f n ≡ x) × Gives f (suc n) xs
-
-gives : {A : Type 0} (f : ℕ → A) (d : A) (n : ℕ) (xs : List A) → ((k : ℕ) → f (n + k) ≡ getD xs k d) → Gives f n xs
-gives f d n [] h = tt
-gives f d n (x ∷ xs) h =
-    let first : n ≡ n + 0 = omega arith in (
-      ap f first ∙ h 0,
-      gives f d (suc n) xs (λ k. let next : suc n + k ≡ n + suc k = omega arith in ap f next ∙ h (suc k)),
-    )
-
 own-step : (J : Job) (number : ℕ) (a : Action) (start stop : ℕ) → actionOf J number ≡ a → stop ≡ start + a .duration
     → OfJob J (record { number = number; action = a; start = start; stop = stop })
 own-step J number a start stop e s = rw (s, ← e) refl
 
 -- ---- the kept steps
-module _ (J : Job) (M : ℕ) (was : ℕ → ℕ) where
-  -- the job J and `was` have the actions and the numbers of the running steps R from n on
-  record Holds (n : ℕ) (R : List Step) : Type 0 where
-    pub actions : Gives (actionOf J) n (map (restAction M) R)
-    pub numbers : Gives was n (numbers R)
-    pub within : n + length R ≤ length (J .actions)
+-- the job J has what is left of the steps R as its actions from n on, and `was` their numbers
+record Holds (J : Job) (M : ℕ) (was : ℕ → ℕ) (n : ℕ) (R : List Step) : Type 0 where
+  pub actions : (k : ℕ) → actionOf J (n + k) ≡ getD (map (restAction M) R) k noAction
+  pub numbers : (k : ℕ) → was (n + k) ≡ getD (numbers R) k 0
+  pub within : n + length R ≤ length (J .actions)
 
-  left-of-running : (n : ℕ) (x : Step) (R : List Step) → x .start < M → M < x .stop → Holds n (x ∷ R)
+module _ {J : Job} {M : ℕ} {was : ℕ → ℕ} where
+  holds-rest : (n : ℕ) (x : Step) (R : List Step) → Holds J M was n (x ∷ R) → Holds J M was (suc n) R
+  holds-rest n x R h =
+      let within = h .within in
+      let next : (k : ℕ) → suc n + k ≡ n + suc k = λ k. omega arith in
+      record {
+        actions = λ k. ap (actionOf J) (next k) ∙ h .actions (suc k);
+        numbers = λ k. ap was (next k) ∙ h .numbers (suc k);
+        within = omega arith;
+      }
+
+  left-of-running : (n : ℕ) (x : Step) (R : List Step) → x .start < M → M < x .stop → Holds J M was n (x ∷ R)
       → LeftAs J M was n (x .stop - M) x
   left-of-running n x R before runs h =
       let within = h .within in
+      let first : n ≡ n + 0 = omega arith in
       record {
         runs = runs;
-        number = h .numbers .0;
+        number = ap was first ∙ h .numbers 0;
         known = omega arith;
-        own = own-step J n (restAction M x) (x .start - M) (x .stop - M)
-            (h .actions .0) (omega arith);
+        own = own-step J n (restAction M x) (x .start - M) (x .stop - M) (ap (actionOf J) first ∙ h .actions 0)
+            (omega arith);
       }
 
-  rest-of-kept : (K : List Step) → EachStep (λ x. x .start < M) K → (n : ℕ) → Holds n (running M K)
+  rest-of-kept : (K : List Step) → EachStep (λ x. x .start < M) K → (n : ℕ) → Holds J M was n (running M K)
       → Rest J M was K (restSteps M n (running M K))
   rest-of-kept [] before n h = none
   rest-of-kept (x ∷ K) before n h =
       go (ltb M (x .stop)) refl (rest-of-kept K (each-rest (λ y. y .start < M) x K before)) h
     where
       go : (b : Bool) → ltb M (x .stop) ≡ b
-          → ((n : ℕ) → Holds n (running M K) → Rest J M was K (restSteps M n (running M K)))
-          → Holds n (cond b (x ∷ running M K) (running M K))
+          → ((n : ℕ) → Holds J M was n (running M K) → Rest J M was K (restSteps M n (running M K)))
+          → Holds J M was n (cond b (x ∷ running M K) (running M K))
           → Rest J M was (x ∷ K) (restSteps M n (cond b (x ∷ running M K) (running M K)))
       go true e others h =
-          let within = h .within in
           left n (x .stop - M) (left-of-running n x (running M K) (before x K here) (ltb-true M (x .stop) e) h)
-          (others (suc n)
-          (record {
-            actions = h .actions .1;
-            numbers = h .numbers .1;
-            within = omega arith;
-          }))
+          (others (suc n) (holds-rest n x (running M K) h))
       go false e others h = done (ltb-false M (x .stop) e) (others n h)
 
   -- ---- the new steps, each with its own number and action
   rest-with-new : {K R : List Step} → Rest J M was K R → (N : List Step)
-      → EachStep (λ x. LeftAs J M was (x .number) (x .action .duration) x) N
-      → Rest J M was (N ++ K) (map (λ x. restStep M (x .number) (x .action) x) N ++ R)
+      → EachStep (λ x. LeftAs J M was (x .number) (x .action .duration) x) N → Rest J M was (N ++ K) (newSteps M N ++ R)
   rest-with-new r [] h = r
   rest-with-new r (x ∷ N) h =
       left (x .number) (x .action .duration) (h x N here)
@@ -108,18 +99,16 @@ module _ (J : Job) (M : ℕ) (was : ℕ → ℕ) where
 -- ---- both
 module _ (J : Job) (M T goal : ℕ) (N K : List Step) (plan : PlanOf J T goal (N ++ K))
     (new : EachStep (λ x. M ≤ x .start) N) (kept : EachStep (λ x. x .start < M) K) where
-  running-held : Holds (restOfJob J M K) M (numberBefore J M K) (length (J .actions)) (running M K)
-  running-held =
+  holds-running : Holds (restOfJob J M K) M (numberBefore J M K) (length (J .actions)) (running M K)
+  holds-running =
       record {
-        actions = gives (actionOf (restOfJob J M K)) noAction (length (J .actions)) (map (restAction M) (running M K))
-            (λ k. getD-append-add (J .actions) (map (restAction M) (running M K)) k noAction);
-        numbers = gives (numberBefore J M K) 0 (length (J .actions)) (numbers (running M K))
-            (number-of-running J M K);
+        actions = λ k. getD-append-add (J .actions) (map (restAction M) (running M K)) k noAction;
+        numbers = number-of-running J M K;
         within = simp (length-append, length-map) (omega arith);
       }
 
-  left-of-new : EachStep (λ x. LeftAs (restOfJob J M K) M (numberBefore J M K) (x .number)
-      (x .action .duration) x) N
+  left-of-new : (x : Step) (Q : List Step) → Place x Q N
+      → LeftAs (restOfJob J M K) M (numberBefore J M K) (x .number) (x .action .duration) x
   left-of-new x Q i =
       let inPlan = place-append K i in
       let after = new x Q i in
@@ -127,7 +116,7 @@ module _ (J : Job) (M T goal : ℕ) (N K : List Step) (plan : PlanOf J T goal (N
       let known = plan .known x _ inPlan in
       let own = own-action J T goal (N ++ K) plan inPlan in
       let stop = own-stop J T goal (N ++ K) plan inPlan in
-      let sized : actionOf J (x .number) .duration ≡ x .action .duration = ap (λ (a : Action). a .duration) (sym own) in
+      let length = ap (λ (a : Action). a .duration) own in
       let more = length-append (J .actions) (map (restAction M) (running M K)) in
       record {
         runs = omega arith;
@@ -138,7 +127,4 @@ module _ (J : Job) (M T goal : ℕ) (N K : List Step) (plan : PlanOf J T goal (N
       }
 
   pub rest-of-plan : Rest (restOfJob J M K) M (numberBefore J M K) (N ++ K) (restOfPlan J M N K)
-  rest-of-plan =
-      rest-with-new (restOfJob J M K) M (numberBefore J M K)
-      (rest-of-kept (restOfJob J M K) M (numberBefore J M K) K kept (length (J .actions)) running-held)
-      N left-of-new
+  rest-of-plan = rest-with-new (rest-of-kept K kept (length (J .actions)) holds-running) N left-of-new

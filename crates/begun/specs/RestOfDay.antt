@@ -44,17 +44,25 @@ restOfJob J M K =
       actions = J .actions ++ map (restAction M) (running M K);
     }
 
--- a step by the minutes of the rest, with another number and action; what has started before M starts at 0
-abbrev pub restStep : ℕ → ℕ → Action → Step → Step
-restStep M number action x =
-    record { number = number; action = action; start = x .start - M; stop = x .stop - M }
+-- what is left of a step, by the minutes of the rest, as one of another number and length; what has begun starts at 0
+abbrev pub restStep : ℕ → ℕ → ℕ → Step → Step
+restStep M number duration x =
+    record {
+      number = number;
+      action = withDuration duration (x .action);
+      start = x .start - M;
+      stop = x .stop - M;
+    }
 
--- what is left of running steps, with the numbers from n on
+-- a new step keeps its number and its length
+abbrev pub newSteps : ℕ → List Step → List Step
+newSteps M N = map (λ x. restStep M (x .number) (x .action .duration) x) N
+
+-- what is left of the running steps has the numbers from n on
 abbrev pub restSteps : ℕ → ℕ → List Step → List Step
 restSteps M n [] = []
-restSteps M n (x ∷ R) = restStep M n (restAction M x) x ∷ restSteps M (suc n) R
+restSteps M n (x ∷ R) = restStep M n (restAction M x .duration) x ∷ restSteps M (suc n) R
 
 -- the plan of the rest: the new steps N, and what is left of the kept steps K
 abbrev pub restOfPlan : Job → ℕ → List Step → List Step → List Step
-restOfPlan J M N K =
-    map (λ x. restStep M (x .number) (x .action) x) N ++ restSteps M (length (J .actions)) (running M K)
+restOfPlan J M N K = newSteps M N ++ restSteps M (length (J .actions)) (running M K)
