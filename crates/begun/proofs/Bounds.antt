@@ -1,7 +1,7 @@
 -- The earliest times of the rest bound what holds in the begun day.
 -- Assumes nothing.
 use Prim.Native.Nat.{ℕ, _+_, _-_, _<_, _≤_}
-use mathlib.Core.Path.{_≡_, sym}
+use mathlib.Core.Path.{_≡_}
 use mathlib.Core.List.{List, _++_, append-assoc}
 use native.Mathlib.Omega.{arith}
 use Rattle.facts.specs.FactSet.{Subset}
@@ -19,16 +19,17 @@ use Rattle.begun.proofs.RestPlan.{rest-holds-the-same, rest-is-a-day}
 
 module _ (J : Job) (M T goal : ℕ) (K : List Step) (kept : EachStep (λ x. x .start < M) K) (inTime : M ≤ T)
     (times : Table) (solves : Solves (restOfJob J M K) times) (set m : ℕ) (later : M ≤ m) where
-  pub held-set-not-before-its-rest : (N : List Step) → EachStep (λ x. M ≤ x .start) N → PlanOf J T goal (N ++ K)
+  pub rest-times-bound : (N : List Step) → EachStep (λ x. M ≤ x .start) N → PlanOf J T goal (N ++ K)
       → Subset set (held (J .start) (N ++ K) m) → By (timeOf (restOfJob J M K) times set) (m - M)
-  held-set-not-before-its-rest N new plan inside =
+  rest-times-bound N new plan inside =
       let same : M + (m - M) ≡ m = omega arith in
       held-set-not-before-its-time (restOfJob J M K) times solves (T - M) goal (restOfPlan J M N K)
       (rest-is-a-day J M T goal N K plan new kept inTime) set (m - M)
       (λ f h. rw (rest-holds-the-same J M T goal N K plan new kept (m - M), same) (inside f h))
 
-  -- in a normal plan of the steps E still to be chosen and the chosen steps C
-  pub rest-times-bound : (E C : List Step) → EachStep (λ x. M ≤ x .start) (E ++ C) → NormalPlan J M goal T (E ++ (C ++ K))
-      → Subset set (held (J .start) (E ++ (C ++ K)) m) → By (timeOf (restOfJob J M K) times set) (m - M)
-  rest-times-bound E C new normal inside =
-      held-set-not-before-its-rest (E ++ C) new (rw append-assoc (normal .plan)) (rw append-assoc inside)
+  -- a normal plan of the chosen steps C, the kept ones, and the steps E still to be chosen
+  pub rest-times-bound-normal : (E C : List Step) → EachStep (λ x. M ≤ x .start) (E ++ C)
+      → NormalPlan J M goal T (E ++ (C ++ K)) → Subset set (held (J .start) (E ++ (C ++ K)) m)
+      → By (timeOf (restOfJob J M K) times set) (m - M)
+  rest-times-bound-normal E C new normal inside =
+      rest-times-bound (E ++ C) new (rw append-assoc (normal .plan)) (rw append-assoc inside)

@@ -62,7 +62,8 @@ module _ (J : Job) (M T goal : ℕ) (N K : List Step) (plan : PlanOf J T goal (N
             let runs = k .runs in
             let lasts = plan .keeps .lasting x Q i in
             rw (rest-holds-the-same (x .start - M))
-            (keeps-needs-hold J T goal (N ++ K) (plan .keeps) x Q i (M + (x .start - M)) (omega arith) (omega arith) f h));
+            (keeps-needs-hold J T goal (N ++ K) (plan .keeps) x Q i (M + (x .start - M)) (omega arith) (omega arith) f
+            h));
         goalHolds = λ f h.
             let end : M + (T - M) ≡ T = omega arith in
             rw (rest-holds-the-same (T - M), end) (plan .keeps .goalHolds f h);

@@ -1,5 +1,5 @@
--- The rest of a begun day as a day of its own, which begins at minute M of the begun one. Kept steps start before M, new
--- steps at M or later.
+-- The rest of a begun day as a day of its own, which begins at minute M. Kept steps start before M, new ones at M or
+-- later.
 -- Assumes nothing.
 use Prim.Native.Nat.{ℕ, suc, _-_}
 use mathlib.Core.Bool.{cond}
