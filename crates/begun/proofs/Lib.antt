@@ -1,3 +1,4 @@
+pub mod Running
 pub mod Rests
 pub mod WhatIsLeft
 pub mod HeldInRest

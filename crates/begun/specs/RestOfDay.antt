@@ -6,8 +6,9 @@ use mathlib.Core.Bool.{cond}
 use mathlib.Core.List.{List, [], _∷_, _++_, map}
 use lib.Dec.{ltb}
 use lib.ListN.{length}
+use Rattle.facts.specs.FactSet.{union}
 use Rattle.job.specs.Job.{Action, Job}
-use Rattle.timeline.specs.Step.{Step}
+use Rattle.timeline.specs.Step.{Step, unionOf}
 use Rattle.timeline.specs.Timeline.{held}
 
 -- the kept steps that still run in minute M
@@ -66,3 +67,7 @@ restSteps M n (x ∷ R) = restStep M n (restAction M x .duration) x ∷ restStep
 -- the plan of the rest: the new steps N, and what is left of the kept steps K
 abbrev pub restOfPlan : Job → ℕ → List Step → List Step → List Step
 restOfPlan J M N K = newSteps M N ++ restSteps M (length (J .actions)) (running M K)
+
+-- what the kept steps K give: all that holds at M, and all that those still running add
+abbrev pub atHand : Job → ℕ → List Step → ℕ
+atHand J M K = union (held (J .start) K M) (unionOf (λ x. x .action .adds) (running M K))
