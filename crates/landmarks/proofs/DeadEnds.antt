@@ -3,20 +3,26 @@
 -- Assumes nothing.
 use Prim.Native.Nat.{ℕ, _+_, _*_, _-_, _<_, _≤_}
 use mathlib.Core.Path.{_≡_, ap}
-use mathlib.Core.List.{List, _++_}
-use native.Mathlib.Nat.{mul-add, mul-le-mul-left}
+use mathlib.Core.Logic.{⊎-elim}
+use mathlib.Core.List.{List, _++_, append-assoc}
+use native.Mathlib.Nat.{le-refl, mul-add, mul-le-mul-left}
 use native.Mathlib.Omega.{arith}
 use lib.ListN.{length, getD}
 use Rattle.facts.specs.FactSet.{has, Subset}
+use Rattle.facts.proofs.SetLaws.{in-union-left, in-union-right}
 use Rattle.job.specs.Job.{Action, Job}
-use Rattle.timeline.specs.Step.{Step, total}
+use Rattle.timeline.specs.Step.{Step, total, unionOf}
 use Rattle.timeline.specs.Timeline.{held, storeUse, storeCap, usedUp}
-use Rattle.timeline.proofs.Places.{EachStep, place-append, total-append, total-mono}
+use Rattle.timeline.proofs.Places.{EachStep, append-cases, place-append, total-append, total-mono}
 use Rattle.times.specs.Earliest.{actionOf}
 use Rattle.times.proofs.PlanSteps.{own-action, own-stop}
 use Rattle.regression.specs.Tests.{mustHold}
 use Rattle.regression.specs.DeadEnd.{NormalPlan, Until, Dead}
+use Rattle.regression.proofs.Gathered.{in-unionOf}
 use Rattle.regression.proofs.TailTests.{must-hold-holds}
+use Rattle.begun.specs.RestOfDay.{running, atHand}
+use Rattle.begun.proofs.Running.{member-of-running}
+use Rattle.begun.proofs.HeldInRest.{held-by-kept}
 use Rattle.landmarks.specs.Landmarks.{Landmarks, marksOf, sumOver, Shares, minutesBefore}
 use Rattle.landmarks.specs.Openings.{OpensAt}
 use Rattle.landmarks.proofs.AddedOnTheWay.{AtHand, landmarks-added}
@@ -27,6 +33,28 @@ use Rattle.landmarks.proofs.Sums.{shares-of-added, total-times, total-o
 pub at-hand-at-start : (J : Job) (t : ℕ) (E L : List Step) → EachStep (λ x. t < x .stop) L → AtHand J 0 t (J .start) E L
 at-hand-at-start J t E L later =
     record { begun = λ n h. h; given = λ x Q i after early. let l = later x Q i in absurd (omega arith) }
+
+-- a begun day: the chosen steps C stop after t, and what the kept steps K give is at hand
+pub at-hand-when-begun : (J : Job) (b t : ℕ) → b ≤ t → (E C K : List Step) → EachStep (Until b t) E
+    → EachStep (λ x. t < x .stop) C → AtHand J b t (atHand J b K) E (C ++ K)
+at-hand-when-begun J b t l E C K until later =
+    record {
+      begun = λ n h.
+          in-union-left (held (J .start) K b) (unionOf (λ x. x .action .adds) (running b K)) n
+          (rw (← append-assoc E C K, held-by-kept (J .start) b K (E ++ C) runs b (le-refl b)) at h);
+      given = λ x Q i after early n h.
+          ⊎-elim (λ r. let k = later x (r .0) (r .1) in absurd (omega arith))
+          (λ r.
+          in-union-right (held (J .start) K b) (unionOf (λ x. x .action .adds) (running b K)) n
+          (in-unionOf (λ x. x .action .adds) n (member-of-running b (r .1) after .1) h))
+          (append-cases C K i);
+    }
+  where
+    runs : EachStep (λ x. b < x .stop) (E ++ C)
+    runs x Q i =
+        ⊎-elim (λ r. let begins = until x (r .0) (r .1) in omega arith)
+        (λ r. let k = later x (r .0) (r .1) in omega arith)
+        (append-cases E C i)
 
 module _ (J : Job) (b goal T t : ℕ) (after : b ≤ t) (inTime : t ≤ T) (L : List Step) (atHand : ℕ)
     (base : (E : List Step) → EachStep (Until b t) E → AtHand J b t atHand E L) (n : ℕ)
