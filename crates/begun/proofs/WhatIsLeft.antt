@@ -15,7 +15,8 @@ use Rattle.timeline.proofs.Places.{Place, here, EachStep, each-rest, place-appe
 use Rattle.timeline.proofs.JobSteps.{OfJob}
 use Rattle.times.specs.Earliest.{actionOf}
 use Rattle.times.proofs.PlanSteps.{PlanOf, own-action, own-stop}
-use Rattle.begun.specs.RestOfDay.{running, restAction, restOfJob, newSteps, restSteps, restOfPlan}
+use Rattle.begun.specs.RestOfDay.{runsIn, running, restAction, restOfJob}
+use Rattle.begun.specs.RestOfDay.{restStep, newSteps, restSteps, restOfPlan}
 use Rattle.begun.proofs.Rests.{LeftAs, Rest, none, done, left}
 
 abbrev numbers : List Step → List ℕ
@@ -38,9 +39,9 @@ number-of-running J M K k =
     let place : n + k - n ≡ k = omega arith in
     rw (le-ltb (n + k) n (omega arith), place) refl
 
-own-step : (J : Job) (number : ℕ) (a : Action) (start stop : ℕ) → actionOf J number ≡ a → stop ≡ start + a .duration
-    → OfJob J (record { number = number; action = a; start = start; stop = stop })
-own-step J number a start stop e s = rw (s, ← e) refl
+own-step : (J : Job) (y : Step) → actionOf J (y .number) ≡ y .action → y .stop ≡ y .start + y .action .duration
+    → OfJob J y
+own-step J y e s = rw (e, ← s) refl
 
 -- ---- the kept steps
 -- the job J has what is left of the steps R as its actions from n on, and `was` their numbers
@@ -61,7 +62,7 @@ module _ {J : Job} {M : ℕ} {was : ℕ → ℕ} where
       }
 
   left-of-running : (n : ℕ) (x : Step) (R : List Step) → x .start < M → M < x .stop → Holds J M was n (x ∷ R)
-      → LeftAs J M was n (x .stop - M) x
+      → LeftAs J M was n (restAction M x .duration) x
   left-of-running n x R before runs h =
       let within = h .within in
       let first : n ≡ n + 0 = omega arith in
@@ -69,7 +70,7 @@ module _ {J : Job} {M : ℕ} {was : ℕ → ℕ} where
         runs = runs;
         number = ap was first ∙ h .numbers 0;
         known = omega arith;
-        own = own-step J n (restAction M x) (x .start - M) (x .stop - M) (ap (actionOf J) first ∙ h .actions 0)
+        own = own-step J (restStep M n (restAction M x .duration) x) (ap (actionOf J) first ∙ h .actions 0)
             (omega arith);
       }
 
@@ -77,16 +78,17 @@ module _ {J : Job} {M : ℕ} {was : ℕ → ℕ} where
       → Rest J M was K (restSteps M n (running M K))
   rest-of-kept [] before n h = none
   rest-of-kept (x ∷ K) before n h =
-      go (ltb M (x .stop)) refl (rest-of-kept K (each-rest (λ y. y .start < M) x K before)) h
+      go (runsIn M x) refl (rest-of-kept K (each-rest (λ y. y .start < M) x K before)) h
     where
-      go : (b : Bool) → ltb M (x .stop) ≡ b
+      go : (b : Bool) → runsIn M x ≡ b
           → ((n : ℕ) → Holds J M was n (running M K) → Rest J M was K (restSteps M n (running M K)))
           → Holds J M was n (cond b (x ∷ running M K) (running M K))
           → Rest J M was (x ∷ K) (restSteps M n (cond b (x ∷ running M K) (running M K)))
       go true e others h =
-          left n (x .stop - M) (left-of-running n x (running M K) (before x K here) (ltb-true M (x .stop) e) h)
+          let runs : M < x .stop = omega (arith, ltb-true) in
+          left n (restAction M x .duration) (left-of-running n x (running M K) (before x K here) runs h)
           (others (suc n) (holds-rest n x (running M K) h))
-      go false e others h = done (ltb-false M (x .stop) e) (others n h)
+      go false e others h = let stopped : x .stop ≤ M = omega (arith, ltb-false) in done stopped (others n h)
 
   -- ---- the new steps, each with its own number and action
   rest-with-new : {K R : List Step} → Rest J M was K R → (N : List Step)
@@ -122,7 +124,7 @@ module _ (J : Job) (M T goal : ℕ) (N K : List Step) (plan : PlanOf J T goal (N
         runs = omega arith;
         number = number-of-new J M K (x .number) known;
         known = omega arith;
-        own = own-step (restOfJob J M K) (x .number) (x .action) (x .start - M) (x .stop - M)
+        own = own-step (restOfJob J M K) (restStep M (x .number) (x .action .duration) x)
             (List·getD-append (J .actions) _ noAction (x .number) known ∙ sym own) (omega arith);
       }
 

@@ -2,7 +2,7 @@
 -- later.
 -- Assumes nothing.
 use Prim.Native.Nat.{ℕ, suc, _-_}
-use mathlib.Core.Bool.{cond}
+use mathlib.Core.Bool.{Bool, cond}
 use mathlib.Core.List.{List, [], _∷_, _++_, map}
 use lib.Dec.{ltb}
 use lib.ListN.{length}
@@ -11,10 +11,14 @@ use Rattle.job.specs.Job.{Action, Job}
 use Rattle.timeline.specs.Step.{Step, unionOf}
 use Rattle.timeline.specs.Timeline.{held}
 
--- the kept steps that still run in minute M
+-- the step still runs in minute M
+abbrev pub runsIn : ℕ → Step → Bool
+runsIn M x = ltb M (x .stop)
+
+-- the kept steps that do
 abbrev pub running : ℕ → List Step → List Step
 running M [] = []
-running M (x ∷ K) = cond (ltb M (x .stop)) (x ∷ running M K) (running M K)
+running M (x ∷ K) = cond (runsIn M x) (x ∷ running M K) (running M K)
 
 -- the action with another length
 abbrev pub withDuration : ℕ → Action → Action
