@@ -5,3 +5,4 @@ pub mod HeldInRest
 pub mod RulesInRest
 pub mod RestPlan
 pub mod Bounds
+pub mod Durations

@@ -1,11 +1,14 @@
--- A kept step that stops after minute M is a running one.
+-- The running steps: those kept steps that stop after minute M.
 -- Assumes nothing.
 use Prim.Native.Nat.{ℕ, _<_}
+use mathlib.Core.Path.{_≡_, refl}
 use mathlib.Core.Bool.{Bool, true, false, cond}
-use mathlib.Core.List.{List, _∷_}
-use borrow.Author.Tests.{lt-ltb}
+use mathlib.Core.List.{List, [], _∷_}
+use native.Mathlib.Omega.{arith}
+use borrow.Author.Tests.{ltb-true, lt-ltb}
+use Rattle.lists.specs.Lists.{Each}
 use Rattle.timeline.specs.Step.{Step}
-use Rattle.timeline.proofs.Places.{Place, here, there, Member}
+use Rattle.timeline.proofs.Places.{Place, here, there, Member, EachStep, each-rest}
 use Rattle.begun.specs.RestOfDay.{runsIn, running}
 
 pub member-of-running : (M : ℕ) {x : Step} {Q K : List Step} → Place x Q K → M < x .stop → Member x (running M K)
@@ -15,3 +18,13 @@ member-of-running M {x} (there {y} {P} i) l = go (runsIn M y) (member-of-running
     go : (b : Bool) → Member x (running M P) → Member x (cond b (y ∷ running M P) (running M P))
     go true m = (_, there (m .1))
     go false m = m
+
+pub each-of-running : (F : Step → Type 0) (M : ℕ) (K : List Step) → EachStep (λ x. M < x .stop → F x) K
+    → Each F (running M K)
+each-of-running F M [] h = tt
+each-of-running F M (x ∷ K) h =
+    go (runsIn M x) refl (each-of-running F M K (each-rest (λ y. M < y .stop → F y) x K h))
+  where
+    go : (b : Bool) → runsIn M x ≡ b → Each F (running M K) → Each F (cond b (x ∷ running M K) (running M K))
+    go true e others = (h x K here (omega (arith, ltb-true)), others)
+    go false e others = others

@@ -118,7 +118,7 @@ module _ (J : Job) (M T goal : ℕ) (N K : List Step) (plan : PlanOf J T goal (N
       let known = plan .known x _ inPlan in
       let own = own-action J T goal (N ++ K) plan inPlan in
       let stop = own-stop J T goal (N ++ K) plan inPlan in
-      let length = ap (λ (a : Action). a .duration) own in
+      let sized = ap (λ (a : Action). a .duration) own in
       let more = length-append (J .actions) (map (restAction M) (running M K)) in
       record {
         runs = omega arith;
