@@ -1,5 +1,5 @@
--- The actions of the rest last at least a minute, and no longer than those of the job: so there is one table of earliest
--- times for the rest, as there is for a whole day.
+-- The actions of the rest last at least a minute, and no longer than those of the job: so there is one table of
+-- earliest times for the rest, as there is for a whole day.
 -- Assumes nothing.
 use Prim.Native.Nat.{ℕ, _+_, _-_, _<_, _≤_}
 use mathlib.Core.Path.{_≡_, ap}

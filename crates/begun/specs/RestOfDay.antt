@@ -36,7 +36,8 @@ withDuration d a =
 abbrev pub restAction : ℕ → Step → Action
 restAction M x = withDuration (x .stop - M) (x .action)
 
--- the job of the rest: it starts with what holds at M, and has one more action for what is left of each running step
+-- the job of the rest: it starts with what holds at M, and has one more action for what is left of each running step;
+-- its stores are the whole day's
 abbrev pub restOfJob : Job → ℕ → List Step → Job
 restOfJob J M K =
     record {
