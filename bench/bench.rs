@@ -1,15 +1,16 @@
 //! Times the proved calls beside the plain ones, on the same inputs in one run, and compares their answers.
 mod days;
+mod landmarks;
 #[allow(dead_code)]
 mod plain;
+mod planner;
+mod rows;
 #[allow(dead_code)]
 #[path = "../tests/cases.rs"]
 mod cases;
 #[allow(dead_code)]
 #[path = "../examples/ruhkevois.rs"]
 mod ruhkevois;
-#[path = "../tests/simple_planner.rs"]
-mod simple_planner;
 use ruhkevois::Answer;
 use std::hint::black_box;
 use std::time::Instant;
@@ -116,8 +117,8 @@ fn small_job(r: &mut cases::Random) -> plain::Job {
     job
 }
 
-/// Compares and times the search on small jobs with plans of three steps or more, beside a planner that goes through every
-/// state. `bench/plan` times the search on days of full size.
+/// Compares and times the search on small jobs with plans of three steps or more. `bench/plan` times it on days of full
+/// size.
 fn search() {
     let mut r = cases::Random::new(1);
     let mut plan = [0; 96];
@@ -127,13 +128,13 @@ fn search() {
         let file = cases::file(&job);
         let answer = ruhkevois::plan(&file, &mut plan);
         if let Answer::Done { end, steps: 3.. } = answer {
-            assert_eq!(Some(end as u16), simple_planner::least_end(&job));
-            jobs.push((job, file));
+            assert_eq!(end.to_string(), planner::plan(&file).0);
+            jobs.push(file);
         }
     }
-    let proved = nanos(3, || jobs.iter().map(|(_, file)| ruhkevois::plan(file, &mut plan)).last());
-    let plain = nanos(3, || jobs.iter().map(|(job, _)| simple_planner::least_end(job)).last());
-    row("plan 50 small jobs (plain: by going through every state)", proved, plain);
+    let proved = nanos(20, || jobs.iter().map(|file| ruhkevois::plan(file, &mut plan)).last());
+    let plain = nanos(20, || jobs.iter().map(|file| planner::plan(file)).last());
+    row("plan 50 small jobs", proved, plain);
 }
 
 /// Times the earliest time of the goal for each job file in a folder.

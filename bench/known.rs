@@ -16,7 +16,7 @@ pub fn day(path: &Path) -> String {
     path.file_stem().unwrap_or_default().to_string_lossy().into_owned()
 }
 
-/// For each day the least end, and the nodes of the prototype with the first rules, where it solved the day.
+/// For each day the least end, and the nodes of a prototype with the same rules, where it solved the day.
 pub struct Known(HashMap<String, (String, Option<u64>)>);
 
 impl Known {
@@ -25,7 +25,7 @@ impl Known {
         let text = std::fs::read_to_string(Path::new(folder).join("../TABLE.tsv")).unwrap_or_default();
         let mut lines = text.lines().map(|line| line.split('\t').collect::<Vec<_>>());
         let head = lines.next().unwrap_or_default();
-        let nodes = head.iter().position(|&name| name == "base_nodes");
+        let nodes = head.iter().position(|&name| name == "strong_nodes");
         let entry = |row: Vec<&str>| {
             let count = nodes.and_then(|at| row.get(at)?.parse().ok());
             Some((row.first()?.to_string(), (row.get(1)?.to_string(), count)))

@@ -1,0 +1,360 @@
+//! A plain Rust version of the planner: the proved search's rules in the same order, so that it visits the same nodes,
+//! one for each call of `regress`.
+use crate::landmarks::{Landmarks, SCALE};
+use crate::plain::{self, members, Job, Times};
+use crate::rows::{self, exceeds, Row};
+use std::time::{Duration, Instant};
+
+const LIMIT: Duration = Duration::from_secs(10);
+const STEPS: usize = 32;
+
+/// The limit passed before the search ended.
+struct Late;
+
+#[derive(Clone, Copy, Default)]
+struct Step {
+    action: u8,
+    start: u16,
+}
+
+/// Sets of a minute: by their numbers the actions that run in the minute before and those that start now, and facts.
+#[derive(Clone, Copy, Default)]
+struct Minute {
+    running: u64,
+    held: u64, // what the steps that run in the minute before need
+    starting: u64,
+    needed: u64, // what the steps that start now need
+    across: u64, // what the steps that run now need
+    added: u64,  // what the steps that stop now add
+}
+
+/// What the chosen steps use: of each pool in the minute before and in the minute now, and of each store over all.
+#[derive(Clone, Copy, Default)]
+struct Uses {
+    before: [u64; 4],
+    now: [u64; 4],
+    spent: [u64; 4],
+}
+
+/// The chosen steps, the minute that the search stands at and the facts wanted then; the steps from `since` on stop at
+/// that minute, and what more than one of them adds is `twice`.
+#[derive(Clone, Copy, Default)]
+struct State {
+    count: usize,
+    steps: [Step; STEPS],
+    minute: u32,
+    wanted: u64,
+    at: Minute,
+    uses: Uses,
+    twice: u64,
+    since: usize,
+}
+
+impl State {
+    fn steps(&self) -> &[Step] {
+        &self.steps[..self.count]
+    }
+}
+
+/// The sums with the amounts added, where they count.
+fn plus(sums: &mut [u64; 4], amounts: &[u64; 4], counts: bool) {
+    if counts {
+        for k in 0..4 {
+            sums[k] += amounts[k];
+        }
+    }
+}
+
+/// The search for plans of a job: its tables, the horizon, the nodes so far and the instant at which it gives up.
+struct Search<'a> {
+    job: &'a Job,
+    rows: Vec<Row>,
+    landmarks: Landmarks,
+    times: Times,
+    horizon: u32,
+    nodes: u64,
+    until: Instant,
+}
+
+impl Search<'_> {
+    fn row(&self, step: &Step) -> &Row {
+        &self.rows[step.action as usize]
+    }
+
+    fn stop(&self, step: &Step) -> u32 {
+        step.start as u32 + self.row(step).duration
+    }
+
+    /// Adds a step to the sets and sums of the state's minute.
+    fn join(&self, st: &mut State, step: &Step) {
+        let row = self.row(step);
+        let (t, start, stop) = (st.minute, step.start as u32, self.stop(step));
+        let one = 1 << step.action;
+        let (at, uses) = (&mut st.at, &mut st.uses);
+        if start < t && t <= stop {
+            at.running |= one;
+            at.held |= row.needs;
+        }
+        if start == t {
+            at.starting |= one;
+            at.needed |= row.needs;
+        }
+        if start <= t && t < stop {
+            at.across |= row.needs;
+        }
+        if stop == t {
+            at.added |= row.adds;
+        }
+        plus(&mut uses.before, &row.pools, start < t && t <= stop);
+        plus(&mut uses.now, &row.pools, start <= t && t < stop);
+        plus(&mut uses.spent, &row.stores, true);
+    }
+
+    /// Whether the sets of an action allow it to stop now: it adds a wanted fact that no other step provides, deletes
+    /// none, and clashes with no step that runs in the minute before.
+    fn sets_allow(&self, st: &State, row: &Row) -> bool {
+        let provided = st.at.held | st.at.added | row.needs;
+        row.adds & st.wanted != 0
+            && row.clashes & st.at.running == 0
+            && row.adds & !provided & st.wanted != 0
+            && row.deletes & st.wanted == 0
+    }
+
+    /// Whether nothing keeps an action from stopping a minute later.
+    fn movable(&self, st: &State, row: &Row) -> bool {
+        st.minute < self.horizon
+            && row.adds & st.at.needed == 0
+            && row.clashes & st.at.starting == 0
+            && !exceeds(&self.job.pool, &st.uses.now, &row.pools)
+    }
+
+    /// Whether an action leaves the pools and stores enough.
+    fn affordable(&self, st: &State, row: &Row) -> bool {
+        !exceeds(&self.job.pool, &st.uses.before, &row.pools) && !exceeds(&self.job.store, &st.uses.spent, &row.stores)
+    }
+
+    /// Whether an action may stop at the state's minute.
+    fn may_stop(&self, st: &State, row: &Row) -> bool {
+        self.sets_allow(st, row)
+            && st.count < STEPS
+            && row.duration <= st.minute
+            && !self.movable(st, row)
+            && self.affordable(st, row)
+    }
+
+    /// Those of the undecided actions that may stop at the state's minute.
+    fn candidates(&self, st: &State, undecided: u64) -> u64 {
+        let actions = members(undecided).take_while(|&i| i < self.rows.len());
+        actions.filter(|&i| self.may_stop(st, &self.rows[i])).fold(0, |set, i| set | 1 << i)
+    }
+
+    /// The state with the step, which stops at its minute.
+    fn take(&self, st: &State, step: Step) -> State {
+        let mut next = *st;
+        next.twice |= st.at.added & self.row(&step).adds;
+        next.steps[st.count] = step;
+        next.count += 1;
+        self.join(&mut next, &step);
+        next
+    }
+
+    /// Whether each step that stops now adds a wanted fact that no other step provides.
+    fn all_needed(&self, st: &State) -> bool {
+        let provided = st.at.held | st.twice;
+        st.steps()[st.since..].iter().all(|step| self.row(step).adds & !provided & st.wanted != 0)
+    }
+
+    /// What the chosen steps need that run in minute t.
+    fn needs_at(&self, st: &State, t: u32) -> u64 {
+        let runs = |step: &&Step| step.start as u32 <= t && t < self.stop(step);
+        st.steps().iter().filter(runs).fold(0, |set, step| set | self.row(step).needs)
+    }
+
+    /// Whether what the steps need that run at a start from this minute on, before the state's, can be there by then.
+    fn all_reached(&self, st: &State, from: u32) -> bool {
+        let starts = st.steps().iter().map(|step| step.start as u32);
+        starts.filter(|&s| from <= s && s < st.minute).all(|s| self.times.by(self.needs_at(st, s), s))
+    }
+
+    /// The event minute before: the last start of a chosen step, or 0.
+    fn event(&self, st: &State) -> u32 {
+        let starts = st.steps().iter().map(|step| step.start as u32);
+        starts.filter(|&s| s < st.minute).max().unwrap_or(0)
+    }
+
+    /// Whether what is wanted, and added neither now nor by the actions left, and what the steps that run in the minute
+    /// before need, can hold at the event minute before.
+    fn in_time(&self, st: &State, left: u64) -> bool {
+        let starts = members(left).map(|i| st.minute - self.rows[i].duration);
+        let event = starts.fold(self.event(st), u32::max);
+        let added = members(left).fold(st.at.added, |set, i| set | self.rows[i].adds);
+        self.times.by(st.wanted & !added | st.at.held, event)
+    }
+
+    /// Whether a store has enough left for what is missing.
+    fn store_suffices(&self, st: &State, missing: u64, k: usize) -> bool {
+        let used = self.landmarks.of_store(k, missing) + SCALE * st.uses.spent[k];
+        used <= SCALE * self.job.store[k] as u64
+    }
+
+    /// What the chosen steps use of a pool before the state's minute, each minute for itself.
+    fn used_before(&self, st: &State, k: usize) -> u64 {
+        let minutes = |step: &Step| self.row(step).duration.min(st.minute.saturating_sub(step.start as u32));
+        st.steps().iter().map(|step| self.row(step).pools[k] * minutes(step) as u64).sum()
+    }
+
+    /// Whether a pool has minutes enough left for what is missing.
+    fn pool_suffices(&self, st: &State, missing: u64, k: usize) -> bool {
+        let used = self.landmarks.of_pool(k, missing) + SCALE * self.used_before(st, k);
+        used <= SCALE * self.job.pool[k] as u64 * self.landmarks.pool_minutes(k, st.minute)
+    }
+
+    /// Whether stores, pools and minutes suffice for what is missing: the landmarks of what must hold at the state's
+    /// minute.
+    fn suffices(&self, st: &State) -> bool {
+        let missing = self.landmarks.of(st.wanted | st.at.across);
+        (0..self.job.stores).all(|k| self.store_suffices(st, missing, k))
+            && (0..self.job.pools).all(|k| self.pool_suffices(st, missing, k))
+            && self.landmarks.minutes(missing) <= st.minute
+    }
+
+    /// The state at the event minute before.
+    fn back(&self, st: &State) -> State {
+        let minute = self.event(st);
+        let gone = |step: &&Step| minute < self.stop(step) && self.stop(step) <= st.minute;
+        let added = st.steps().iter().filter(gone).fold(0, |set, step| set | self.row(step).adds);
+        let mut before = State { count: st.count, steps: st.steps, minute, since: st.count, ..State::default() };
+        for step in st.steps() {
+            self.join(&mut before, step);
+        }
+        before.wanted = st.wanted & !added | before.at.needed;
+        before
+    }
+
+    /// The end of the plan that the chosen steps are, where the checker accepts it.
+    fn finish(&self, st: &State) -> Option<u32> {
+        let mut steps = st.steps().to_vec();
+        steps.sort_by_key(|step| (step.start, step.action));
+        let bytes = |step: &Step| [step.action, step.start as u8, (step.start >> 8) as u8];
+        let plan: Vec<u8> = steps.iter().flat_map(bytes).collect();
+        let end = plain::check(self.job, &plan).ok()? as u32;
+        (end <= self.horizon).then_some(end)
+    }
+
+    /// With action i stopping at the state's minute, and the actions left not decided.
+    fn attempt(&mut self, st: &State, i: usize, left: u64) -> Result<Option<u32>, Late> {
+        let start = st.minute - self.rows[i].duration;
+        let next = self.take(st, Step { action: i as u8, start: start as u16 });
+        if !self.all_needed(&next) || !self.all_reached(&next, start) {
+            return Ok(None);
+        }
+        self.choose(&next, left)
+    }
+
+    /// Decides for the undecided actions which stop at the state's minute, the last first; then goes back to the event
+    /// before.
+    fn choose(&mut self, st: &State, undecided: u64) -> Result<Option<u32>, Late> {
+        let mut left = self.candidates(st, undecided);
+        while self.in_time(st, left) {
+            if left == 0 {
+                let before = self.back(st);
+                return self.regress(&before);
+            }
+            let i = left.ilog2() as usize;
+            left ^= 1 << i;
+            let end = self.attempt(st, i, left)?;
+            if end.is_some() {
+                return Ok(end);
+            }
+        }
+        Ok(None)
+    }
+
+    /// Counts a node, and looks at the clock at some.
+    fn count(&mut self) -> Result<(), Late> {
+        self.nodes += 1;
+        if self.nodes % 1024 == 0 && self.until < Instant::now() {
+            return Err(Late);
+        }
+        Ok(())
+    }
+
+    /// The end of a plan from a state, whose minute is an event.
+    fn regress(&mut self, st: &State) -> Result<Option<u32>, Late> {
+        self.count()?;
+        if st.minute == 0 {
+            return Ok(self.finish(st));
+        }
+        if !self.suffices(st) {
+            return Ok(None);
+        }
+        self.choose(st, u64::MAX)
+    }
+
+    /// The end of a plan that ends by the horizon. With no minute left there are no steps, and no node.
+    fn solve(&mut self, horizon: u32) -> Result<Option<u32>, Late> {
+        self.horizon = horizon;
+        let st = State { minute: horizon, wanted: self.job.goal, ..State::default() };
+        if horizon == 0 {
+            return Ok(self.finish(&st));
+        }
+        self.regress(&st)
+    }
+
+    /// From this minute up to the deadline with doubling strides: the minute before which no plan ends, and the end of
+    /// the first that is found.
+    fn ascend(&mut self, low: u32) -> Result<(u32, Option<u32>), Late> {
+        let deadline = self.job.deadline as u32;
+        let (mut bound, mut horizon, mut stride) = (low, low, 1);
+        loop {
+            let end = self.solve(horizon)?;
+            if end.is_some() || horizon == deadline {
+                return Ok((bound, end));
+            }
+            bound = horizon + 1;
+            horizon = deadline.min(horizon + stride);
+            stride *= 2;
+        }
+    }
+
+    /// The least end, from an end and a lower bound: by halves.
+    fn descend(&mut self, mut low: u32, mut end: u32) -> Result<u32, Late> {
+        while low < end {
+            let middle = low + (end - low) / 2;
+            match self.solve(middle)? {
+                Some(earlier) => end = earlier,
+                None => low = middle + 1,
+            }
+        }
+        Ok(end)
+    }
+
+    /// The least end of a plan.
+    fn shortest(&mut self) -> Result<Option<u32>, Late> {
+        let low = self.times.of(self.job.goal);
+        if (self.job.deadline as u32) < low {
+            return Ok(None);
+        }
+        let (bound, end) = self.ascend(low)?;
+        end.map(|end| self.descend(bound, end)).transpose()
+    }
+}
+
+/// What came of a job file: its end as printed (22: no plan; -: not planned in ten seconds), and the nodes.
+pub fn plan(file: &[u8]) -> (String, u64) {
+    let until = Instant::now() + LIMIT;
+    let job = match plain::read(file) {
+        Ok(job) => job,
+        Err(number) => return (number.to_string(), 0),
+    };
+    let rows = rows::rows(&job);
+    let times = plain::times(&job);
+    let landmarks = Landmarks::new(&job, &rows, &times);
+    let mut search = Search { job: &job, rows, landmarks, times, horizon: 0, nodes: 0, until };
+    let end = match search.shortest() {
+        Ok(Some(end)) => end.to_string(),
+        Ok(None) => "22".to_string(),
+        Err(Late) => "-".to_string(),
+    };
+    (end, search.nodes)
+}
