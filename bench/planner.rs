@@ -241,6 +241,11 @@ impl Search<'_> {
         (end <= self.horizon).then_some(end)
     }
 
+    /// The longest of the actions, of equally long ones the last.
+    fn longest(&self, left: u64) -> usize {
+        members(left).max_by_key(|&i| self.rows[i].duration).expect("an action")
+    }
+
     /// With action i stopping at the state's minute, and the actions left not decided.
     fn attempt(&mut self, st: &State, i: usize, left: u64) -> Result<Option<u32>, Late> {
         let start = st.minute - self.rows[i].duration;
@@ -251,7 +256,7 @@ impl Search<'_> {
         self.choose(&next, left)
     }
 
-    /// Decides for the undecided actions which stop at the state's minute, the last first; then goes back to the event
+    /// Decides for the undecided actions which stop at the state's minute, the longest first; then goes back to the event
     /// before.
     fn choose(&mut self, st: &State, undecided: u64) -> Result<Option<u32>, Late> {
         let mut left = self.candidates(st, undecided);
@@ -260,7 +265,7 @@ impl Search<'_> {
                 let before = self.back(st);
                 return self.regress(&before);
             }
-            let i = left.ilog2() as usize;
+            let i = self.longest(left);
             left ^= 1 << i;
             let end = self.attempt(st, i, left)?;
             if end.is_some() {

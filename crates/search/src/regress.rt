@@ -67,7 +67,7 @@ fn choose(
             let before = moves::back(sets, numbers, frame, st);
             return regress(sets, numbers, times, file, frame, before);
         }
-        let i = rules::pick(left);
+        let i = rules::pick(numbers, left);
         left = facts::difference(left, facts::single(i));
         let answer = attempt(sets, numbers, times, file, frame, st, i, left);
         let found = answer.found;

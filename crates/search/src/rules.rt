@@ -1,6 +1,7 @@
 // Which actions may stop at the state's minute.
 ghost use mathlib.Core.Path.{_≡_};
 ghost use mathlib.Core.Bool.{true, false};
+ghost use mathlib.Core.Logic.{_⊎_};
 ghost use Prim.Native.Nat.{_+_, _≤_, _<_};
 ghost use lib.ListN.{length};
 ghost use Rattle.facts.specs.FactSet.{has};
@@ -115,16 +116,27 @@ pub fn candidates(sets: &[u64], numbers: &[u32], frame: Frame, st: State, undeci
     found
 }
 
-// The candidate to take first: the last one, for job files tend to list actions in the order of the day.
-pub fn pick(left: u64) -> u8
-    requires { ⌜ 0 < left ⌝ }
+// The one of two actions that lasts longer, the second where both last as long.
+fn longer(numbers: &[u32], i: u8, k: u8) -> u8
+    requires { ⌜ (length (now numbers) ≡ 1156) × (i < 64) × (k < 64) ⌝ }
+    ensures { λ r. ⌜ (r ≡ i) ⊎ (r ≡ k) ⌝ }
+{
+    if numbers[k as usize * 9] < numbers[i as usize * 9] {
+        return i;
+    }
+    k
+}
+
+// The candidate to take first: the longest, for it leaves the fewest ways to go on; of equally long ones the last.
+pub fn pick(numbers: &[u32], left: u64) -> u8
+    requires { ⌜ (length (now numbers) ≡ 1156) × (0 < left) ⌝ }
     ensures { λ r. ⌜ (r < 64) × (has left r ≡ true) ⌝ }
 {
-    let mut last = facts::next(left, 0);
-    let mut k = last;
+    let mut longest = facts::next(left, 0);
+    let mut k = longest;
     while k < 64 {
-        last = k;
+        longest = longer(numbers, longest, k);
         k = facts::next(left, k + 1);
     }
-    last
+    longest
 }

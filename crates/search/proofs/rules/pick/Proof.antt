@@ -3,6 +3,7 @@
 use Prim.Native.Nat.{ℕ, _-_, _≤_, _<_}
 use mathlib.Core.Path.{_≡_}
 use mathlib.Core.Bool.{true}
+use mathlib.Core.Logic.{⊎-elim}
 use Rattle.facts.specs.FactSet.{has}
 use Rattle.search.proofs.CandidateLaws.{first-member}
 use native.Mathlib.Omega.{arith}
@@ -10,10 +11,10 @@ use Rattle.search.proofs.rules.pick.Statement.{statement}
 use Rattle.search.proofs.rules.pick.Tie as tie
 
 abbrev Inv-loop : tie.InvT-loop
-Inv-loop left last₀ k₀ last k = (k ≤ 64) × (k < 64 → has left k ≡ true) × (last < 64) × (has left last ≡ true)
+Inv-loop numbers left longest₀ k₀ longest k = (k ≤ 64) × (k < 64 → has left k ≡ true) × (longest < 64) × (has left longest ≡ true)
 
 abbrev μ-loop : tie.MeasureT-loop
-μ-loop left last₀ k₀ last k = 64 - k
+μ-loop numbers left longest₀ k₀ longest k = 64 - k
 
 next-requires : tie.Need-next-requires Inv-loop μ-loop
 next-requires c κs = tt
@@ -21,8 +22,13 @@ next-requires c κs = tt
 loop-holds : tie.Need-loop-holds Inv-loop μ-loop
 loop-holds c =
     let next = c .next .ensures in
-    let member = first-member (c .before .args .left) _ (c .before .pre) (omega arith) next in
+    let member = first-member (c .before .before .args .left) _ (c .before .before .pre .1) (omega arith) next in
     (next .within, next .found, member, next .found member)
+
+longer-requires : tie.Need-longer-requires Inv-loop μ-loop
+longer-requires c κs =
+    let c-pre = c .before .before .before .before .pre in
+    (c-pre .0, c .before .loop .inv .2, c .loop-test .taken)
 
 add-next : tie.Need-add-next Inv-loop μ-loop
 add-next c = omega arith
@@ -35,9 +41,12 @@ loop-less c = let next = c .next2 .ensures .onward (omega arith) in omega arith
 
 loop-again : tie.Need-loop-again Inv-loop μ-loop
 loop-again c =
-    let c-loop-test = c .before .loop-test in
+    let c-loop = c .before .before .before .loop in
     let next = c .next2 .ensures in
-    (next .within, next .found, c-loop-test .taken, c .before .before .loop .inv .1 (c-loop-test .taken))
+    let inv = c-loop .inv in
+    let here = c .before .before .loop-test .taken in
+    ⊎-elim (λ same. (next .within, next .found, rw same (inv .2), rw same (inv .3)))
+    (λ same. (next .within, next .found, rw same here, rw same (inv .1 here))) (c .before .longer .ensures)
 
 returns : tie.Need-returns Inv-loop μ-loop
 returns c = (c .before .loop .inv .2, c .before .loop .inv .3)
@@ -50,6 +59,7 @@ pick-spec =
     μ-loop
     next-requires
     loop-holds
+    longer-requires
     add-next
     next-requires-2
     loop-less
