@@ -1,15 +1,15 @@
 // Chains: each action needs what another adds.
-use crate::jobs;
-use crate::jobs::action;
 use crate::show;
 use job::Action;
 use job::Job;
+use made_jobs::parts;
+use made_jobs::parts::action;
 
 // Lengths 1, 10 and 100 for facts 0, 1 and 2. Each action but the first needs the fact before its own, and deletes this
 // set.
 fn of_three(second: u64, third: u64) -> Job {
-    let job = jobs::with_action(jobs::empty(3, 0), action(1, 0, 0b001, 0));
-    jobs::with_two(
+    let job = parts::with_action(parts::empty(3, 0, 0, 0), action(1, 0, 0b001, 0));
+    parts::with_two(
         job,
         action(10, 0b001, 0b010, second),
         action(100, 0b010, 0b100, third),
@@ -70,10 +70,10 @@ fn link(chain: Chain, fact: u8) -> Action {
 }
 
 fn of(chain: Chain) -> Job {
-    let mut job = jobs::empty(64, 0);
+    let mut job = parts::empty(64, 0, 0, 0);
     let mut fact: u8 = 0;
     while fact < 64 {
-        job = jobs::with_action(job, link(chain, fact));
+        job = parts::with_action(job, link(chain, fact));
         fact += 1;
     }
     job

@@ -1,25 +1,25 @@
 // The choices by which one or two facts come about. Facts 0 and 1 are asked for.
-use crate::jobs;
-use crate::jobs::action;
 use crate::show;
 use job::Job;
+use made_jobs::parts;
+use made_jobs::parts::action;
 
 // Action 0 of length 5 adds both facts, actions 1 and 2 of these lengths one each.
 fn all_or_each(first: u8, second: u8) -> Job {
-    let job = jobs::with_action(jobs::empty(2, 0), action(5, 0, 0b11, 0));
-    jobs::with_two(job, action(first, 0, 0b01, 0), action(second, 0, 0b10, 0))
+    let job = parts::with_action(parts::empty(2, 0, 0, 0), action(5, 0, 0b11, 0));
+    parts::with_two(job, action(first, 0, 0b01, 0), action(second, 0, 0b10, 0))
 }
 
 // Action 0 of length 5 needs fact 2 and adds both facts. Action 1 of length 4 adds fact 2.
 fn all_after() -> Job {
     let both = action(5, 0b100, 0b011, 0);
-    jobs::with_two(jobs::empty(3, 0), both, action(4, 0, 0b100, 0))
+    parts::with_two(parts::empty(3, 0, 0, 0), both, action(4, 0, 0b100, 0))
 }
 
 // Fact 0 comes by an action of this length, or 3 minutes after fact 1, which takes 4.
 fn two_ways(length: u8) -> Job {
-    let job = jobs::with_action(jobs::empty(2, 0), action(length, 0, 0b01, 0));
-    jobs::with_two(job, action(3, 0b10, 0b01, 0), action(4, 0, 0b10, 0))
+    let job = parts::with_action(parts::empty(2, 0, 0, 0), action(length, 0, 0b01, 0));
+    parts::with_two(job, action(3, 0b10, 0b01, 0), action(4, 0, 0b10, 0))
 }
 
 pub fn adds_all() {
@@ -36,29 +36,37 @@ pub fn adds_all() {
 // Action 0 of length 3 adds fact 0 and deletes fact 2, which action 1 of length 4 needs to add fact 1.
 fn carried_1() -> Job {
     let first = action(3, 0, 0b001, 0b100);
-    jobs::with_two(jobs::empty(3, 0b100), first, action(4, 0b100, 0b010, 0))
+    parts::with_two(
+        parts::empty(3, 0, 0b100, 0),
+        first,
+        action(4, 0b100, 0b010, 0),
+    )
 }
 
 // The same with facts 0 and 1 exchanged.
 fn carried_0() -> Job {
     let first = action(3, 0, 0b010, 0b100);
-    jobs::with_two(jobs::empty(3, 0b100), first, action(4, 0b100, 0b001, 0))
+    parts::with_two(
+        parts::empty(3, 0, 0b100, 0),
+        first,
+        action(4, 0b100, 0b001, 0),
+    )
 }
 
 // Each of three actions uses all of a pool: action 0 of length 2 needs fact 2 and adds fact 0, actions 1 and 2 of
 // length 1 add facts 1 and 2.
 fn carried_with_needs() -> Job {
-    let mut job = jobs::with_pool(jobs::empty(3, 0), 1);
-    job = jobs::with_action(job, jobs::using(action(2, 0b100, 0b001, 0), 1));
-    let first = jobs::using(action(1, 0, 0b010, 0), 1);
-    let second = jobs::using(action(1, 0, 0b100, 0), 1);
-    jobs::with_two(job, first, second)
+    let mut job = parts::with_pool(parts::empty(3, 0, 0, 0), 1);
+    job = parts::with_action(job, parts::using(action(2, 0b100, 0b001, 0), 1, 0));
+    let first = parts::using(action(1, 0, 0b010, 0), 1, 0);
+    let second = parts::using(action(1, 0, 0b100, 0), 1, 0);
+    parts::with_two(job, first, second)
 }
 
 pub fn carries() {
     show::heading(b"(ii) One action adds one fact and doesn't delete the other.");
-    let adds_0 = jobs::with_action(jobs::empty(2, 0b10), action(3, 0, 0b01, 0));
-    let adds_1 = jobs::with_action(jobs::empty(2, 0b01), action(3, 0, 0b10, 0));
+    let adds_0 = parts::with_action(parts::empty(2, 0, 0b10, 0), action(3, 0, 0b01, 0));
+    let adds_1 = parts::with_action(parts::empty(2, 0, 0b01, 0), action(3, 0, 0b10, 0));
     show::at(b"3, fact 1 at the start", adds_0, 0b11, 3);
     show::at(b"3, fact 0 at the start", adds_1, 0b11, 3);
     show::at(b"3 after 4, fact 1 carried", carried_1(), 0b011, 7);
@@ -69,8 +77,8 @@ pub fn carries() {
 
 // Actions 0 and 1 of these lengths add facts 0 and 1 and need nothing.
 fn each(first: u8, second: u8) -> Job {
-    jobs::with_two(
-        jobs::empty(2, 0),
+    parts::with_two(
+        parts::empty(2, 0, 0, 0),
         action(first, 0, 0b01, 0),
         action(second, 0, 0b10, 0),
     )
@@ -88,11 +96,11 @@ pub fn both() {
 // Actions 0 and 1 of these lengths need facts 2 and 3, add facts 0 and 1, and use half of a pool each. Actions 2 and 3
 // add facts 2 and 3 and use all of it.
 fn each_after(first: u8, second: u8, fact_2: u8, fact_3: u8) -> Job {
-    let mut job = jobs::with_pool(jobs::empty(4, 0), 2);
-    job = jobs::with_action(job, jobs::using(action(first, 0b0100, 0b0001, 0), 1));
-    job = jobs::with_action(job, jobs::using(action(second, 0b1000, 0b0010, 0), 1));
-    job = jobs::with_action(job, jobs::using(action(fact_2, 0, 0b0100, 0), 2));
-    jobs::with_action(job, jobs::using(action(fact_3, 0, 0b1000, 0), 2))
+    let mut job = parts::with_pool(parts::empty(4, 0, 0, 0), 2);
+    job = parts::with_action(job, parts::using(action(first, 0b0100, 0b0001, 0), 1, 0));
+    job = parts::with_action(job, parts::using(action(second, 0b1000, 0b0010, 0), 1, 0));
+    job = parts::with_action(job, parts::using(action(fact_2, 0, 0b0100, 0), 2, 0));
+    parts::with_action(job, parts::using(action(fact_3, 0, 0b1000, 0), 2, 0))
 }
 
 pub fn both_with_needs() {

@@ -1,20 +1,20 @@
 // Deleted facts: pairs that they break apart, and choices that clash.
-use crate::jobs;
-use crate::jobs::action;
 use crate::show;
 use job::Job;
+use made_jobs::parts;
+use made_jobs::parts::action;
 
 // Actions of lengths 3 and 4 add facts 0 and 1, and delete these sets.
 fn deleting(first: u64, second: u64) -> Job {
     let adds_0 = action(3, 0, 0b01, first);
-    jobs::with_two(jobs::empty(2, 0), adds_0, action(4, 0, 0b10, second))
+    parts::with_two(parts::empty(2, 0, 0, 0), adds_0, action(4, 0, 0b10, second))
 }
 
 // Two actions need and delete fact 2, which holds at the start, and add facts 0 and 1.
 fn one_token() -> Job {
     let first = action(3, 0b100, 0b001, 0b100);
     let second = action(4, 0b100, 0b010, 0b100);
-    jobs::with_two(jobs::empty(3, 0b100), first, second)
+    parts::with_two(parts::empty(3, 0, 0b100, 0), first, second)
 }
 
 pub fn apart() {
@@ -31,13 +31,13 @@ pub fn apart() {
 
 // Fact 1 holds at the start, and the action that adds fact 0 deletes it.
 fn start_deleted() -> Job {
-    jobs::with_action(jobs::empty(2, 0b10), action(3, 0, 0b01, 0b10))
+    parts::with_action(parts::empty(2, 0, 0b10, 0), action(3, 0, 0b01, 0b10))
 }
 
 // Facts 0 and 1 need each other.
 fn circle() -> Job {
     let first = action(1, 0b10, 0b01, 0);
-    jobs::with_two(jobs::empty(2, 0), first, action(1, 0b01, 0b10, 0))
+    parts::with_two(parts::empty(2, 0, 0, 0), first, action(1, 0b01, 0b10, 0))
 }
 
 pub fn clashes() {

@@ -7,8 +7,7 @@ mod deletes;
 mod pools;
 mod refusals;
 mod sets;
-mod jobs; // what they are made with
-mod show;
+mod show; // the lines of the output
 
 fn main() {
     days::shown();

@@ -1,15 +1,15 @@
 // "Chosen actions that together exceed a pool are no choice."
-use crate::days;
-use crate::jobs;
-use crate::jobs::action;
 use crate::show;
 use job::Job;
+use made_jobs::days;
+use made_jobs::parts;
+use made_jobs::parts::action;
 
 // An action of length 1 with this use of a pool of 2, and one of length 9 with none, add fact 0.
 fn fast_or_slow(pool: u32) -> Job {
-    let fast = jobs::using(action(1, 0, 0b01, 0), pool);
-    jobs::with_two(
-        jobs::with_pool(jobs::empty(1, 0), 2),
+    let fast = parts::using(action(1, 0, 0b01, 0), pool, 0);
+    parts::with_two(
+        parts::with_pool(parts::empty(1, 0, 0, 0), 2),
         fast,
         action(9, 0, 0b01, 0),
     )
@@ -19,9 +19,9 @@ fn fast_or_slow(pool: u32) -> Job {
 fn last_pool(amount: u32) -> Job {
     let mut adds = action(1, 0, 0b01, 0);
     adds.pools[3] = amount;
-    let mut job = jobs::with_action(jobs::empty(1, 0), adds);
+    let mut job = parts::with_action(parts::empty(1, 0, 0, 0), adds);
     job.pools = [5, 5, 5, 5];
-    jobs::with_counts(job, 4, 0, 1)
+    parts::with_counts(job, 4, 0, 1)
 }
 
 pub fn alone() {
@@ -32,18 +32,22 @@ pub fn alone() {
     show::unreachable(b"6 of 5 of the last", last_pool(6), 0b1);
     show::at(
         b"6 of 5 beyond the counts",
-        jobs::with_counts(last_pool(6), 3, 0, 1),
+        parts::with_counts(last_pool(6), 3, 0, 1),
         0b1,
         1,
     );
-    show::unreachable(b"case 4, pool of 0", days::case_4(0), 0b01);
+    show::unreachable(b"case 4, pool of 0", days::case_4(4, 0), 0b01);
 }
 
 // Two actions of length 2 add a fact each, with all of a pool of 1,000,000 and with so much of it.
 fn largest(amount: u32) -> Job {
-    let first = jobs::using(action(2, 0, 0b01, 0), 1_000_000);
-    let second = jobs::using(action(2, 0, 0b10, 0), amount);
-    jobs::with_two(jobs::with_pool(jobs::empty(2, 0), 1_000_000), first, second)
+    let first = parts::using(action(2, 0, 0b01, 0), 1_000_000, 0);
+    let second = parts::using(action(2, 0, 0b10, 0), amount, 0);
+    parts::with_two(
+        parts::with_pool(parts::empty(2, 0, 0, 0), 1_000_000),
+        first,
+        second,
+    )
 }
 
 // Two actions of length 2 add a fact each, with 3 and so much of the last of four pools of 5.
@@ -52,16 +56,16 @@ fn last_pool_together(amount: u32) -> Job {
     let mut second = action(2, 0, 0b10, 0);
     first.pools[3] = 3;
     second.pools[3] = amount;
-    let mut job = jobs::with_two(jobs::empty(2, 0), first, second);
+    let mut job = parts::with_two(parts::empty(2, 0, 0, 0), first, second);
     job.pools = [5, 5, 5, 5];
-    jobs::with_counts(job, 4, 0, 2)
+    parts::with_counts(job, 4, 0, 2)
 }
 
 pub fn together() {
     show::heading(b"Chosen actions that together exceed a pool are no choice: two actions.");
-    show::at(b"1 and 1 of 1", days::case_4(1), 0b11, 4);
-    show::at(b"1 and 1 of 1, one fact", days::case_4(1), 0b10, 2);
-    show::at(b"1 and 1 of 2", days::case_4(2), 0b11, 2);
+    show::at(b"1 and 1 of 1", days::case_4(4, 1), 0b11, 4);
+    show::at(b"1 and 1 of 1, one fact", days::case_4(4, 1), 0b10, 2);
+    show::at(b"1 and 1 of 2", days::case_4(4, 2), 0b11, 2);
     show::at(b"3 and 2 of 5 of the last", last_pool_together(2), 0b11, 2);
     show::at(b"3 and 3 of 5 of the last", last_pool_together(3), 0b11, 4);
     show::at(b"1,000,000 and none", largest(0), 0b11, 2);

@@ -1,13 +1,13 @@
 // Refusals: of the job by 3 to 11, of the set by 24.
-use crate::jobs;
-use crate::jobs::action;
 use crate::show;
 use job::Action;
 use job::Job;
+use made_jobs::parts;
+use made_jobs::parts::action;
 
 // A job of 3 facts.
 fn base() -> Job {
-    jobs::with_action(jobs::empty(3, 0b001), action(2, 0b001, 0b010, 0))
+    parts::with_action(parts::empty(3, 0, 0b001, 0), action(2, 0b001, 0b010, 0))
 }
 
 fn with_deadline(deadline: u16) -> Job {
@@ -26,16 +26,26 @@ pub fn jobs() {
     show::heading(b"Every call that is handed a job value tests it first by 3 to 11.");
     let job = base();
     show::at(b"none", job, 0b010, 2);
-    show::refused(b"3, 5 pools", jobs::with_counts(job, 5, 0, 1), 0b010, 3);
-    show::refused(b"3, 5 stores", jobs::with_counts(job, 0, 5, 1), 0b010, 3);
-    show::refused(b"3, 65 actions", jobs::with_counts(job, 0, 0, 65), 0b010, 3);
-    show::refused(b"4, 65 facts", jobs::empty(65, 0), 0, 4);
+    show::refused(b"3, 5 pools", parts::with_counts(job, 5, 0, 1), 0b010, 3);
+    show::refused(b"3, 5 stores", parts::with_counts(job, 0, 5, 1), 0b010, 3);
+    show::refused(
+        b"3, 65 actions",
+        parts::with_counts(job, 0, 0, 65),
+        0b010,
+        3,
+    );
+    show::refused(b"4, 65 facts", parts::empty(65, 0, 0, 0), 0, 4);
     show::refused(b"5, deadline 1,441", with_deadline(1_441), 0b010, 5);
-    show::refused(b"6, start {3} of 3", jobs::empty(3, 0b1000), 0b010, 6);
+    show::refused(
+        b"6, start {3} of 3",
+        parts::empty(3, 0, 0b1000, 0),
+        0b010,
+        6,
+    );
     show::refused(b"6, goal {3} of 3", with_goal(0b1000), 0b010, 6);
     show::refused(
         b"7, pool of 1,000,001",
-        jobs::with_pool(job, 1_000_001),
+        parts::with_pool(job, 1_000_001),
         0b010,
         7,
     );
@@ -43,12 +53,12 @@ pub fn jobs() {
 
 // The base job with one action more.
 fn with_last(action: Action) -> Job {
-    jobs::with_pool(jobs::with_action(base(), action), 1)
+    parts::with_pool(parts::with_action(base(), action), 1)
 }
 
 // The job that is refused by 11.
 fn greedy() -> Job {
-    with_last(jobs::using(action(1, 0, 0, 0), 1_000_001))
+    with_last(parts::using(action(1, 0, 0, 0), 1_000_001, 0))
 }
 
 pub fn actions() {
@@ -74,8 +84,8 @@ pub fn asked() {
     show::refused(b"{3} of 3", job, 0b1000, 24);
     show::refused(b"{1, 63} of 3", job, (1 << 63) + 2, 24);
     show::refused(b"{0} of none", Job::zero(), 1, 24);
-    show::refused(b"{63} of 63", jobs::empty(63, 0), 1 << 63, 24);
-    show::refused(b"3 and 24", jobs::with_counts(job, 5, 0, 1), 0b1000, 3);
+    show::refused(b"{63} of 63", parts::empty(63, 0, 0, 0), 1 << 63, 24);
+    show::refused(b"3 and 24", parts::with_counts(job, 5, 0, 1), 0b1000, 3);
     show::refused(b"6 and 24", with_goal(0b1000), 0b1000, 6);
     show::refused(b"11 and 24", greedy(), 0b1000, 11);
 }

@@ -1,20 +1,20 @@
 // Sets of every size, and the last fact.
-use crate::jobs;
-use crate::jobs::action;
 use crate::show;
 use job::Action;
 use job::Job;
+use made_jobs::parts;
+use made_jobs::parts::action;
 
 fn share(fact: u64) -> Action {
-    jobs::using(action(2, 0, fact, 0), 1)
+    parts::using(action(2, 0, fact, 0), 1, 0)
 }
 
 // Facts 0 and 1 hold at the start. Three actions of length 2 add facts 2 to 4, each with all of a pool. No action adds
 // fact 5.
 fn one_by_one() -> Job {
-    let mut job = jobs::with_pool(jobs::empty(6, 0b00_0011), 1);
-    job = jobs::with_action(job, share(0b00_0100));
-    jobs::with_two(job, share(0b00_1000), share(0b01_0000))
+    let mut job = parts::with_pool(parts::empty(6, 0, 0b00_0011, 0), 1);
+    job = parts::with_action(job, share(0b00_0100));
+    parts::with_two(job, share(0b00_1000), share(0b01_0000))
 }
 
 pub fn sizes() {
@@ -33,8 +33,8 @@ pub fn sizes() {
 
 // All facts below 63 hold at the start. The action takes 7 minutes, needs fact 62 and adds fact 63.
 fn of_64() -> Job {
-    jobs::with_action(
-        jobs::empty(64, u64::MAX / 2),
+    parts::with_action(
+        parts::empty(64, 0, u64::MAX / 2, 0),
         action(7, 1 << 62, 1 << 63, 0),
     )
 }
@@ -46,14 +46,14 @@ pub fn last_fact() {
     show::at(b"all of 64", of_64(), u64::MAX, 7);
     show::at(
         b"all of 64, at the start",
-        jobs::empty(64, u64::MAX),
+        parts::empty(64, 0, u64::MAX, 0),
         u64::MAX,
         0,
     );
     show::unreachable(
         b"all of 64, none at the start",
-        jobs::empty(64, 0),
+        parts::empty(64, 0, 0, 0),
         u64::MAX,
     );
-    show::at(b"none of 64", jobs::empty(64, 0), 0, 0);
+    show::at(b"none of 64", parts::empty(64, 0, 0, 0), 0, 0);
 }

@@ -1,7 +1,7 @@
 // Hand-made jobs, and jobs with one thing changed.
 use job::Action;
-use job::Counts;
 use job::Job;
+use made_jobs::parts;
 
 // An action of a job with at most one pool and one store.
 pub fn action(duration: u8, needs: u64, adds: u64, deletes: u64, pool: u32, store: u32) -> Action {
@@ -15,32 +15,12 @@ pub fn action(duration: u8, needs: u64, adds: u64, deletes: u64, pool: u32, stor
     }
 }
 
-// Case 6 of document 01.
-pub fn case_six() -> Job {
-    let mut job = with_counts(Job::zero(), 0, 0, 2);
-    job = with_head(job, 2, 3, 1, 3);
-    job = with_action(job, 0, action(2, 1, 2, 1, 0, 0));
-    with_action(job, 1, action(1, 2, 1, 0, 0, 0))
-}
-
 // Two facts, a pool, a store and two actions. The amounts stand at their limits, so that one more is too much.
 pub fn base() -> Job {
-    let mut job = with_counts(Job::zero(), 1, 1, 2);
-    job = with_head(job, 2, 1_440, 1, 2);
-    job = with_pool(job, 0, 1_000_000);
-    job = with_store(job, 0, 1_000_000);
-    job = with_action(job, 0, action(255, 1, 2, 1, 1_000_000, 1_000_000));
-    with_action(job, 1, action(1, 2, 1, 0, 3, 7))
-}
-
-pub fn with_counts(mut job: Job, pools: usize, stores: usize, actions: usize) -> Job {
-    let counts = Counts {
-        pools,
-        stores,
-        actions,
-    };
-    job.counts = counts;
-    job
+    let first = action(255, 1, 2, 1, 1_000_000, 1_000_000);
+    let second = action(1, 2, 1, 0, 3, 7);
+    let pool = parts::with_pool(parts::empty(2, 1_440, 1, 2), 1_000_000);
+    parts::with_two(parts::with_store(pool, 1_000_000), first, second)
 }
 
 pub fn with_head(mut job: Job, facts: u8, deadline: u16, start: u64, goal: u64) -> Job {
@@ -117,8 +97,8 @@ fn idle_action(number: u32) -> Action {
 
 // 64 facts and so many pools, stores and actions; the actions are still all zero.
 fn filled_resources(pools: usize, stores: usize, actions: usize, beyond: u32) -> Job {
-    let mut job = with_counts(Job::zero(), pools, stores, actions);
-    job = with_head(job, 64, 1_439, 0x0123_4567_89AB_CDEF, 0xFEDC_BA98_7654_3210);
+    let none = parts::empty(64, 1_439, 0x0123_4567_89AB_CDEF, 0xFEDC_BA98_7654_3210);
+    let mut job = parts::with_counts(none, pools, stores, actions);
     let pool_amounts = amounts(pools, 65_000, beyond);
     let store_amounts = amounts(stores, 65_100, beyond);
     job.pools = pool_amounts;

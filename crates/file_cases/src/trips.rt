@@ -5,6 +5,7 @@ use crate::files::File;
 use crate::jobs;
 use crate::show;
 use job::Job;
+use made_jobs::days;
 
 // A job is written, read, and written again. What is read is `clean`: the same job, with zeros beyond its counts.
 fn trip(case: &[u8], job: Job, clean: Job) {
@@ -44,9 +45,9 @@ fn file(case: &[u8], file: File) {
 pub fn jobs_made() {
     show::heading(b"Written, read and written again");
     trip(b"case 1, the empty job", Job::zero(), Job::zero());
-    trip(b"case 6", jobs::case_six(), jobs::case_six());
+    trip(b"case 6", days::case_6(3), days::case_6(3));
     trip(b"base", jobs::base(), jobs::base());
-    trip(b"base against case 6", jobs::base(), jobs::case_six());
+    trip(b"base against case 6", jobs::base(), days::case_6(3));
     filled(b"largest job", 4, 4, 64);
     filled(b"4 pools, 64 actions", 4, 0, 64);
     filled(b"4 stores, 64 actions", 0, 4, 64);

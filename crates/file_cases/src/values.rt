@@ -2,12 +2,12 @@
 use crate::flaws;
 use crate::jobs;
 use crate::jobs::action;
-use crate::jobs::with_counts;
 use crate::jobs::with_pool;
 use crate::jobs::with_store;
 use crate::show;
 use crate::write;
 use job::Job;
+use made_jobs::parts::with_counts;
 
 // Fact 63.
 const LAST: u64 = 1 << 63;

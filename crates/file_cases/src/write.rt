@@ -7,6 +7,7 @@ use crate::show;
 use job::Action;
 use job::Job;
 use jobfile::Written;
+use made_jobs::parts;
 
 // The writer on the first bytes of a slice, so many.
 fn front_of(slice: &mut [u8], room: usize, job: Job) -> Written {
@@ -64,7 +65,7 @@ pub fn job(case: &[u8], job: Job) {
 pub fn counts(case: &[u8], pools: usize, stores: usize, actions: usize) {
     job(
         case,
-        jobs::with_counts(jobs::base(), pools, stores, actions),
+        parts::with_counts(jobs::base(), pools, stores, actions),
     );
 }
 

@@ -4,14 +4,16 @@ use crate::jobs;
 use crate::show;
 use job::Action;
 use job::Job;
+use made_jobs::days;
+use made_jobs::parts;
 
 // Three actions of length 3, each with 1 of a pool.
 fn sharing(pool: u32) -> Job {
-    let action = jobs::using(jobs::action(3, 0, 0, 0), 1, 0);
-    let mut job = jobs::with_pool(jobs::empty(0, 20, 0, 0), pool);
-    job = jobs::with_action(job, action);
-    job = jobs::with_action(job, action);
-    jobs::with_action(job, action)
+    let action = parts::using(parts::action(3, 0, 0, 0), 1, 0);
+    let mut job = parts::with_pool(parts::empty(0, 20, 0, 0), pool);
+    job = parts::with_action(job, action);
+    job = parts::with_action(job, action);
+    parts::with_action(job, action)
 }
 
 // Three of the steps of `peak` run at 7, and at most two at any other minute.
@@ -34,7 +36,7 @@ pub fn shares() {
 
 // An action of length 1 with these uses.
 fn user(pools: [u32; 4], stores: [u32; 4]) -> Action {
-    let mut action = jobs::action(1, 0, 0, 0);
+    let mut action = parts::action(1, 0, 0, 0);
     action.pools = pools;
     action.stores = stores;
     action
@@ -42,11 +44,11 @@ fn user(pools: [u32; 4], stores: [u32; 4]) -> Action {
 
 // Four pools of 5, 6, 7 and 8: actions 0 and 1 use all of each, action 2 so much.
 fn four_pools(uses: [u32; 4]) -> Job {
-    let mut job = jobs::with_pool(jobs::with_pool(jobs::empty(0, 10, 0, 0), 5), 6);
-    job = jobs::with_pool(jobs::with_pool(job, 7), 8);
-    job = jobs::with_action(job, user([1, 2, 3, 4], [0; 4]));
-    job = jobs::with_action(job, user([4; 4], [0; 4]));
-    jobs::with_action(job, user(uses, [0; 4]))
+    let mut job = parts::with_pool(parts::with_pool(parts::empty(0, 10, 0, 0), 5), 6);
+    job = parts::with_pool(parts::with_pool(job, 7), 8);
+    job = parts::with_action(job, user([1, 2, 3, 4], [0; 4]));
+    job = parts::with_action(job, user([4; 4], [0; 4]));
+    parts::with_action(job, user(uses, [0; 4]))
 }
 
 pub fn pools() {
@@ -54,7 +56,7 @@ pub fn pools() {
     let together = [0u8, 0, 0, 1, 0, 0, 2, 0, 0];
     let behind = [0u8, 0, 0, 1, 0, 0, 2, 1, 0];
     let last = [2u8, 0, 0];
-    let unused = jobs::with_pool(jobs::single(10, 1), 0);
+    let unused = parts::with_pool(days::single(10, 1), 0);
     show::ends(b"all of four pools", four_pools([0; 4]), &together, 1);
     show::refused(b"first, 6 of 5", four_pools([1, 0, 0, 0]), &together, 17);
     show::refused(b"last, 9 of 8", four_pools([0, 0, 0, 1]), &together, 17);
@@ -67,11 +69,11 @@ pub fn pools() {
 
 // Four stores of 5, 6, 7 and 8: actions 0 and 1 use all of each, action 2 so much.
 fn four_stores(uses: [u32; 4]) -> Job {
-    let mut job = jobs::with_store(jobs::with_store(jobs::empty(0, 10, 0, 0), 5), 6);
-    job = jobs::with_store(jobs::with_store(job, 7), 8);
-    job = jobs::with_action(job, user([0; 4], [1, 2, 3, 4]));
-    job = jobs::with_action(job, user([0; 4], [4; 4]));
-    jobs::with_action(job, user([0; 4], uses))
+    let mut job = parts::with_store(parts::with_store(parts::empty(0, 10, 0, 0), 5), 6);
+    job = parts::with_store(parts::with_store(job, 7), 8);
+    job = parts::with_action(job, user([0; 4], [1, 2, 3, 4]));
+    job = parts::with_action(job, user([0; 4], [4; 4]));
+    parts::with_action(job, user([0; 4], uses))
 }
 
 // No two steps of these plans share a minute.
@@ -81,7 +83,7 @@ pub fn stores() {
     let five = [2u8, 0, 0, 2, 1, 0, 2, 3, 0, 2, 5, 0, 2, 7, 0];
     let six = [2u8, 0, 0, 2, 1, 0, 2, 3, 0, 2, 5, 0, 2, 7, 0, 2, 9, 0];
     let last = [2u8, 0, 0];
-    let unused = jobs::with_store(jobs::single(10, 1), 0);
+    let unused = parts::with_store(days::single(10, 1), 0);
     show::ends(b"all of four stores", four_stores([0; 4]), &apart, 5);
     show::refused(b"first, 6 of 5", four_stores([1, 0, 0, 0]), &apart, 18);
     show::refused(b"last, 9 of 8", four_stores([0, 0, 0, 1]), &apart, 18);
@@ -90,14 +92,14 @@ pub fn stores() {
     show::ends(b"8 of 8 by one step", four_stores([0, 0, 0, 8]), &last, 1);
     show::refused(b"9 of 8 by one step", four_stores([0, 0, 0, 9]), &last, 18);
     show::ends(b"none of a store of 0", unused, &[0, 0, 0], 1);
-    show::refused(b"2 of a store of 0", jobs::case_7(0), &[0, 0, 0], 18);
+    show::refused(b"2 of a store of 0", days::case_7(0), &[0, 0, 0], 18);
 }
 
 // Two actions of length 2, each with all of a pool of 1,000,000.
 fn largest_pool() -> Job {
-    let action = jobs::using(jobs::action(2, 0, 0, 0), 1_000_000, 0);
-    let job = jobs::with_pool(jobs::empty(0, 10, 0, 0), 1_000_000);
-    jobs::with_action(jobs::with_action(job, action), action)
+    let action = parts::using(parts::action(2, 0, 0, 0), 1_000_000, 0);
+    let job = parts::with_pool(parts::empty(0, 10, 0, 0), 1_000_000);
+    parts::with_action(parts::with_action(job, action), action)
 }
 
 pub fn largest() {
@@ -124,11 +126,11 @@ fn base_with(availability: u32, amount: u32) -> Job {
 }
 
 fn two_pools(job: Job) -> Job {
-    jobs::with_counts(job, 2, 1, 4)
+    parts::with_counts(job, 2, 1, 4)
 }
 
 fn two_stores(job: Job) -> Job {
-    jobs::with_counts(job, 1, 2, 4)
+    parts::with_counts(job, 1, 2, 4)
 }
 
 // Behind what stands beyond the counts comes the same within them.
@@ -143,8 +145,8 @@ pub fn beyond() {
     show::ends(b"4,000,000,000 beyond", many, &day, 5);
     show::refused(b"4,000,000,000 in pool 1", two_pools(many), &day, 7);
     show::refused(b"4,000,000,000 in store 1", two_stores(many), &day, 7);
-    let five = jobs::with_action(jobs::base(), jobs::action(0, 8, 8, 8));
-    let four = jobs::with_counts(five, 1, 1, 4);
+    let five = parts::with_action(jobs::base(), parts::action(0, 8, 8, 8));
+    let four = parts::with_counts(five, 1, 1, 4);
     show::ends(b"length 0 beyond", four, &day, 5);
     show::refused(b"length 0 in action 4", five, &day, 8);
     show::refused(b"a step beyond", four, &[0, 0, 0, 1, 3, 0, 4, 5, 0], 13);

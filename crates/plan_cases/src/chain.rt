@@ -1,34 +1,15 @@
 // Case 11 of document 01: a chain of actions, and its plan.
 ghost use mathlib.Core.Path.{_≡_};
 ghost use lib.ListN.{length};
-use crate::jobs;
 use crate::show;
 use job::Job;
+use made_jobs::chain::with_links;
+use made_jobs::parts;
 
-// A chain of so many actions of length 1, at most 64. Each needs what the one before it adds, and uses as much of a
-// store of 1,000,000.
+// A chain of so many actions, at most 64. Each uses as much of a store of 1,000,000.
 pub fn of(actions: u8, store: u32) -> Job {
-    let mut job = jobs::with_store(jobs::empty(0, 40, 0, 0), 1_000_000);
-    let mut i: u8 = 0;
-    while i < actions {
-        job = with_link(job, store);
-        i += 1;
-    }
-    job
-}
-
-// The chain with one action and one fact more, which is the new goal.
-fn with_link(job: Job, store: u32) -> Job {
-    if job.facts >= Job::FACTS {
-        return job;
-    }
-    let facts = job.facts + 1;
-    let fact = 1 << job.facts;
-    let action = jobs::using(jobs::action(1, job.goal, fact, 0), 0, store);
-    let mut longer = jobs::with_action(job, action);
-    longer.facts = facts;
-    longer.goal = fact;
-    longer
+    let none = parts::with_store(parts::empty(0, 40, 0, 0), 1_000_000);
+    with_links(none, actions, store)
 }
 
 // The plan of a chain of 33: each action starts when the one before it ends.

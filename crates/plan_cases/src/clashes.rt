@@ -1,10 +1,11 @@
 // "Steps that share a minute mustn't clash."
 use crate::jobs;
 use crate::show;
+use made_jobs::days;
 
 pub fn itself() {
     show::heading(b"An action clashes with itself here, always.");
-    let job = jobs::single(1_440, 3);
+    let job = days::single(1_440, 3);
     show::ends(b"length 3, at 0 and 3", job, &[0, 0, 0, 0, 3, 0], 6);
     show::refused(b"length 3, at 0 and 2", job, &[0, 0, 0, 0, 2, 0], 16);
     show::refused(b"length 3, at 0 and 1", job, &[0, 0, 0, 0, 1, 0], 16);

@@ -2,6 +2,7 @@
 use crate::jobs;
 use crate::show;
 use job::Job;
+use made_jobs::parts;
 
 pub fn asked() {
     show::heading(b"Where a call names no goal set, the job's is meant: calls that name one.");
@@ -24,9 +25,9 @@ pub fn foreign() {
     show::heading(b"24: asked set has a bit at or above the number of facts.");
     let job = jobs::base();
     let day = [0u8, 0, 0, 1, 3, 0];
-    let wrong_goal = jobs::empty(3, 10, 0, 0b1000);
-    let greedy = jobs::using(jobs::action(1, 0, 0, 0), 1_000_001, 0);
-    let wrong_use = jobs::with_action(job, greedy);
+    let wrong_goal = parts::empty(3, 10, 0, 0b1000);
+    let greedy = parts::using(parts::action(1, 0, 0, 0), 1_000_001, 0);
+    let wrong_use = parts::with_action(job, greedy);
     show::refused_for(b"{3} of 3 facts", job, 0b1000, &day, 24);
     show::refused_for(b"{1, 2, 63} of 3 facts", job, (1 << 63) + 6, &day, 24);
     show::refused_for(b"every bit, of 3 facts", job, u64::MAX, &day, 24);
@@ -40,9 +41,9 @@ pub fn foreign() {
 
 pub fn last_fact() {
     let last = 1 << 63;
-    let of_63 = jobs::empty(63, 0, 0, 0);
-    let of_64 = jobs::empty(64, 0, 0, 0);
-    let starting = jobs::empty(64, 0, last, 0);
+    let of_63 = parts::empty(63, 0, 0, 0);
+    let of_64 = parts::empty(64, 0, 0, 0);
+    let starting = parts::empty(64, 0, last, 0);
     show::refused_for(b"{63} of 63 facts", of_63, last, &[], 24);
     show::refused_for(b"{63} of 64 facts", of_64, last, &[], 20);
     show::ends_for(b"{63} of 64 facts, at the start", starting, last, &[], 0);

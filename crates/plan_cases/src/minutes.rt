@@ -1,6 +1,8 @@
 // The end of a plan, and the facts that hold minute by minute.
 use crate::jobs;
 use crate::show;
+use made_jobs::days;
+use made_jobs::parts;
 
 pub fn deadline() {
     show::heading(
@@ -8,19 +10,19 @@ pub fn deadline() {
     );
     let job = jobs::base();
     let inner = [1u8, 0, 0, 2, 2, 0, 0, 3, 0];
-    show::ends(b"the last step ends first", jobs::case_2(7), &inner, 7);
+    show::ends(b"the last step ends first", days::case_2(7), &inner, 7);
     show::ends(b"end 10, deadline 10", job, &[0, 0, 0, 1, 8, 0], 10);
     show::refused(b"end 11, deadline 10", job, &[0, 0, 0, 1, 9, 0], 15);
     show::refused(b"end 11 by the first step", job, &[0, 8, 0, 1, 8, 0], 15);
-    show::ends(b"end 1, deadline 1", jobs::single(1, 1), &[0, 0, 0], 1);
-    show::refused(b"end 1, deadline 0", jobs::single(0, 1), &[0, 0, 0], 15);
+    show::ends(b"end 1, deadline 1", days::single(1, 1), &[0, 0, 0], 1);
+    show::refused(b"end 1, deadline 0", days::single(0, 1), &[0, 0, 0], 15);
 }
 
 // 65,281 and 255 are 65,536.
 pub fn late_starts() {
     show::heading(b"15: a step ends after the deadline.");
-    let long = jobs::single(1_440, 255);
-    let short = jobs::single(1_440, 1);
+    let long = days::single(1_440, 255);
+    let short = days::single(1_440, 1);
     show::ends(b"start 1,185, length 255", long, &[0, 161, 4], 1_440);
     show::refused(b"start 1,186, length 255", long, &[0, 162, 4], 15);
     show::refused(b"start 65,281, length 255", long, &[0, 1, 255], 15);
@@ -62,8 +64,8 @@ pub fn goal() {
     show::ends_for(b"{0}, added again", job, 0b001, &[2, 0, 0], 3);
     show::ends_for(b"{1}, added before", job, 0b010, &[1, 0, 0, 4, 2, 0], 5);
     show::ends_for(b"none, deleted twice", job, 0, &[0, 0, 0, 5, 2, 0], 5);
-    let action = jobs::action(1, 1 << 63, 1 << 62, 1 << 63);
-    let last = jobs::with_action(jobs::empty(64, 10, 1 << 63, 0), action);
+    let action = parts::action(1, 1 << 63, 1 << 62, 1 << 63);
+    let last = parts::with_action(parts::empty(64, 10, 1 << 63, 0), action);
     show::ends_for(b"{62} of 64, added", last, 1 << 62, &[0, 0, 0], 1);
     show::refused_for(b"{63} of 64, deleted", last, 1 << 63, &[0, 0, 0], 20);
 }

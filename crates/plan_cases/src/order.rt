@@ -1,9 +1,10 @@
 // "Of the refusals that hold, the one standing first in the table is returned, alone": several at once.
 use crate::jobs;
-use crate::jobs::action;
 use crate::show;
 use job::Action;
 use job::Job;
+use made_jobs::parts;
+use made_jobs::parts::action;
 
 // What stands later in the table stands earlier in the plan.
 pub fn neighbours() {
@@ -45,25 +46,29 @@ pub fn jobs() {
     show::heading(b"Every call that is handed a job value tests it first by 3 to 11: with 12.");
     let base = jobs::base();
     job_first(b"12 alone", base, 12);
-    job_first(b"3, 5 pools", jobs::with_counts(base, 5, 1, 4), 3);
-    job_first(b"3, 5 stores", jobs::with_counts(base, 1, 5, 4), 3);
-    job_first(b"3, 65 actions", jobs::with_counts(base, 1, 1, 65), 3);
-    job_first(b"4, 65 facts", jobs::empty(65, 10, 0, 0), 4);
-    job_first(b"5, deadline 1,441", jobs::empty(3, 1_441, 0, 0), 5);
-    job_first(b"6, {3} of 3 facts", jobs::empty(3, 10, 0, 0b1000), 6);
-    job_first(b"7, pool of 1,000,001", jobs::with_pool(base, 1_000_001), 7);
+    job_first(b"3, 5 pools", parts::with_counts(base, 5, 1, 4), 3);
+    job_first(b"3, 5 stores", parts::with_counts(base, 1, 5, 4), 3);
+    job_first(b"3, 65 actions", parts::with_counts(base, 1, 1, 65), 3);
+    job_first(b"4, 65 facts", parts::empty(65, 10, 0, 0), 4);
+    job_first(b"5, deadline 1,441", parts::empty(3, 1_441, 0, 0), 5);
+    job_first(b"6, {3} of 3 facts", parts::empty(3, 10, 0, 0b1000), 6);
+    job_first(
+        b"7, pool of 1,000,001",
+        parts::with_pool(base, 1_000_001),
+        7,
+    );
     actions();
 }
 
 // The base job with one action more, which no plan here has.
 fn with_last(action: Action) -> Job {
-    jobs::with_action(jobs::base(), action)
+    parts::with_action(jobs::base(), action)
 }
 
 fn actions() {
     let idle = with_last(action(0, 0, 0, 0));
     let both = action(1, 0, 0b010, 0b010);
-    let greedy = jobs::using(action(1, 0, 0, 0), 1_000_001, 0);
+    let greedy = parts::using(action(1, 0, 0, 0), 1_000_001, 0);
     job_first(b"8, length 0", idle, 8);
     job_first(b"9, {3} of 3 facts", with_last(action(1, 0, 0, 0b1000)), 9);
     job_first(b"10, {1} added and deleted", with_last(both), 10);

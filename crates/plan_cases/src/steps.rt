@@ -1,7 +1,8 @@
 // How many steps a plan has, how they stand in bytes, and their order.
 use crate::chain;
-use crate::jobs;
 use crate::show;
+use made_jobs::days;
+use made_jobs::parts;
 
 pub fn sizes() {
     show::heading(b"A plan is a list of 0 to 32 steps. 12: bytes not a multiple of 3 or over 96.");
@@ -19,7 +20,7 @@ pub fn sizes() {
 
 pub fn bytes() {
     show::heading(b"In bytes a step is the action (1 byte), then the start (2 bytes).");
-    let job = jobs::single(1_440, 10);
+    let job = days::single(1_440, 10);
     show::ends(b"start 1", job, &[0, 1, 0], 11);
     show::ends(b"start 255", job, &[0, 255, 0], 265);
     show::ends(b"start 256", job, &[0, 0, 1], 266);
@@ -33,14 +34,14 @@ pub fn actions() {
     show::ends(b"action 63 of 64", job, &[63, 0, 0], 1);
     show::refused(b"action 64 of 64", job, &[64, 0, 0], 13);
     show::refused(b"action 255 of 64", job, &[255, 0, 0], 13);
-    show::refused(b"action 1 of 1", jobs::single(10, 1), &[1, 0, 0], 13);
-    show::refused(b"action 0 of 0", jobs::empty(0, 10, 0, 0), &[0, 0, 0], 13);
+    show::refused(b"action 1 of 1", days::single(10, 1), &[1, 0, 0], 13);
+    show::refused(b"action 0 of 0", parts::empty(0, 10, 0, 0), &[0, 0, 0], 13);
 }
 
 pub fn rising() {
     show::heading(b"Steps stand in strictly rising order of start, then action.");
-    let job = jobs::case_2(7);
-    let short = jobs::single(1_440, 1);
+    let job = days::case_2(7);
+    let short = days::single(1_440, 1);
     show::ends(b"0 at 0, 1 at 0", job, &[0, 0, 0, 1, 0, 0, 2, 2, 0], 7);
     show::refused(b"1 at 0, 0 at 0", job, &[1, 0, 0, 0, 0, 0, 2, 2, 0], 14);
     show::refused(b"0 at 0, 0 at 0", job, &[0, 0, 0, 0, 0, 0], 14);

@@ -4,9 +4,7 @@ mod days; // the cases
 mod goals;
 mod limits;
 mod slices;
-mod chain; // what they are made with
-mod jobs;
-mod show;
+mod show; // the lines, and the lent slice
 mod slice;
 
 fn main() {

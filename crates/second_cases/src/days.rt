@@ -1,29 +1,30 @@
 // "Days to try it on": document 01's cases that are small enough.
-use crate::jobs;
 use crate::show;
 use job::Job;
+use made_jobs::days;
+use made_jobs::parts;
 
 pub fn starred() {
     show::heading(b"Days to try it on: cases 1 to 7, and 13.");
     show::ends(b"case 1", Job::zero(), 0);
-    show::ends(b"case 2, deadline 7", jobs::case_2(7), 7);
-    show::no_plan(b"case 3, deadline 6", jobs::case_2(6));
-    show::ends(b"case 4, deadline 4", jobs::case_4(4, 1), 4);
-    show::no_plan(b"case 4, deadline 3", jobs::case_4(3, 1));
-    show::ends(b"case 5, pool of 2", jobs::case_4(4, 2), 2);
-    show::ends(b"case 6, deadline 3", jobs::case_6(3), 3);
-    show::no_plan(b"case 6, deadline 2", jobs::case_6(2));
-    show::ends(b"case 7, store of 4", jobs::case_7(4), 2);
-    show::no_plan(b"case 7, store of 3", jobs::case_7(3));
-    show::no_plan(b"case 13, deadline 9", jobs::case_13(9));
+    show::ends(b"case 2, deadline 7", days::case_2(7), 7);
+    show::no_plan(b"case 3, deadline 6", days::case_2(6));
+    show::ends(b"case 4, deadline 4", days::case_4(4, 1), 4);
+    show::no_plan(b"case 4, deadline 3", days::case_4(3, 1));
+    show::ends(b"case 5, pool of 2", days::case_4(4, 2), 2);
+    show::ends(b"case 6, deadline 3", days::case_6(3), 3);
+    show::no_plan(b"case 6, deadline 2", days::case_6(2));
+    show::ends(b"case 7, store of 4", days::case_7(4), 2);
+    show::no_plan(b"case 7, store of 3", days::case_7(3));
+    show::no_plan(b"case 13, deadline 9", days::case_13(9));
 }
 
 // So many equal actions of length 1 with these needs. Fact 1, which is wanted, never holds.
 fn equal_actions(actions: usize, deadline: u16, needs: u64) -> Job {
-    let mut job = jobs::empty(2, deadline, 0b00, 0b10);
+    let mut job = parts::empty(2, deadline, 0b00, 0b10);
     let mut i = 0;
     while i < actions {
-        job = jobs::with_action(job, jobs::action(1, needs, 0b01, 0));
+        job = parts::with_action(job, parts::action(1, needs, 0b01, 0));
         i += 1;
     }
     job

@@ -1,8 +1,7 @@
 // The second planner on the small days of document 01 and on random small jobs: a line for each case, and totals.
 mod days; // the cases
 mod random;
-mod jobs; // what they are made with
-mod show;
+mod show; // the lines of the output
 
 fn main() {
     days::starred();

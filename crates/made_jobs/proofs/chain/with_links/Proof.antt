@@ -1,21 +1,15 @@
--- `chain::of` is safe and ends. The measure is the number of actions left; nothing else is kept from turn to turn.
+-- `chain::with_links` is safe and ends. The measure is the number of links left; nothing is kept from turn to turn.
 -- Assumes nothing.
 use Prim.Native.Nat.{_-_}
 use borrow.Author.Needs.{needs}
-use Rattle.plan_cases.proofs.chain.of.Statement.{statement}
-use Rattle.plan_cases.proofs.chain.of.Tie as tie
+use Rattle.made_jobs.proofs.chain.with_links.Statement.{statement}
+use Rattle.made_jobs.proofs.chain.with_links.Tie as tie
 
 abbrev Inv-loop : tie.InvT-loop
-Inv-loop actions store job₀ i₀ job i = Unit {0}
+Inv-loop job₀ actions store i₀ job i = Unit {0}
 
 abbrev μ-loop : tie.MeasureT-loop
-μ-loop actions store job₀ i₀ job i = actions - i
-
-empty-requires : tie.Need-empty-requires Inv-loop μ-loop
-empty-requires c κs = search needs
-
-with-store-requires : tie.Need-with-store-requires Inv-loop μ-loop
-with-store-requires c κs = search needs
+μ-loop job₀ actions store i₀ job i = actions - i
 
 loop-holds : tie.Need-loop-holds Inv-loop μ-loop
 loop-holds c = search needs
@@ -35,14 +29,12 @@ loop-again c = search needs
 returns : tie.Need-returns Inv-loop μ-loop
 returns c = search needs
 
-pub of-spec : {M : Type 1} → statement M
-of-spec =
+pub with-links-spec : {M : Type 1} → statement M
+with-links-spec =
     tie.close
     (tie.spec
     Inv-loop
     μ-loop
-    empty-requires
-    with-store-requires
     loop-holds
     with-link-requires
     add-i

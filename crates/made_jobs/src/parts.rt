@@ -1,13 +1,15 @@
-// Jobs made by hand. A set of facts is written with fact 0 as its last digit: 0b011 is {0, 1}.
+// A job built up part by part.
 use job::Action;
 use job::Counts;
 use job::Job;
 
 // A job without pools, stores and actions.
-pub fn empty(facts: u8, start: u64) -> Job {
+pub fn empty(facts: u8, deadline: u16, start: u64, goal: u64) -> Job {
     let mut job = Job::zero();
     job.facts = facts;
+    job.deadline = deadline;
     job.start = start;
+    job.goal = goal;
     job
 }
 
@@ -21,9 +23,10 @@ pub fn action(length: u8, needs: u64, adds: u64, deletes: u64) -> Action {
     action
 }
 
-// The action with a use of the first pool.
-pub fn using(mut action: Action, pool: u32) -> Action {
+// The action with a use of the first pool and one of the first store.
+pub fn using(mut action: Action, pool: u32, store: u32) -> Action {
     action.pools[0] = pool;
+    action.stores[0] = store;
     action
 }
 
@@ -51,6 +54,18 @@ pub fn with_pool(mut job: Job, availability: u32) -> Job {
     if at < Job::POOLS {
         job.pools[at] = availability;
         counts.pools = at + 1;
+        job.counts = counts;
+    }
+    job
+}
+
+// The job with one store more.
+pub fn with_store(mut job: Job, availability: u32) -> Job {
+    let mut counts = job.counts;
+    let at = counts.stores;
+    if at < Job::STORES {
+        job.stores[at] = availability;
+        counts.stores = at + 1;
         job.counts = counts;
     }
     job
