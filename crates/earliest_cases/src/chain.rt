@@ -17,7 +17,7 @@ fn of_three(second: u64, third: u64) -> Job {
 }
 
 pub fn short() {
-    show::heading(b"Its length plus the time of its needs: a chain of 1, 10 and 100 minutes.");
+    output::heading(b"Its length plus the time of its needs: a chain of 1, 10 and 100 minutes.");
     let kept = of_three(0, 0);
     let spent = of_three(0b001, 0b010);
     show::at(b"the second", kept, 0b010, 11);
@@ -80,7 +80,7 @@ fn of(chain: Chain) -> Job {
 }
 
 pub fn largest() {
-    show::heading(b"A chain of 64 actions of 255 minutes.");
+    output::heading(b"A chain of 64 actions of 255 minutes.");
     let rising = of(Chain::Rising);
     let falling = of(Chain::Falling);
     let spent = of(Chain::Spent);

@@ -23,7 +23,7 @@ fn two_ways(length: u8) -> Job {
 }
 
 pub fn adds_all() {
-    show::heading(b"(i) One action adds all of E: its length plus the time of its needs.");
+    output::heading(b"(i) One action adds all of E: its length plus the time of its needs.");
     show::at(b"5, each 1 and 7", all_or_each(1, 7), 0b11, 5);
     show::at(b"5, each 7 and 1", all_or_each(7, 1), 0b11, 5);
     show::at(b"5, each 1 and 3", all_or_each(1, 3), 0b11, 3);
@@ -64,7 +64,7 @@ fn carried_with_needs() -> Job {
 }
 
 pub fn carries() {
-    show::heading(b"(ii) One action adds one fact and doesn't delete the other.");
+    output::heading(b"(ii) One action adds one fact and doesn't delete the other.");
     let adds_0 = parts::with_action(parts::empty(2, 0, 0b10, 0), action(3, 0, 0b01, 0));
     let adds_1 = parts::with_action(parts::empty(2, 0, 0b01, 0), action(3, 0, 0b10, 0));
     show::at(b"3, fact 1 at the start", adds_0, 0b11, 3);
@@ -85,7 +85,7 @@ fn each(first: u8, second: u8) -> Job {
 }
 
 pub fn both() {
-    show::heading(b"(iii) Two different actions that don't clash add one fact each.");
+    output::heading(b"(iii) Two different actions that don't clash add one fact each.");
     show::at(b"5 and 2", each(5, 2), 0b11, 5);
     show::at(b"2 and 5", each(2, 5), 0b11, 5);
     show::at(b"3 and 3", each(3, 3), 0b11, 3);
@@ -104,7 +104,7 @@ fn each_after(first: u8, second: u8, fact_2: u8, fact_3: u8) -> Job {
 }
 
 pub fn both_with_needs() {
-    show::heading(
+    output::heading(
         b"s plus the larger of (time of the longer one's needs, plus l - s) and the time of both needs together.",
     );
     show::at(

@@ -5,7 +5,7 @@ use made_jobs::days;
 
 // Case 7 has a store of 3: the uses of stores don't bear on earliest times.
 pub fn shown() {
-    show::heading(b"Days to try it on: the earliest time of the goal.");
+    output::heading(b"Days to try it on: the earliest time of the goal.");
     show::at(b"case 1", Job::zero(), 0, 0);
     show::at(b"case 2", days::case_2(7), 0b11000, 7);
     show::at(b"case 4", days::case_4(4, 1), 0b11, 4);

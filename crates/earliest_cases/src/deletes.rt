@@ -18,7 +18,7 @@ fn one_token() -> Job {
 }
 
 pub fn apart() {
-    show::heading(b"No choice, or only endless ones: unreachable.");
+    output::heading(b"No choice, or only endless ones: unreachable.");
     let job = deleting(0b10, 0b01);
     show::at(b"each deletes the other's, fact 0", job, 0b01, 3);
     show::at(b"each deletes the other's, fact 1", job, 0b10, 4);
@@ -41,7 +41,7 @@ fn circle() -> Job {
 }
 
 pub fn clashes() {
-    show::heading(b"A fact being deleted can't carry over beside the action that deletes it.");
+    output::heading(b"A fact being deleted can't carry over beside the action that deletes it.");
     show::at(b"none deleted", deleting(0, 0), 0b11, 4);
     show::at(b"action 0 deletes fact 1", deleting(0b10, 0), 0b11, 7);
     show::at(b"action 1 deletes fact 0", deleting(0, 0b01), 0b11, 7);

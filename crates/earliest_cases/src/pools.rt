@@ -25,7 +25,7 @@ fn last_pool(amount: u32) -> Job {
 }
 
 pub fn alone() {
-    show::heading(b"Chosen actions that exceed a pool are no choice: one action.");
+    output::heading(b"Chosen actions that exceed a pool are no choice: one action.");
     show::at(b"2 of 2", fast_or_slow(2), 0b1, 1);
     show::at(b"3 of 2, slowly without", fast_or_slow(3), 0b1, 9);
     show::at(b"5 of 5 of the last", last_pool(5), 0b1, 1);
@@ -62,7 +62,7 @@ fn last_pool_together(amount: u32) -> Job {
 }
 
 pub fn together() {
-    show::heading(b"Chosen actions that together exceed a pool are no choice: two actions.");
+    output::heading(b"Chosen actions that together exceed a pool are no choice: two actions.");
     show::at(b"1 and 1 of 1", days::case_4(4, 1), 0b11, 4);
     show::at(b"1 and 1 of 1, one fact", days::case_4(4, 1), 0b10, 2);
     show::at(b"1 and 1 of 2", days::case_4(4, 2), 0b11, 2);

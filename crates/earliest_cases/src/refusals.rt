@@ -23,7 +23,7 @@ fn with_goal(goal: u64) -> Job {
 }
 
 pub fn jobs() {
-    show::heading(b"Every call that is handed a job value tests it first by 3 to 11.");
+    output::heading(b"Every call that is handed a job value tests it first by 3 to 11.");
     let job = base();
     show::at(b"none", job, 0b010, 2);
     show::refused(b"3, 5 pools", parts::with_counts(job, 5, 0, 1), 0b010, 3);
@@ -79,7 +79,7 @@ pub fn actions() {
 }
 
 pub fn asked() {
-    show::heading(b"24: asked set has a bit at or above the number of facts.");
+    output::heading(b"24: asked set has a bit at or above the number of facts.");
     let job = base();
     show::refused(b"{3} of 3", job, 0b1000, 24);
     show::refused(b"{1, 63} of 3", job, (1 << 63) + 2, 24);

@@ -18,7 +18,7 @@ fn one_by_one() -> Job {
 }
 
 pub fn sizes() {
-    show::heading(b"More than two facts: the largest over all its subsets of one or two.");
+    output::heading(b"More than two facts: the largest over all its subsets of one or two.");
     let job = one_by_one();
     show::at(b"none", job, 0, 0);
     show::at(b"the start set", job, 0b00_0011, 0);
@@ -40,7 +40,7 @@ fn of_64() -> Job {
 }
 
 pub fn last_fact() {
-    show::heading(b"A job has 0 to 64 facts, numbered from 0.");
+    output::heading(b"A job has 0 to 64 facts, numbered from 0.");
     show::at(b"{63} of 64", of_64(), 1 << 63, 7);
     show::at(b"{0, 63} of 64", of_64(), (1 << 63) + 1, 7);
     show::at(b"all of 64", of_64(), u64::MAX, 7);

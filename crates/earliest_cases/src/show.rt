@@ -2,7 +2,7 @@
 // line says so.
 use earliest::EarliestTime;
 use job::Job;
-use libc::STDOUT_FILENO;
+use output::text;
 
 // An answer: a time, unreachable, or the number of a refusal.
 struct Answer {
@@ -39,10 +39,6 @@ fn same(a: Answer, b: Answer) -> bool {
     (a.kind == b.kind) & (a.number == b.number)
 }
 
-fn text(bytes: &[u8]) {
-    io::write_all(STDOUT_FILENO, bytes);
-}
-
 fn print(answer: Answer) {
     if answer.kind == 1 {
         text(b"unreachable");
@@ -51,24 +47,17 @@ fn print(answer: Answer) {
     if answer.kind == 2 {
         text(b"refused ");
     }
-    io::print_decimal(STDOUT_FILENO, answer.number as u64);
+    output::number(answer.number as u64);
 }
 
 fn line(case: &[u8], job: Job, set: u64, expected: Answer) {
     let found = Answer::of(earliest::earliest(job, set));
-    text(b"  ");
-    text(case);
-    text(b": ");
+    output::name(case);
     print(found);
     if !same(found, expected) {
         text(b", expected ");
         print(expected);
     }
-    text(b"\n");
-}
-
-pub fn heading(sentence: &[u8]) {
-    text(sentence);
     text(b"\n");
 }
 

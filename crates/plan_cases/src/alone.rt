@@ -3,7 +3,7 @@ use crate::jobs;
 use crate::show;
 
 pub fn plans() {
-    show::heading(b"A plan is accepted exactly if none of 12 to 20 is true of it: one of them.");
+    output::heading(b"A plan is accepted exactly if none of 12 to 20 is true of it: one of them.");
     let job = jobs::base();
     show::ends(b"none", job, &[0, 0, 0, 1, 3, 0], 5);
     show::refused(b"12, 7 bytes", job, &[0, 0, 0, 1, 3, 0, 0], 12);

@@ -18,7 +18,7 @@ fn sharing(pool: u32) -> Job {
 
 // Three of the steps of `peak` run at 7, and at most two at any other minute.
 pub fn shares() {
-    show::heading(b"A share is free again in the minute its step ends.");
+    output::heading(b"A share is free again in the minute its step ends.");
     let one = sharing(1);
     let two = sharing(2);
     let three = sharing(3);
@@ -52,7 +52,7 @@ fn four_pools(uses: [u32; 4]) -> Job {
 }
 
 pub fn pools() {
-    show::heading(b"In each minute the uses add up to no more than each pool has.");
+    output::heading(b"In each minute the uses add up to no more than each pool has.");
     let together = [0u8, 0, 0, 1, 0, 0, 2, 0, 0];
     let behind = [0u8, 0, 0, 1, 0, 0, 2, 1, 0];
     let last = [2u8, 0, 0];
@@ -78,7 +78,7 @@ fn four_stores(uses: [u32; 4]) -> Job {
 
 // No two steps of these plans share a minute.
 pub fn stores() {
-    show::heading(b"Over the plan the uses add up to no more than each store has.");
+    output::heading(b"Over the plan the uses add up to no more than each store has.");
     let apart = [0u8, 0, 0, 1, 2, 0, 2, 4, 0];
     let five = [2u8, 0, 0, 2, 1, 0, 2, 3, 0, 2, 5, 0, 2, 7, 0];
     let six = [2u8, 0, 0, 2, 1, 0, 2, 3, 0, 2, 5, 0, 2, 7, 0, 2, 9, 0];
@@ -103,7 +103,7 @@ fn largest_pool() -> Job {
 }
 
 pub fn largest() {
-    show::heading(b"An availability of 0 to 1,000,000, and a use of 0 to 1,000,000.");
+    output::heading(b"An availability of 0 to 1,000,000, and a use of 0 to 1,000,000.");
     let job = largest_pool();
     show::ends(b"twice all of a pool, 0, 2", job, &[0, 0, 0, 1, 2, 0], 4);
     show::refused(b"twice all of a pool, 0, 1", job, &[0, 0, 0, 1, 1, 0], 17);
@@ -135,7 +135,7 @@ fn two_stores(job: Job) -> Job {
 
 // Behind what stands beyond the counts comes the same within them.
 pub fn beyond() {
-    show::heading(b"What is beyond its counts is ignored.");
+    output::heading(b"What is beyond its counts is ignored.");
     let day = [0u8, 0, 0, 1, 3, 0];
     let nine = base_with(0, 9);
     let many = base_with(4_000_000_000, 4_000_000_000);

@@ -4,7 +4,7 @@ use crate::show;
 use made_jobs::days;
 
 pub fn itself() {
-    show::heading(b"An action clashes with itself here, always.");
+    output::heading(b"An action clashes with itself here, always.");
     let job = days::single(1_440, 3);
     show::ends(b"length 3, at 0 and 3", job, &[0, 0, 0, 0, 3, 0], 6);
     show::refused(b"length 3, at 0 and 2", job, &[0, 0, 0, 0, 2, 0], 16);
@@ -14,7 +14,7 @@ pub fn itself() {
 
 // Action 0 takes 2 minutes, as action 1 does, and action 2 takes 3.
 pub fn different() {
-    show::heading(
+    output::heading(
         b"Two different actions clash if either deletes a fact that the other needs or adds.",
     );
     let job = jobs::effects();
@@ -33,7 +33,7 @@ pub fn different() {
 }
 
 pub fn none() {
-    show::heading(b"Steps that share a minute mustn't clash: others may share it.");
+    output::heading(b"Steps that share a minute mustn't clash: others may share it.");
     let job = jobs::effects();
     show::ends_for(b"{2} comes, {0} goes", job, 0b100, &[4, 0, 0, 0, 1, 0], 3);
     show::refused_for(b"the same, goal {0}", job, 0b001, &[4, 0, 0, 0, 1, 0], 20);

@@ -6,7 +6,7 @@ use made_jobs::days;
 use made_jobs::parts;
 
 pub fn starred() {
-    show::heading(b"Days to try it on: cases 8 to 10, and case 1.");
+    output::heading(b"Days to try it on: cases 8 to 10, and case 1.");
     let case_6 = days::case_6(3);
     let case_2 = days::case_2(7);
     let day = [1u8, 0, 0, 2, 2, 0, 0, 4, 0];
@@ -21,7 +21,7 @@ pub fn starred() {
 }
 
 pub fn resources() {
-    show::heading(b"Days to try it on: cases 4, 5 and 7.");
+    output::heading(b"Days to try it on: cases 4, 5 and 7.");
     let one_by_one = [0u8, 0, 0, 1, 2, 0];
     let together = [0u8, 0, 0, 1, 0, 0];
     show::ends(b"case 4, one by one", days::case_4(4, 1), &one_by_one, 4);
@@ -33,7 +33,7 @@ pub fn resources() {
 }
 
 pub fn limits() {
-    show::heading(b"Days to try it on: cases 11 to 13.");
+    output::heading(b"Days to try it on: cases 11 to 13.");
     let step = [0u8, 0, 0];
     chain::ends(b"case 11, chain of 32", chain::of(32, 0), 96, 32);
     chain::refused(b"case 11, chain of 33, 33 steps", chain::of(33, 0), 99, 12);

@@ -5,7 +5,7 @@ use job::Job;
 use made_jobs::parts;
 
 pub fn asked() {
-    show::heading(b"Where a call names no goal set, the job's is meant: calls that name one.");
+    output::heading(b"Where a call names no goal set, the job's is meant: calls that name one.");
     let job = jobs::base();
     let day = [0u8, 0, 0, 1, 3, 0];
     show::ends_for(b"{1, 2}, the job's", job, 0b110, &day, 5);
@@ -22,7 +22,7 @@ pub fn asked() {
 
 // 24 stands after the job's refusals and before 12.
 pub fn foreign() {
-    show::heading(b"24: asked set has a bit at or above the number of facts.");
+    output::heading(b"24: asked set has a bit at or above the number of facts.");
     let job = jobs::base();
     let day = [0u8, 0, 0, 1, 3, 0];
     let wrong_goal = parts::empty(3, 10, 0, 0b1000);

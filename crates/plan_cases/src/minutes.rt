@@ -5,7 +5,7 @@ use made_jobs::days;
 use made_jobs::parts;
 
 pub fn deadline() {
-    show::heading(
+    output::heading(
         b"The plan's end is the largest of these sums, and mustn't be after the deadline.",
     );
     let job = jobs::base();
@@ -20,7 +20,7 @@ pub fn deadline() {
 
 // 65,281 and 255 are 65,536.
 pub fn late_starts() {
-    show::heading(b"15: a step ends after the deadline.");
+    output::heading(b"15: a step ends after the deadline.");
     let long = days::single(1_440, 255);
     let short = days::single(1_440, 1);
     show::ends(b"start 1,185, length 255", long, &[0, 161, 4], 1_440);
@@ -32,7 +32,7 @@ pub fn late_starts() {
 
 // Action 0 adds at 3 what action 1 needs.
 pub fn needs() {
-    show::heading(b"A step's needed facts hold at its start.");
+    output::heading(b"A step's needed facts hold at its start.");
     let job = jobs::base();
     show::ends(b"added at 3, needed at 3", job, &[0, 0, 0, 1, 3, 0], 5);
     show::refused(b"added at 3, needed at 2", job, &[0, 0, 0, 1, 2, 0], 19);
@@ -42,7 +42,7 @@ pub fn needs() {
 
 // Fact 0 holds at the start.
 pub fn deleted_needs() {
-    show::heading(b"What the steps ending then delete goes, and what they add comes.");
+    output::heading(b"What the steps ending then delete goes, and what they add comes.");
     let job = jobs::effects();
     let needed_at_4 = [0u8, 0, 0, 2, 2, 0, 1, 4, 0];
     let needed_at_5 = [0u8, 0, 0, 2, 2, 0, 1, 5, 0];
@@ -54,7 +54,7 @@ pub fn deleted_needs() {
 }
 
 pub fn goal() {
-    show::heading(b"The goal holds at the plan's end.");
+    output::heading(b"The goal holds at the plan's end.");
     let job = jobs::effects();
     show::ends_for(b"{0}, in the start set", job, 0b001, &[1, 0, 0], 2);
     show::refused_for(b"{0}, deleted at the end", job, 0b001, &[0, 0, 0], 20);

@@ -8,7 +8,7 @@ use made_jobs::parts::action;
 
 // What stands later in the table stands earlier in the plan.
 pub fn neighbours() {
-    show::heading(b"Of the refusals that hold, the one standing first is returned: two.");
+    output::heading(b"Of the refusals that hold, the one standing first is returned: two.");
     let job = jobs::base();
     show::refused(b"12 and 13", job, &[0, 0, 0, 4, 3, 0, 0], 12);
     show::refused(b"13 and 14", job, &[1, 3, 0, 0, 0, 0, 4, 5, 0], 13);
@@ -22,7 +22,7 @@ pub fn neighbours() {
 
 // One thing more on each line, always one that stands earlier in the table.
 pub fn all() {
-    show::heading(b"Of the refusals that hold, the one standing first is returned: many.");
+    output::heading(b"Of the refusals that hold, the one standing first is returned: many.");
     let job = jobs::base();
     let from_15 = [1u8, 0, 0, 2, 0, 0, 3, 0, 0, 1, 1, 0, 1, 9, 0];
     let from_14 = [2u8, 0, 0, 1, 0, 0, 3, 0, 0, 1, 1, 0, 1, 9, 0];
@@ -43,7 +43,7 @@ fn job_first(case: &[u8], job: Job, number: u32) {
 }
 
 pub fn jobs() {
-    show::heading(b"Every call that is handed a job value tests it first by 3 to 11: with 12.");
+    output::heading(b"Every call that is handed a job value tests it first by 3 to 11: with 12.");
     let base = jobs::base();
     job_first(b"12 alone", base, 12);
     job_first(b"3, 5 pools", parts::with_counts(base, 5, 1, 4), 3);

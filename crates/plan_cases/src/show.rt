@@ -2,7 +2,7 @@
 // expects, the line says so.
 use checker::Checked;
 use job::Job;
-use libc::STDOUT_FILENO;
+use output::text;
 
 // An answer of the checker: the end of an accepted plan, or the number of the refusal.
 struct Answer {
@@ -37,34 +37,23 @@ fn same(a: Answer, b: Answer) -> bool {
     (a.accepted == b.accepted) & (a.number == b.number)
 }
 
-fn text(bytes: &[u8]) {
-    io::write_all(STDOUT_FILENO, bytes);
-}
-
 fn print(answer: Answer) {
     if answer.accepted {
         text(b"ends ");
     } else {
         text(b"refused ");
     }
-    io::print_decimal(STDOUT_FILENO, answer.number as u64);
+    output::number(answer.number as u64);
 }
 
 fn line(case: &[u8], checked: Checked, expected: Answer) {
     let found = Answer::of(checked);
-    text(b"  ");
-    text(case);
-    text(b": ");
+    output::name(case);
     print(found);
     if !same(found, expected) {
         text(b", expected ");
         print(expected);
     }
-    text(b"\n");
-}
-
-pub fn heading(sentence: &[u8]) {
-    text(sentence);
     text(b"\n");
 }
 

@@ -5,7 +5,9 @@ use made_jobs::days;
 use made_jobs::parts;
 
 pub fn sizes() {
-    show::heading(b"A plan is a list of 0 to 32 steps. 12: bytes not a multiple of 3 or over 96.");
+    output::heading(
+        b"A plan is a list of 0 to 32 steps. 12: bytes not a multiple of 3 or over 96.",
+    );
     let mut job = chain::of(33, 0);
     job.goal = 0;
     chain::ends(b"no bytes", job, 0, 0);
@@ -19,7 +21,7 @@ pub fn sizes() {
 }
 
 pub fn bytes() {
-    show::heading(b"In bytes a step is the action (1 byte), then the start (2 bytes).");
+    output::heading(b"In bytes a step is the action (1 byte), then the start (2 bytes).");
     let job = days::single(1_440, 10);
     show::ends(b"start 1", job, &[0, 1, 0], 11);
     show::ends(b"start 255", job, &[0, 255, 0], 265);
@@ -28,7 +30,7 @@ pub fn bytes() {
 }
 
 pub fn actions() {
-    show::heading(b"13: action number not in the job.");
+    output::heading(b"13: action number not in the job.");
     let mut job = chain::of(64, 0);
     job.start = u64::MAX;
     show::ends(b"action 63 of 64", job, &[63, 0, 0], 1);
@@ -39,7 +41,7 @@ pub fn actions() {
 }
 
 pub fn rising() {
-    show::heading(b"Steps stand in strictly rising order of start, then action.");
+    output::heading(b"Steps stand in strictly rising order of start, then action.");
     let job = days::case_2(7);
     let short = days::single(1_440, 1);
     show::ends(b"0 at 0, 1 at 0", job, &[0, 0, 0, 1, 0, 0, 2, 2, 0], 7);

@@ -4,7 +4,7 @@ use job::Job;
 use made_jobs::days;
 
 pub fn first() {
-    show::heading(b"Days to try it on: cases 1, 2, 3 and 6.");
+    output::heading(b"Days to try it on: cases 1, 2, 3 and 6.");
     show::ends(b"case 1", Job::zero(), 0);
     show::ends(b"case 2, deadline 7", days::case_2(7), 7);
     show::ends(b"case 2, deadline 1,440", days::case_2(1_440), 7);
@@ -14,7 +14,7 @@ pub fn first() {
 }
 
 pub fn resources() {
-    show::heading(b"Days to try it on: cases 4, 5 and 7.");
+    output::heading(b"Days to try it on: cases 4, 5 and 7.");
     show::ends(b"case 4, deadline 4", days::case_4(4, 1), 4);
     show::refused(b"case 4, deadline 3", days::case_4(3, 1), 22);
     show::ends(b"case 5, pool of 2", days::case_4(4, 2), 2);

@@ -6,7 +6,7 @@ use made_jobs::days;
 use made_jobs::parts;
 
 pub fn holding() {
-    show::heading(b"At minute 0 the start set holds. The plan's end is 0 for no steps.");
+    output::heading(b"At minute 0 the start set holds. The plan's end is 0 for no steps.");
     let mut case_2 = days::case_2(7);
     case_2.goal = 0b00011;
     show::ends(b"{0, 1} of {0, 1}", case_2, 0);
@@ -28,7 +28,7 @@ fn token(deadline: u16, goal: u64, store: u32) -> Job {
 }
 
 pub fn repeated() {
-    show::heading(b"An action that is wanted several times.");
+    output::heading(b"An action that is wanted several times.");
     show::ends(b"three times", token(20, 0b1110, 3), 9);
     show::refused(b"three times, deadline 8", token(8, 0b1110, 3), 22);
     show::refused(b"three times, store of 2", token(20, 0b1110, 2), 22);
@@ -45,7 +45,7 @@ fn with_shortcut(job: Job, length: u8, fact: u8) -> Job {
 }
 
 pub fn fewer_steps() {
-    show::heading(b"A slower way with fewer steps: an action of length 5 for the first two.");
+    output::heading(b"A slower way with fewer steps: an action of length 5 for the first two.");
     let fits = with_shortcut(chain::of(32, 40), 5, 1);
     let long = with_shortcut(chain::of(33, 40), 5, 1);
     let late = with_shortcut(chain::of(33, 35), 5, 1);

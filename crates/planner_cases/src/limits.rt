@@ -8,7 +8,7 @@ use made_jobs::parts;
 use made_jobs::parts::action;
 
 pub fn steps() {
-    show::heading(b"Days to try it on: case 11.");
+    output::heading(b"Days to try it on: case 11.");
     show::ends(b"chain of 31, deadline 40", chain::of(31, 40), 31);
     show::ends(b"chain of 32, deadline 40", chain::of(32, 40), 32);
     show::ends(b"chain of 32, deadline 32", chain::of(32, 32), 32);
@@ -18,7 +18,7 @@ pub fn steps() {
 }
 
 pub fn values() {
-    show::heading(b"Days to try it on: cases 12 and 13.");
+    output::heading(b"Days to try it on: cases 12 and 13.");
     show::ends(b"deadline 1,440", days::single(1_440, 1), 1);
     show::refused(b"deadline 1,441", days::single(1_441, 1), 5);
     show::ends(b"length 255", days::single(1_440, 255), 255);
@@ -35,7 +35,7 @@ fn with_last(action: Action) -> Job {
 }
 
 pub fn jobs() {
-    show::heading(b"Every call that is handed a job value tests it first by 3 to 11.");
+    output::heading(b"Every call that is handed a job value tests it first by 3 to 11.");
     let base = days::case_4(4, 1);
     let greedy = parts::using(action(1, 0, 0, 0), 1_000_001, 0);
     show::refused(b"5 pools", parts::with_counts(base, 5, 0, 2), 3);

@@ -3,16 +3,7 @@
 use crate::slice;
 use crate::slice::Answer;
 use job::Job;
-use libc::STDOUT_FILENO;
-
-fn text(bytes: &[u8]) {
-    io::write_all(STDOUT_FILENO, bytes);
-}
-
-pub fn heading(sentence: &[u8]) {
-    text(sentence);
-    text(b"\n");
-}
+use output::text;
 
 fn print(answer: Answer) {
     if answer.accepted {
@@ -20,7 +11,7 @@ fn print(answer: Answer) {
     } else {
         text(b"refused ");
     }
-    io::print_decimal(STDOUT_FILENO, answer.number as u64);
+    output::number(answer.number as u64);
 }
 
 fn same(a: Answer, b: Answer) -> bool {
@@ -28,9 +19,7 @@ fn same(a: Answer, b: Answer) -> bool {
 }
 
 fn line(case: &[u8], found: Answer, expected: Answer) {
-    text(b"  ");
-    text(case);
-    text(b": ");
+    output::name(case);
     print(found);
     if !same(found, expected) {
         text(b", expected ");

@@ -5,7 +5,7 @@ use made_jobs::chain;
 use made_jobs::days;
 
 pub fn sizes() {
-    show::heading(b"Days to try it on: case 12, slices. The rest is kept.");
+    output::heading(b"Days to try it on: case 12, slices. The rest is kept.");
     let long = chain::of(32, 40);
     let short = days::case_6(3);
     show::refused_in(b"2 steps, slice of 0", short, 0, 21);
@@ -19,7 +19,7 @@ pub fn sizes() {
 }
 
 pub fn order() {
-    show::heading(b"Of the refusals that hold, the one standing first is returned.");
+    output::heading(b"Of the refusals that hold, the one standing first is returned.");
     let late = days::single(1_441, 1);
     let idle = days::single(10, 0);
     let hopeless = days::case_2(6);

@@ -2,7 +2,6 @@
 // totals.
 mod compare; // both planners on one job
 mod random; // both on many jobs
-mod show; // the lines of the output
 
 fn main() {
     random::days();

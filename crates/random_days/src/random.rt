@@ -1,7 +1,6 @@
 // Random small jobs: how many have a plan, the sum of their least ends, and how often the planners differ.
 use crate::compare;
 use crate::compare::Outcome;
-use crate::show;
 use std::num::wrapping_add_u64;
 
 // What is counted over many jobs. No sum comes near 64 bits.
@@ -30,7 +29,7 @@ fn counted(mut totals: Totals, seed: u64) -> Totals {
         }
         Outcome::Differs => {
             totals.differences = wrapping_add_u64(totals.differences, 1);
-            show::total(b"differs, seed", seed);
+            output::total(b"differs, seed", seed);
         }
     }
     totals
@@ -55,14 +54,14 @@ fn run(seeds: u64) -> Totals {
 }
 
 pub fn days() {
-    show::heading(
+    output::heading(
         b"Random small jobs, by the planner and by the second planner: seeds 0 to 1,999.",
     );
     let totals = run(2_000);
-    show::total(b"jobs", totals.jobs);
-    show::total(b"with a plan", totals.plans);
-    show::total(b"no plan", totals.no_plan);
-    show::total(b"too large", totals.too_large);
-    show::total(b"differences", totals.differences);
-    show::total(b"sum of the ends", totals.ends);
+    output::total(b"jobs", totals.jobs);
+    output::total(b"with a plan", totals.plans);
+    output::total(b"no plan", totals.no_plan);
+    output::total(b"too large", totals.too_large);
+    output::total(b"differences", totals.differences);
+    output::total(b"sum of the ends", totals.ends);
 }

@@ -5,7 +5,7 @@ use made_jobs::days;
 use made_jobs::parts;
 
 pub fn starred() {
-    show::heading(b"Days to try it on: cases 1 to 7, and 13.");
+    output::heading(b"Days to try it on: cases 1 to 7, and 13.");
     show::ends(b"case 1", Job::zero(), 0);
     show::ends(b"case 2, deadline 7", days::case_2(7), 7);
     show::no_plan(b"case 3, deadline 6", days::case_2(6));
@@ -32,7 +32,7 @@ fn equal_actions(actions: usize, deadline: u16, needs: u64) -> Job {
 
 // The actions that need fact 1 never start; those that need nothing may start at any minute.
 pub fn too_large() {
-    show::heading(b"What is too large for the second planner.");
+    output::heading(b"What is too large for the second planner.");
     show::no_plan(b"8 actions, deadline 60", equal_actions(8, 60, 0b10));
     show::too_large(b"9 actions", equal_actions(9, 60, 0b10));
     show::too_large(b"deadline 61", equal_actions(8, 61, 0b10));

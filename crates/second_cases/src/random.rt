@@ -1,5 +1,4 @@
 // Random small jobs: how many have a plan, and the sum of their least ends.
-use crate::show;
 use job::Job;
 use job::refusal::Verdict;
 use job::validate::validate;
@@ -59,11 +58,11 @@ fn run(seeds: u64) -> Totals {
 }
 
 pub fn jobs() {
-    show::heading(b"Random small jobs: seeds 0 to 599.");
+    output::heading(b"Random small jobs: seeds 0 to 599.");
     let totals = run(600);
-    show::total(b"invalid", totals.invalid);
-    show::total(b"with a plan", totals.plans);
-    show::total(b"no plan", totals.no_plan);
-    show::total(b"too large", totals.too_large);
-    show::total(b"sum of the ends", totals.ends);
+    output::total(b"invalid", totals.invalid);
+    output::total(b"with a plan", totals.plans);
+    output::total(b"no plan", totals.no_plan);
+    output::total(b"too large", totals.too_large);
+    output::total(b"sum of the ends", totals.ends);
 }

@@ -1,27 +1,14 @@
 // The lines of the output: the name of a case, a colon, and what the second planner answered. Where that is not what
 // the case expects, the line says so.
 use job::Job;
-use libc::STDOUT_FILENO;
+use output::text;
 use second::Makespan;
-
-fn text(bytes: &[u8]) {
-    io::write_all(STDOUT_FILENO, bytes);
-}
-
-fn number(n: u64) {
-    io::print_decimal(STDOUT_FILENO, n);
-}
-
-pub fn heading(sentence: &[u8]) {
-    text(sentence);
-    text(b"\n");
-}
 
 fn print(answer: Makespan) {
     match answer {
         Makespan::Ends(end) => {
             text(b"ends ");
-            number(end as u64);
+            output::number(end as u64);
         }
         Makespan::NoPlan => text(b"no plan"),
         Makespan::TooLarge => text(b"too large"),
@@ -39,9 +26,7 @@ fn code(answer: Makespan) -> u64 {
 
 fn line(case: &[u8], job: Job, expected: Makespan) {
     let found = second::shortest(job);
-    text(b"  ");
-    text(case);
-    text(b": ");
+    output::name(case);
     print(found);
     if code(found) != code(expected) {
         text(b", expected ");
@@ -60,13 +45,4 @@ pub fn no_plan(case: &[u8], job: Job) {
 
 pub fn too_large(case: &[u8], job: Job) {
     line(case, job, Makespan::TooLarge);
-}
-
-// A count or a sum over many jobs.
-pub fn total(name: &[u8], n: u64) {
-    text(b"  ");
-    text(name);
-    text(b": ");
-    number(n);
-    text(b"\n");
 }
