@@ -1,4 +1,5 @@
-//! The calls for Rust: safe functions over the exported ones, with answers taken apart. Copy this file into your program.
+//! The calls for Rust: safe functions over the exported ones, with answers taken apart.
+//! Copy this file into your program.
 
 mod exported {
     extern "C" {

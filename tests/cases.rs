@@ -191,7 +191,9 @@ pub fn any_plan(r: &mut Random, job: &Job) -> Vec<u8> {
     let actions = job.actions.len() as u64 + if r.one_in(4) { 1 } else { 0 };
     let latest = if r.one_in(20) { 65_536 } else { job.deadline as u64 + 1 };
     let mut steps: Vec<(u16, u8)> =
-        (0..r.below(if actions == 0 { 2 } else { 6 })).map(|_| (r.below(latest) as u16, r.below(actions.max(1)) as u8)).collect();
+        (0..r.below(if actions == 0 { 2 } else { 6 }))
+            .map(|_| (r.below(latest) as u16, r.below(actions.max(1)) as u8))
+            .collect();
     if !r.one_in(8) {
         steps.sort();
         steps.dedup();

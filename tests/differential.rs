@@ -1,5 +1,6 @@
-//! Compares the calls with an independent implementation in plain Rust, on random jobs, files, sets and plans, through the
-//! C interface. A difference prints the seed of its case and ends with status 1. Arguments: number of cases, first seed.
+//! Compares the calls with an independent implementation in plain Rust, on random jobs, files, sets and plans, through
+//! the C interface. A difference prints the seed of its case and ends with status 1.
+//! Arguments: number of cases, first seed.
 mod cases;
 #[allow(dead_code)]
 #[path = "../bench/plain.rs"]

@@ -1,5 +1,5 @@
-//! A simple planner: the least end of a plan, by going through every state that plans reach, minute by minute. For small
-//! jobs only. Written from the document alone.
+//! A simple planner: the least end of a plan, by going through every state that plans reach, minute by minute. For
+//! small jobs only. Written from the document alone.
 use crate::plain::{Action, Job};
 use std::collections::HashSet;
 
@@ -67,8 +67,8 @@ fn go_on(job: &Job, state: &State, i: usize, left: u16, into: &mut HashSet<State
     }
 }
 
-/// The least end of a plan that reaches the goal by the deadline, if there is one. Waiting changes nothing, so the first
-/// minute at which the goal holds and nothing runs is a plan's end.
+/// The least end of a plan that reaches the goal by the deadline, if there is one. Waiting changes nothing, so the
+/// first minute at which the goal holds and nothing runs is a plan's end.
 pub fn least_end(job: &Job) -> Option<u16> {
     let begin = State { facts: job.start, running: Vec::new(), used: [0; 4], steps: 0 };
     let mut states = HashSet::from([begin]);

@@ -34,5 +34,6 @@ accepted-file-comes-out file slice bytes accepted room =
     let again = write-after-read-slice file (readFile file .job) slice bytes (rw accepted) room in (
       ap (λ (v : Verdict). unlessRefused v (writtenNumber (writeFile (jobOf file) slice))) accepted
           ∙ ap writtenNumber (again .0),
-      ap (λ (v : Verdict). take (length file) (keptIfRefused v slice (leftByWrite (jobOf file) slice))) accepted ∙ again .1,
+      ap (λ (v : Verdict). take (length file) (keptIfRefused v slice (leftByWrite (jobOf file) slice))) accepted
+          ∙ again .1,
     )

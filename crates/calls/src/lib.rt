@@ -120,8 +120,8 @@ pub extern "C" fn ruhkevois_check(file: &[u8], plan: &[u8]) -> u64
     checked(answer)
 }
 
-// The earliest time of a set of facts in the job of a file: the minute, unreachable, or the first refusal of 1 to 11 and
-// 24.
+// The earliest time of a set of facts in the job of a file: the minute, unreachable, or the first refusal of 1 to 11
+// and 24.
 #[no_mangle]
 pub extern "C" fn ruhkevois_earliest(file: &[u8], set: u64) -> u64
     ensures { λ r. ⌜ EarliestAnswers (now (file .entry)) set r ⌝ }

@@ -1,4 +1,5 @@
-// Says whether the plan in one file is accepted for the job in another: the plan's end, or by which number it is refused.
+// Says whether the plan in one file is accepted for the job in another: the plan's end, or by which number
+// it is refused.
 // Arguments: the job file and the plan file, by name. A file that cannot be read gets a message on standard error.
 ghost use Rattle.io.specs.Counts.{Counts};
 use checker::Checked;

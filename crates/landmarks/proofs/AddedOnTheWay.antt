@@ -87,7 +87,8 @@ module _ (J : Job) (b t atHand goal T : ℕ) (E L : List Step) (plan : PlanOf J 
 
     pub landmark-added : (q p : ℕ) → q < n → b ≤ t → has (held (J .start) (E ++ L) t) q ≡ true
         → has (marks q) p ≡ true → AddedIn E p × (has atHand p ≡ false)
-    landmark-added q p below after holds mark = landmark-by (suc t) t (omega arith) q p below after (omega arith) holds mark
+    landmark-added q p below after holds mark =
+        landmark-by (suc t) t (omega arith) q p below after (omega arith) holds mark
 
     -- of all facts of a set
     pub landmarks-added : (set : ℕ) → b ≤ t → Subset set (held (J .start) (E ++ L) t) → (p : ℕ)

@@ -1,5 +1,5 @@
--- Dead ends by landmarks: what must hold at a minute takes more than is left of the stores, of the number of steps, or of
--- the pools' minutes.
+-- Dead ends by landmarks: what must hold at a minute takes more than is left of the stores, of the number of steps, or
+-- of the pools' minutes.
 -- Assumes nothing.
 use Prim.Native.Nat.{ℕ, _+_, _*_, _-_, _<_, _≤_}
 use mathlib.Core.Path.{_≡_, ap}
@@ -118,8 +118,8 @@ module _ (J : Job) (b goal T t : ℕ) (after : b ≤ t) (inTime : t ≤ T) (L : 
       < sumOver share n missing + scale * total (λ x. getD (x .action .pools) pool 0 * minutesBefore t x) L
       → Dead J b goal T (Until b t) L
   dead-when-pool-short pool inside scale m shares opens exceeds =
-      exceeded scale (getD (J .pools) pool 0 * (t - m)) (total used L) (λ a. getD (a .pools) pool 0 * a .duration) shares
-      exceeds
+      exceeded scale (getD (J .pools) pool 0 * (t - m)) (total used L) (λ a. getD (a .pools) pool 0 * a .duration)
+      shares exceeds
       (λ E until normal.
       let sum = minutes-within J pool m t (getD (J .pools) pool 0) (E ++ L) (opens T goal (E ++ L) (normal .plan))
       (λ k. normal .plan .keeps .pools pool k inside) in

@@ -58,7 +58,8 @@ marked-tables sets sets′ sets″ numbers numbers′ numbers″ numbers‴ time
     let behind = kept-again 1088 1156 numbers′ numbers″ numbers‴ (put .kept)
     (kept-less 1088 1092 1156 numbers″ numbers‴ (omega arith) least) in (
       kept-again 256 384 sets sets′ sets″ marks (kept-less 256 320 384 sets′ sets″ (omega arith) apart),
-      kept-again 576 1156 numbers numbers′ numbers‴ shares (kept-less 576 1088 1156 numbers′ numbers‴ (omega arith) behind),
+      kept-again 576 1156 numbers numbers′ numbers‴ shares
+          (kept-less 576 1088 1156 numbers′ numbers‴ (omega arith) behind),
       record {
         closed = closed-kept _ start few sets′ sets″ apart closed;
         within = within-all-kept _ start few sets′ sets″ apart numbers′ numbers‴ behind within;

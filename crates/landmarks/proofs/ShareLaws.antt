@@ -110,7 +110,8 @@ pub rows-on : (sets : List ℕ) (start : ℕ) (xs ys : List ℕ) (actions row : 
     → ((k : ℕ) → k < row → Within sets xs actions start k) → (k : ℕ) → k < row + 1 → Within sets ys actions start k
 rows-on sets start xs ys actions row few inside kept here before k l =
     ⊎-elim (λ e. let same : k ≡ row = omega arith in rw same here)
-    (λ less. within-kept sets start xs ys actions (rowAt row) k few (omega arith) (omega arith) kept (before k (omega arith)))
+    (λ less.
+    within-kept sets start xs ys actions (rowAt row) k few (omega arith) (omega arith) kept (before k (omega arith)))
     (eq-or-lt-of-le l)
 
 -- ---- what the test of a store's row says of the job

@@ -43,15 +43,18 @@ module _ (share : ℕ → ℕ) where
   sum-of-none zero = refl
   sum-of-none (suc n) = let rest = sum-of-none n in rw (has-zero n) (omega arith)
 
-  sum-of-inside : (n set a : ℕ) → ((p : ℕ) → has set p ≡ true → has a p ≡ true) → sumOver share n set ≤ sumOver share n a
+  sum-of-inside : (n set a : ℕ) → ((p : ℕ) → has set p ≡ true → has a p ≡ true)
+      → sumOver share n set ≤ sumOver share n a
   sum-of-inside n set a h =
       let cover = sum-of-cover n set a 0 (λ p k. inl (h p k)) in let none = sum-of-none n in omega arith
 
-  sum-of-union : (n : ℕ) (f : Step → ℕ) (E : List Step) → sumOver share n (unionOf f E) ≤ total (λ x. sumOver share n (f x)) E
+  sum-of-union : (n : ℕ) (f : Step → ℕ) (E : List Step)
+      → sumOver share n (unionOf f E) ≤ total (λ x. sumOver share n (f x)) E
   sum-of-union n f [] = let none = sum-of-none n in omega arith
   sum-of-union n f (x ∷ E) =
       let rest = sum-of-union n f E in
-      let cover = sum-of-cover n (unionOf f (x ∷ E)) (f x) (unionOf f E) (λ p h. in-union-cases (f x) (unionOf f E) p h) in
+      let cover = sum-of-cover n (unionOf f (x ∷ E)) (f x) (unionOf f E)
+      (λ p h. in-union-cases (f x) (unionOf f E) p h) in
       omega arith
 
   -- what steps of the job's actions add takes no more than the steps weigh

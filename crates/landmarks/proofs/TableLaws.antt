@@ -23,7 +23,8 @@ use Rattle.landmarks.proofs.AddedOnTheWay.{mark-of}
 
 -- ---- over the facts of a set, from one to the next
 module _ (marks : ℕ → ℕ) (set : ℕ) where
-  marks-skip : (n m : ℕ) → n ≤ m → ((k : ℕ) → n ≤ k → k < m → has set k ≡ false) → marksOf marks m set ≡ marksOf marks n set
+  marks-skip : (n m : ℕ) → n ≤ m → ((k : ℕ) → n ≤ k → k < m → has set k ≡ false)
+      → marksOf marks m set ≡ marksOf marks n set
   unfolding marksOf
   marks-skip n zero l none = let z : n ≡ 0 = omega arith in rw z
   marks-skip n (suc m) l none =
@@ -48,7 +49,8 @@ module _ (marks : ℕ → ℕ) (set : ℕ) where
       ∙ ap (λ (b : Bool). union (cond b (marks q) 0) (marksOf marks q set)) here
 
 module _ (share : ℕ → ℕ) (set : ℕ) where
-  sum-skip : (n m : ℕ) → n ≤ m → ((k : ℕ) → n ≤ k → k < m → has set k ≡ false) → sumOver share m set ≡ sumOver share n set
+  sum-skip : (n m : ℕ) → n ≤ m → ((k : ℕ) → n ≤ k → k < m → has set k ≡ false)
+      → sumOver share m set ≡ sumOver share n set
   unfolding sumOver
   sum-skip n zero l none = let z : n ≡ 0 = omega arith in rw z
   sum-skip n (suc m) l none =
@@ -76,7 +78,8 @@ module _ (share : ℕ → ℕ) (set : ℕ) where
 pub kept-at-first : (at n : ℕ) (xs : List ℕ) → length xs ≡ n → KeptBefore at n xs xs
 kept-at-first at n xs size = record { size = size; same = λ k l. refl }
 
-pub kept-when-set : (at n : ℕ) (xs ys : List ℕ) (k v : ℕ) → at ≤ k → KeptBefore at n xs ys → KeptBefore at n xs (set ys k v)
+pub kept-when-set : (at n : ℕ) (xs ys : List ℕ) (k v : ℕ) → at ≤ k → KeptBefore at n xs ys
+    → KeptBefore at n xs (set ys k v)
 kept-when-set at n xs ys k v l kept =
     record {
       size = length-set ys k v ∙ kept .size;

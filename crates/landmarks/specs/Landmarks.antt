@@ -10,8 +10,8 @@ use Rattle.job.specs.Job.{Action, Job}
 use Rattle.timeline.specs.Step.{Step}
 use Rattle.times.specs.Earliest.{actionOf}
 
--- One set for each fact below n. A fact at hand has no landmarks; a landmark of another fact is that fact itself, or, for
--- each action that adds it, a landmark of some fact that the action needs.
+-- One set for each fact below n. A fact at hand has no landmarks; a landmark of another fact is that fact itself, or,
+-- for each action that adds it, a landmark of some fact that the action needs.
 pub record Landmarks (J : Job) (atHand n : ℕ) (marks : ℕ → ℕ) : Type 0 where
   pub fresh : (q p : ℕ) → q < n → has (marks q) p ≡ true → has atHand q ≡ false
   pub why : (q p : ℕ) → q < n → has (marks q) p ≡ true

@@ -1,5 +1,5 @@
-// Openings: for each pool a minute before which no plan uses it, the earliest at which what one of its users needs can be
-// there. One number for each pool, behind the shares.
+// Openings: for each pool a minute before which no plan uses it, the earliest at which what one of its users needs can
+// be there. One number for each pool, behind the shares.
 ghost use mathlib.Core.Path.{_≡_};
 ghost use Prim.Native.Nat.{_≤_, _<_};
 ghost use lib.ListN.{length};

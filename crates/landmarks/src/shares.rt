@@ -1,5 +1,6 @@
-// Shares: what a fact takes of each store, and of the minutes of each pool, at least, in parts of 2,520 to the unit. Eight
-// rows of 64 numbers, four for stores and four for pools, behind the numbers of the actions: found, and then tested.
+// Shares: what a fact takes of each store, and of the minutes of each pool, at least, in parts of 2,520 to the unit.
+// Eight rows of 64 numbers, four for stores and four for pools, behind the numbers of the actions:
+// found, and then tested.
 ghost use mathlib.Core.Path.{_≡_};
 ghost use mathlib.Core.Bool.{true};
 ghost use Prim.Native.Nat.{_+_, _*_, _^_, _≤_, _<_};

@@ -73,8 +73,10 @@ filled-still job sets numbers sets′ numbers′ passes filled keptSets keptNumb
           record {
             duration = keptNumbers .same (i * 9) (omega arith) ∙ f .duration;
             byte = f .byte;
-            pools = λ pool m. let p = limits .fewPools in keptNumbers .same (i * 9 + 1 + pool) (omega arith) ∙ f .pools pool m;
-            stores = λ store m. let p = limits .fewStores in keptNumbers .same (i * 9 + 5 + store) (omega arith) ∙ f .stores store m;
+            pools = λ pool m.
+                let p = limits .fewPools in keptNumbers .same (i * 9 + 1 + pool) (omega arith) ∙ f .pools pool m;
+            stores = λ store m.
+                let p = limits .fewStores in keptNumbers .same (i * 9 + 5 + store) (omega arith) ∙ f .stores store m;
           };
     }
 
@@ -112,7 +114,8 @@ module _ (job : held.Job) (sets numbers times : List ℕ) (passes : first (jobRo
           pools = pools-when-within (jobIn job) sets numbers _ (job .start) (described .actions) (described .each)
               (tables .within);
           opens = λ pool few inside.
-              opens-of-tables (jobIn job) sets numbers times _ described timed pool _ inside (tables .openings pool few);
+              opens-of-tables (jobIn job) sets numbers times _ described timed pool _ inside
+              (tables .openings pool few);
           cliques = cliques-of-tables (jobIn job) sets numbers times _ described timed (tables .cliques);
         };
       })

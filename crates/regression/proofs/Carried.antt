@@ -1,5 +1,5 @@
--- Carried facts: what is wanted at minute t, and added then neither by the tail nor by an action that may still stop, held
--- already at the event minute before; and so did what the steps that run in the minute before t need.
+-- Carried facts: what is wanted at minute t, and added then neither by the tail nor by an action that may still stop,
+-- held already at the event minute before; and so did what the steps that run in the minute before t need.
 -- Assumes nothing.
 use Prim.Native.Nat.{ℕ, zero, suc, _+_, _-_, _<_, _≤_}
 use mathlib.Core.Path.{_≡_, refl, sym, ap, _∙_}
@@ -70,7 +70,8 @@ module _ (J : Job) (b goal T t s : ℕ) (inTime : t ≤ T) (done : ℕ → Bool)
       (λ touched.
       let r = find-any (touchesAt J (x .stop)) (E ++ L) touched in
       let y : Step = r .0 in
-      let start : y .start ≡ x .stop = ⊎-elim (λ e. e) (λ w. let e = w .2 in omega arith) (touches-reads J (x .stop) y (r .3)) in
+      let start : y .start ≡ x .stop =
+      ⊎-elim (λ e. e) (λ w. let e = w .2 in omega arith) (touches-reads J (x .stop) y (r .3)) in
       let lasts = keeps .lasting y (r .1) (r .2) in
       ⊎-elim
       (λ w.

@@ -33,7 +33,8 @@ zeros sums e k l = rw e (getD-replicate {A = ℕ} 4 k 0 0 l)
 sums-of-none : (sums : List ℕ) → sums ≡ replicate 4 0 → Sums 0 sums
 sums-of-none sums e = record { four = ap length e; small = λ k l. let z = zeros sums e k l in omega arith }
 
-pub nothing-used : (r : Uses) → r .before ≡ replicate 4 0 → r .now ≡ replicate 4 0 → r .spent ≡ replicate 4 0 → UsesNothing r
+pub nothing-used : (r : Uses) → r .before ≡ replicate 4 0 → r .now ≡ replicate 4 0 → r .spent ≡ replicate 4 0
+    → UsesNothing r
 nothing-used r e f g =
     record {
       small = record { before = sums-of-none _ e; now = sums-of-none _ f; spent = sums-of-none _ g };
@@ -81,8 +82,11 @@ module _ (numbers : List ℕ) (at : ℕ) (counts : Bool) (sums : List ℕ) where
             ⊎-elim
             (λ same.
             let here : j ≡ k = omega arith in
-            rw here
-            (getD-set-same out k (amount + getD out k 0) 0 (omega arith) ∙ ap₂ _+_ e (a .rest k (le-refl k)), rw e at small))
+            rw here (
+              getD-set-same out k (amount + getD out k 0) 0 (omega arith)
+                  ∙ ap₂ _+_ e (a .rest k (le-refl k)),
+              rw e at small,
+            ))
             (λ less.
             let other : j ≡ k → ⊥ = λ d. omega arith in
             rw (getD-set-other out k j (amount + getD out k 0) 0 other) (a .done j (omega arith)))
@@ -105,7 +109,8 @@ module _ (numbers : List ℕ) (at : ℕ) (counts : Bool) (sums : List ℕ) where
 
 -- ---- one step more
 module _ (numbers : List ℕ) (t i start : ℕ) (uses r : Uses)
-    (before : Added numbers (i * 9 + 1) (ltb start t && leb t (start + durationAt numbers i)) (uses .before) (r .before))
+    (before : Added numbers (i * 9 + 1) (ltb start t && leb t (start + durationAt numbers i))
+    (uses .before) (r .before))
     (now : Added numbers (i * 9 + 1) (leb start t && ltb t (start + durationAt numbers i)) (uses .now) (r .now))
     (spent : Added numbers (i * 9 + 5) true (uses .spent) (r .spent)) where
   joined-small : (n : ℕ) → Small n uses → Small (n + 1) r

@@ -143,11 +143,13 @@ module _ (J : Job) (sets numbers : List ℕ) (frame : Frame) (described : Descri
   unfolding solelyProvides
   barred-when-adding-nothing-wanted h =
       let s = stops in
-      dead-when-not-sole-provider J (frame .first) (frame .goal) (frame .horizon) t (x ∷ L) first-place (omega arith) new
+      dead-when-not-sole-provider J (frame .first) (frame .goal) (frame .horizon) t (x ∷ L) first-place
+      (omega arith) new
       (no-common-member _ _
       (λ n a w.
       let parts = in-difference-parts (x .action .adds) (unionOf (provided x) (x ∷ L)) n a in
-      not-in-both (addsAt sets i) (st .wanted) n h (rw (described .each i known .adds) (parts .0)) (rw (← wanted-still) w)))
+      not-in-both (addsAt sets i) (st .wanted) n h (rw (described .each i known .adds) (parts .0))
+      (rw (← wanted-still) w)))
 
   -- ---- another step provides what it adds
   pub not-running : meets (clashesAt sets i) (st .at .running) ≡ false → has (st .at .running) i ≡ false
@@ -164,7 +166,8 @@ module _ (J : Job) (sets numbers : List ℕ) (frame : Frame) (described : Descri
   unfolding solelyProvides
   barred-when-provided apart h =
       let s = stops in
-      dead-when-not-sole-provider J (frame .first) (frame .goal) (frame .horizon) t (x ∷ L) first-place (omega arith) new
+      dead-when-not-sole-provider J (frame .first) (frame .goal) (frame .horizon) t (x ∷ L) first-place
+      (omega arith) new
       (no-common-member _ _
       (λ n a w.
       let parts = in-difference-parts (x .action .adds) (unionOf (provided x) (x ∷ L)) n a in
@@ -196,7 +199,8 @@ module _ (J : Job) (sets numbers : List ℕ) (frame : Frame) (described : Descri
           let c = in-cond-parts (eqb (y .stop) t) (y .action .adds) n (r .3) in
           let stop = eqb-true (y .stop) t (c .0) in
           let l = lasting y (r .1) (r .2) in
-          let runs : runsInto t y ≡ true = and-both (lt-ltb (y .start) t (omega arith)) (le-leb t (y .stop) (omega arith)) in
+          let runs : runsInto t y ≡ true =
+          and-both (lt-ltb (y .start) t (omega arith)) (le-leb t (y .stop) (omega arith)) in
           let apart = ne-eqb (y .number) i (other-number y (r .1) (r .2) runs) in
           let test : (eqb (y .stop) (x .stop) && not (eqb (y .number) i)) ≡ true =
           and-both (ap (eqb (y .stop)) stops ∙ c .0) (ap not apart) in
@@ -243,7 +247,8 @@ module _ (J : Job) (sets numbers : List ℕ) (frame : Frame) (described : Descri
         ⊎-elim
         (λ c.
         absurd
-        (not-in-both (clashesAt sets i) (st .at .starting) (y .number) no-clash (in-table y Q p c) (in-starting y Q p start)))
+        (not-in-both (clashesAt sets i) (st .at .starting) (y .number) no-clash (in-table y Q p c)
+        (in-starting y Q p start)))
         (λ c. c)
         (decided (clash x y)) in
         let need-free : meets (x .action .adds) (y .action .needs) ≡ false =
@@ -255,7 +260,8 @@ module _ (J : Job) (sets numbers : List ℕ) (frame : Frame) (described : Descri
         (λ e. rw e)
         (decided (eqb (y .start) (x .stop)))
       where
-        in-table : (y : Step) (Q : List Step) → Place y Q L → clash x y ≡ true → has (clashesAt sets i) (y .number) ≡ true
+        in-table : (y : Step) (Q : List Step) → Place y Q L → clash x y ≡ true
+            → has (clashesAt sets i) (y .number) ≡ true
         in-table y Q p c =
             let own = chosen-of-job J (st .steps) (st .steps .count) y Q p in
             let small = chosen-known J (st .steps) (frame .actions) (st .steps .count) known-steps (le-refl _) y Q p in
@@ -263,11 +269,13 @@ module _ (J : Job) (sets numbers : List ℕ) (frame : Frame) (described : Descri
             let same : y .action ≡ actionOf J (y .number) = ap (λ (z : Step). z .action) own in
             described .each i known .clash (y .number) (omega arith) ∙ (rw same at c)
 
-        in-starting : (y : Step) (Q : List Step) → Place y Q L → y .start ≡ t → has (st .at .starting) (y .number) ≡ true
+        in-starting : (y : Step) (Q : List Step) → Place y Q L → y .start ≡ t
+            → has (st .at .starting) (y .number) ≡ true
         in-starting y Q p e =
             ap (λ (set : ℕ). has set (y .number)) (stands .at .starting)
             ∙ in-unionOf (λ z. ifStarts t (single (z .number)) z) (y .number) p
-            (ap (λ (b : Bool). has (cond b (single (y .number)) 0) (y .number)) (eq-eqb (y .start) t e) ∙ in-single (y .number))
+            (ap (λ (b : Bool). has (cond b (single (y .number)) 0) (y .number)) (eq-eqb (y .start) t e)
+            ∙ in-single (y .number))
 
         in-needed : (y : Step) (Q : List Step) → Place y Q L → y .start ≡ t → (n : ℕ) → has (y .action .needs) n ≡ true
             → has (st .at .needed) n ≡ true
@@ -285,7 +293,8 @@ module _ (J : Job) (sets numbers : List ℕ) (frame : Frame) (described : Descri
         (or-neither
         (any-of-none (blocks x) (x ∷ L) (each-cons (λ y. blocks x y ≡ false) x L spares-own spares)) has-room))
       where
-        own-share : (pool : ℕ) → cond (leb (x .start) (x .stop) && ltb (x .stop) (x .stop)) (getD (x .action .pools) pool 0) 0 ≡ 0
+        own-share : (pool : ℕ)
+            → cond (leb (x .start) (x .stop) && ltb (x .stop) (x .stop)) (getD (x .action .pools) pool 0) 0 ≡ 0
         own-share pool =
             rw (le-ltb (x .stop) (x .stop) (le-refl (x .stop)), and-false (leb (x .start) (x .stop)))
 
@@ -298,7 +307,8 @@ module _ (J : Job) (sets numbers : List ℕ) (frame : Frame) (described : Descri
         has-room : lacksRoom J (x ∷ L) x ≡ false
         has-room =
             below-same (length (J .pools)) _ _
-            (λ pool l. ap (λ (m : ℕ). over (getD (J .pools) pool 0) (m + getD (x .action .pools) pool 0)) (same-use pool))
+            (λ pool l.
+            ap (λ (m : ℕ). over (getD (J .pools) pool 0) (m + getD (x .action .pools) pool 0)) (same-use pool))
             ∙ room
 
   -- ---- pools and stores do not suffice
@@ -310,7 +320,8 @@ module _ (J : Job) (sets numbers : List ℕ) (frame : Frame) (described : Descri
       let over = ltb-true (getD (J .pools) pool 0) (inUse J pool m L + getD (x .action .pools) pool 0) (r .2) in
       let s = stops in
       let l = starts-before in
-      let own : cond (leb (x .start) m && ltb m (x .stop)) (getD (x .action .pools) pool 0) 0 ≡ getD (x .action .pools) pool 0 =
+      let share = getD (x .action .pools) pool 0 in
+      let own : cond (leb (x .start) m && ltb m (x .stop)) share 0 ≡ share =
       rw (le-leb (x .start) m (omega arith), lt-ltb m (x .stop) (omega arith)) in
       dead-when-pool-exceeded J (frame .first) (frame .goal) (frame .horizon) _ (x ∷ L) pool m (r .1) (omega arith)
 

@@ -87,7 +87,8 @@ pub none-before-goal : (J : Job) (file sets numbers times : List ℕ) (frame : F
 none-before-goal J file sets numbers times frame task passed bytes accepted =
     let last : ℕ = end (stepsIn J bytes) in
     let plan = plan-of-accepted J (frame .goal) bytes last passed accepted (le-refl last) in
-    let by = goal-not-before-its-time J (tableIn times) (task .filled .solves) last (frame .goal) (stepsIn J bytes) plan in
+    let by = goal-not-before-its-time J (tableIn times) (task .filled .solves) last (frame .goal)
+    (stepsIn J bytes) plan in
     let n = number-by-set J times (task .filled .able) (frame .goal) (end (stepsIn J bytes)) by in
     let facts = ap (setNumber times (frame .goal)) (task .described .facts) in
     omega arith

@@ -43,7 +43,8 @@ module _ (sets numbers : List ℕ) (frame : Frame) (st : State) (undecided : ℕ
         barred = λ a l known member out. not-both member (n .skipped a (omega arith) l);
       }
 
-  pub candidates-on : (k next found r : ℕ) → has undecided k ≡ true → WithCandidate sets numbers frame st k found r → NextFact undecided (k + 1) next
+  pub candidates-on : (k next found r : ℕ) → has undecided k ≡ true
+      → WithCandidate sets numbers frame st k found r → NextFact undecided (k + 1) next
       → Candidates sets numbers frame st undecided k found → Candidates sets numbers frame st undecided next r
   candidates-on k next found r here with n before =
       record {

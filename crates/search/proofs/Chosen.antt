@@ -47,7 +47,8 @@ module _ (J : Job) (steps : Steps) where
       let r = place-of-chosen n i in let m = r .1 in rw (r .2) (known .known (r .0) (omega arith))
 
 -- ---- one step more
-module _ (J : Job) (steps : Steps) (actions number start : ℕ) (known : Known actions steps) (room : steps .count < 32) where
+module _ (J : Job) (steps : Steps) (actions number start : ℕ) (known : Known actions steps)
+    (room : steps .count < 32) where
   others : (n : ℕ) → n ≤ steps .count → chosenTo J (pushed steps number start) n ≡ chosenTo J steps n
   others zero l = refl
   others (suc n) l =
@@ -86,5 +87,6 @@ module _ (steps : Steps) (actions number start : ℕ) (known : Known actions ste
           let same : k ≡ steps .count = omega arith in
           rw (same, getD-set-same (steps .numbers) (steps .count) number 0 (omega arith)) l)
           (λ less.
-          rw (getD-set-other (steps .numbers) (steps .count) k number 0 (λ e. omega arith)) (known .known k (omega arith)))
+          rw (getD-set-other (steps .numbers) (steps .count) k number 0 (λ e. omega arith))
+          (known .known k (omega arith)))
           (eq-or-lt-of-le m)

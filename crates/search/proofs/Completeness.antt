@@ -23,7 +23,8 @@ use Rattle.times.proofs.Singles.{only-in-single}
 use Rattle.regression.specs.Normal.{eventMinute}
 use Rattle.regression.specs.DeadEnd.{Until, Open, Dead}
 use Rattle.regression.proofs.BlockedSteps.{Touches}
-use Rattle.regression.proofs.Decisions.{alsoDecided, dead-choose, dead-decided, dead-when-barred, dead-when-none-decided}
+use Rattle.regression.proofs.Decisions.{alsoDecided, dead-choose, dead-decided}
+use Rattle.regression.proofs.Decisions.{dead-when-barred, dead-when-none-decided}
 use Rattle.regression.proofs.Minutes.{no-event, dead-back-to-event}
 use Rattle.tables.specs.Tables.{Describes, Known, chosen}
 use Rattle.tables.specs.declared.Frame.{Frame}
@@ -39,7 +40,8 @@ use Rattle.search.proofs.Chosen.{place-of-chosen}
 -- the set of all ones has every fact below 64
 in-all-facts : (n : ℕ) → n < 64 → has 18446744073709551615 n ≡ true
 unfolding has
-in-all-facts n l = not-false (has 18446744073709551615 n) (below-none 64 (λ k. not (has 18446744073709551615 k)) refl n l)
+in-all-facts n l =
+    not-false (has 18446744073709551615 n) (below-none 64 (λ k. not (has 18446744073709551615 k)) refl n l)
 
 module _ (J : Job) (frame : Frame) (st : State) where
   abbrev L : List Step
@@ -54,7 +56,8 @@ module _ (J : Job) (frame : Frame) (st : State) where
       → ((a : ℕ) → a < frame .actions → has undecided a ≡ true → has left a ≡ false → Barred J frame st a)
       → DeadFor J frame (OpenIn frame st left) L → DeadFor J frame (OpenIn frame st undecided) L
   dead-past-barred count undecided left barred =
-      dead-when-barred J (frame .first) (frame .goal) (frame .horizon) t (λ a. not (has undecided a)) (λ a. not (has left a)) L
+      dead-when-barred J (frame .first) (frame .goal) (frame .horizon) t (λ a. not (has undecided a))
+      (λ a. not (has left a)) L
       (λ a known before now fits.
       barred a (omega arith) (not-false (has undecided a) before) (not-true (has left a) now) fits)
 

@@ -97,7 +97,8 @@ module _ (sets numbers times : List ℕ) (frame : Frame) (whole : Whole sets num
       let minute = begins .minute in
       record {
         inTime = omega arith;
-        wants = rw (begins .wanted, begins .minute, no-steps) (sym (wanted-at-horizon (frame .goal) [] (frame .horizon)));
+        wants = rw (begins .wanted, begins .minute, no-steps)
+            (sym (wanted-at-horizon (frame .goal) [] (frame .horizon)));
         at = rw (begins .minute) (begins .at J (described .each));
         uses = rw (begins .minute) (begins .uses .looks J sets (described .each));
         twice = λ n h. absurd (true≢false (sym h ∙ ap (λ (set : ℕ). has set n) (begins .twice) ∙ has-zero n));

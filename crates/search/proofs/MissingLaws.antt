@@ -62,8 +62,8 @@ module _ (J : Job) (sets numbers : List ℕ) (frame : Frame) (described : Descri
       let more = leb-false
       (sumOver (shareFrom numbers (rowAt store)) 64 missing + 2520 * getD (st .uses .spent) store 0)
       (2520 * getD (frame .stocks) store 0) fails in
-      dead-when-store-short J (frame .first) (frame .goal) (frame .horizon) (st .minute) (omega arith) (stands .inTime) L
-      (J .start) base 64 (markAt sets) (marked .landmarks) (shareFrom numbers (rowAt store)) store known 2520
+      dead-when-store-short J (frame .first) (frame .goal) (frame .horizon) (st .minute) (omega arith) (stands .inTime)
+      L (J .start) base 64 (markAt sets) (marked .landmarks) (shareFrom numbers (rowAt store)) store known 2520
       (marked .stores store few known) (rw (same ∙ missing-of, used, stock) at more)
 
   pub dead-when-minutes-exceeded : (missing minutes : ℕ) → frame .first ≤ st .minute → Missing sets st missing
@@ -71,12 +71,13 @@ module _ (J : Job) (sets numbers : List ℕ) (frame : Frame) (described : Descri
       → DeadFor J frame (Until (frame .first) (st .minute)) L
   dead-when-minutes-exceeded missing minutes after same clique exceeds =
       dead-when-clique-too-long J (frame .first) (frame .goal) (frame .horizon) (st .minute) after (stands .inTime) L
-      (J .start) base 64 (markAt sets) (marked .landmarks) (apartAt sets) (leastAt numbers) (marked .cliques) (clique .0)
-      minutes (rw (same ∙ missing-of) at (clique .1)) exceeds
+      (J .start) base 64 (markAt sets) (marked .landmarks) (apartAt sets) (leastAt numbers) (marked .cliques)
+      (clique .0) minutes (rw (same ∙ missing-of) at (clique .1)) exceeds
 
   pub dead-when-pool-exceeded : (pool missing used : ℕ) → pool < 4 → pool < frame .pools → Missing sets st missing
       → UsedBefore numbers (frame .actions) (st .steps) pool (st .minute) (st .steps .count) used
-      → fits numbers (4 + pool) missing used (getD (frame .available) pool 0 * (st .minute - openAt numbers pool)) ≡ false
+      → fits numbers (4 + pool) missing used
+      (getD (frame .available) pool 0 * (st .minute - openAt numbers pool)) ≡ false
       → DeadFor J frame (Until (frame .first) (st .minute)) L
   dead-when-pool-exceeded pool missing used few inside same usedBefore fails =
       let count = described .pools in

@@ -39,7 +39,8 @@ use Rattle.search.proofs.BarredActions.{stops, wanted-still, lasting, n
 minute-as : (t t′ : ℕ) (L L′ : List Step) (m : Minute) → t ≡ t′ → L ≡ L′ → MinuteOf t L m → MinuteOf t′ L′ m
 minute-as t t′ L L′ m e f h = rw (← e, ← f) h
 
-uses-as : (J : Job) (t t′ : ℕ) (L L′ : List Step) (uses : Uses) → t ≡ t′ → L ≡ L′ → UsesOf J t L uses → UsesOf J t′ L′ uses
+uses-as : (J : Job) (t t′ : ℕ) (L L′ : List Step) (uses : Uses) → t ≡ t′ → L ≡ L′ → UsesOf J t L uses
+    → UsesOf J t′ L′ uses
 uses-as J t t′ L L′ uses e f h = rw (← e, ← f) h
 
 twice-in-more : (t n : ℕ) (x : Step) (L : List Step) → AddedTwice t n L → AddedTwice t n (x ∷ L)
@@ -108,9 +109,11 @@ module _ (J : Job) (sets numbers : List ℕ) (frame : Frame) (described : Descri
     ends-now = stops J sets numbers frame described st known-steps stands i known fits-in-job
 
     -- a fact that x adds, and a step of L that stops now
-    added-again : (n : ℕ) → has (st .at .added) n ≡ true → has (addsAt sets i) n ≡ true → AddedTwice (st .minute) n (x ∷ L)
+    added-again : (n : ℕ) → has (st .at .added) n ≡ true → has (addsAt sets i) n ≡ true
+        → AddedTwice (st .minute) n (x ∷ L)
     added-again n h k =
-        let p = in-unionOf-from (λ y. cond (eqb (y .stop) (st .minute)) (y .action .adds) 0) n L (rw (stands .at .added) at h) in
+        let p = in-unionOf-from (λ y. cond (eqb (y .stop) (st .minute)) (y .action .adds) 0) n L
+        (rw (stands .at .added) at h) in
         let y : Step = p .0 in
         let c = in-cond-parts (eqb (y .stop) (st .minute)) (y .action .adds) n (p .3) in
         let stop = eqb-true (y .stop) (st .minute) (c .0) in
@@ -180,7 +183,8 @@ module _ (J : Job) (sets numbers : List ℕ) (frame : Frame) (described : Descri
           wants = taken .wanted
               ∙ sym (wanted-still J sets numbers frame described st known-steps stands i known fits-in-job)
               ∙ ap (wantedAt (frame .goal) (x ∷ L) (frame .horizon)) ends-now
-              ∙ sym (ap₂ (λ (P : List Step) (t : ℕ). wantedAt (frame .goal) P (frame .horizon) t) chosen-taken (taken .minute));
+              ∙ sym (ap₂ (λ (P : List Step) (t : ℕ). wantedAt (frame .goal) P (frame .horizon) t)
+              chosen-taken (taken .minute));
           at = minute-as (st .minute) (r .minute) _ (chosen J (r .steps)) (r .at) (sym (taken .minute))
               (ap (λ (s : ℕ). stepOf J i s ∷ L) same-start ∙ sym chosen-taken)
               (taken .at J (described .each i known) L (stands .at));
@@ -219,8 +223,10 @@ module _ (J : Job) (sets numbers : List ℕ) (frame : Frame) (described : Descri
         inTime = omega arith;
         wants = back .wanted
             ∙ ap₂ union (ap₂ difference (stands .wants) (back .isGone J (described .each))) (at .needed)
-            ∙ sym (wanted-back-to (frame .goal) (chosen J (st .steps)) (frame .horizon) (st .minute) in-time s earlier no-start)
-            ∙ sym (ap₂ (λ (P : List Step) (t : ℕ). wantedAt (frame .goal) P (frame .horizon) t) chosen-back (back .minute));
+            ∙ sym (wanted-back-to (frame .goal) (chosen J (st .steps)) (frame .horizon) (st .minute) in-time s earlier
+            no-start)
+            ∙ sym (ap₂ (λ (P : List Step) (t : ℕ). wantedAt (frame .goal) P (frame .horizon) t)
+            chosen-back (back .minute));
         at = minute-as s (r .minute) _ (chosen J (r .steps)) (r .at) (sym (back .minute)) (sym chosen-back) at;
         uses = uses-as J s (r .minute) _ (chosen J (r .steps)) (r .uses) (sym (back .minute)) (sym chosen-back)
             (back .uses .looks J sets (described .each));

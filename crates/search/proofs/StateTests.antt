@@ -85,8 +85,8 @@ module _ (J : Job) (sets numbers : List ℕ) (frame : Frame) (described : Descri
       let a : AddedTwice t n L = stands .twice n h in
       ⊎-elim
       (λ e.
-      by-other n (a .other) (a .otherIn) (λ f. a .different (eqb-true (a .one .number) number e ∙ sym f)) (a .otherStops)
-      (a .otherAdds))
+      by-other n (a .other) (a .otherIn) (λ f. a .different (eqb-true (a .one .number) number e ∙ sym f))
+      (a .otherStops) (a .otherAdds))
       (λ e. by-other n (a .one) (a .oneIn) (eqb-false (a .one .number) number e) (a .oneStops) (a .oneAdds))
       (decided (eqb (a .one .number) number))
 
@@ -99,8 +99,9 @@ module _ (J : Job) (sets numbers : List ℕ) (frame : Frame) (described : Descri
       (λ h. h)
       (decided (has (union (st .at .held) (st .twice)) n))
 
-  pub dead-when-adding-nothing-alone : meets (difference (addsAt sets number) (union (st .at .held) (st .twice))) (st .wanted)
-      ≡ false → DeadFor J frame (Until (frame .first) (st .minute)) L
+  pub dead-when-adding-nothing-alone :
+      meets (difference (addsAt sets number) (union (st .at .held) (st .twice))) (st .wanted) ≡ false
+      → DeadFor J frame (Until (frame .first) (st .minute)) L
   unfolding solelyProvides
   dead-when-adding-nothing-alone h =
       let s = stops-now in
@@ -110,7 +111,8 @@ module _ (J : Job) (sets numbers : List ℕ) (frame : Frame) (described : Descri
       (λ n a w.
       let parts = in-difference-parts (x .action .adds) (unionOf (provided x) L) n a in
       not-in-both _ (st .wanted) n h
-      (in-difference (addsAt sets number) _ n (rw (described .each number known .adds) (parts .0)) (unprovided n (parts .1)))
+      (in-difference (addsAt sets number) _ n (rw (described .each number known .adds) (parts .0))
+      (unprovided n (parts .1)))
       (ap (λ (set : ℕ). has set n)
       (stands .wants ∙ sym (ap (wantedAt (frame .goal) L (frame .horizon)) stops-now))
       ∙ w)))

@@ -57,13 +57,13 @@ module _ (sets numbers times : List ℕ) (frame : Frame) (st : State) (ready : R
   module _ (J : Job) (file : List ℕ) (task : TaskOf J file sets numbers times frame) (stands : Stands J frame st) where
     pub stands-taken : Stands J frame r
     stands-taken =
-        taken-stands J sets numbers frame (task .described) st (ready .safe .known) i known (may .room refl) (may .fits refl) r
-        taken stands (may .apart refl) (ready .safe .since)
+        taken-stands J sets numbers frame (task .described) st (ready .safe .known) i known (may .room refl)
+        (may .fits refl) r taken stands (may .apart refl) (ready .safe .since)
 
     steps-taken : chosen J (r .steps) ≡ nextStep J st i ∷ chosen J (st .steps)
     steps-taken =
-        chosen-taken J sets numbers frame (task .described) st (ready .safe .known) i known (may .room refl) (may .fits refl) r
-        taken
+        chosen-taken J sets numbers frame (task .described) st (ready .safe .known) i known (may .room refl)
+        (may .fits refl) r taken
 
     dead-as : (X : ℕ → Step → Type 0) {t t′ : ℕ} {L L′ : List Step} → t ≡ t′ → L ≡ L′ → DeadFor J frame (X t) L
         → DeadFor J frame (X t′) L′
@@ -81,8 +81,8 @@ module _ (sets numbers times : List ℕ) (frame : Frame) (st : State) (ready : R
         (dead-as (Until (frame .first)) (taken .minute) steps-taken dead)
 
 -- ---- back to the event before
-module _ (sets numbers times : List ℕ) (frame : Frame) (st : State) (ready : Ready sets numbers times frame st) (r : State)
-    (back : Back sets numbers (frame .actions) (r .minute) st r) (notBefore : frame .first ≤ r .minute)
+module _ (sets numbers times : List ℕ) (frame : Frame) (st : State) (ready : Ready sets numbers times frame st)
+    (r : State) (back : Back sets numbers (frame .actions) (r .minute) st r) (notBefore : frame .first ≤ r .minute)
     (earlier : r .minute < st .minute) (none : NoStartBetween (st .steps) (r .minute) (st .minute)) where
   pub ready-back : Ready sets numbers times frame r
   ready-back =

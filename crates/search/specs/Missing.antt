@@ -27,7 +27,8 @@ pub record Marked (J : Job) (sets numbers : List ℕ) (frame : Frame) : Type 0 w
   pub stores : (store : ℕ) → store < 4 → store < length (J .stores)
       → Shares J (J .start) (shareFrom numbers (rowAt store)) 64 (λ a. 2520 * getD (a .stores) store 0)
   pub pools : (pool : ℕ) → pool < 4 → pool < length (J .pools)
-      → Shares J (J .start) (shareFrom numbers (rowAt (4 + pool))) 64 (λ a. 2520 * (getD (a .pools) pool 0 * a .duration))
+      → Shares J (J .start) (shareFrom numbers (rowAt (4 + pool))) 64
+      (λ a. 2520 * (getD (a .pools) pool 0 * a .duration))
   pub opens : (pool : ℕ) → pool < 4 → pool < length (J .pools) → OpensAt J pool (openAt numbers pool)
   pub cliques : Cliques J 64 (apartAt sets) (leastAt numbers)
 
@@ -47,7 +48,8 @@ DeadUnlessSuffices sets numbers frame st test =
 
 -- the row's shares of a set, and what is used besides, are at most so much
 abbrev pub fits : List ℕ → ℕ → ℕ → ℕ → ℕ → Bool
-fits numbers row missing used most = leb (sumOver (shareFrom numbers (rowAt row)) 64 missing + 2520 * used) (2520 * most)
+fits numbers row missing used most =
+    leb (sumOver (shareFrom numbers (rowAt row)) 64 missing + 2520 * used) (2520 * most)
 
 -- what the first k steps use of the pool before t, each minute for itself
 abbrev pub UsedBefore : List ℕ → ℕ → Steps → ℕ → ℕ → ℕ → ℕ → Type 0

@@ -40,8 +40,8 @@ fn latest_start(numbers: &[u32], frame: Frame, st: State, left: u64, from: u16) 
     m
 }
 
-// Whether what is wanted, and added neither now nor by the actions left, and what the steps that run in the minute before
-// need, can hold at the event minute before.
+// Whether what is wanted, and added neither now nor by the actions left, and what the steps that run in the minute
+// before need, can hold at the event minute before.
 pub fn in_time(
     sets: &[u64],
     numbers: &[u32],
@@ -53,7 +53,8 @@ pub fn in_time(
     requires { ⌜ Lent (now sets) (now numbers) (frame .actions) × Known (frame .actions) (st .steps)
         × (length (now times) ≡ 2080) × (frame .facts ≤ 64) × FitAll (now numbers) frame st left
         × (frame .first < st .minute) ⌝ }
-    ensures { λ r. ⌜ DeadUnlessCarried (now (sets .entry)) (now (numbers .entry)) (now (times .entry)) frame st left r ⌝ }
+    ensures { λ r. ⌜ DeadUnlessCarried (now (sets .entry)) (now (numbers .entry)) (now (times .entry))
+        frame st left r ⌝ }
 {
     let steps = st.steps;
     let last = moves::event(steps, frame.first, st.minute);

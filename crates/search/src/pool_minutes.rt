@@ -1,4 +1,5 @@
-// The minutes of a pool: what there is of it before a minute, and what the chosen steps use of that, each minute for itself.
+// The minutes of a pool: what there is of it before a minute, and what the chosen steps use of that,
+// each minute for itself.
 ghost use mathlib.Core.Path.{_≡_};
 ghost use Prim.Native.Nat.{_+_, _*_, _-_, _^_, _≤_, _<_, min};
 ghost use lib.ListN.{length};

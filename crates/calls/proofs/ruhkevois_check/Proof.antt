@@ -32,7 +32,8 @@ checked-requires c κs = search needs
 returns-2 : tie.Need-returns-2
 returns-2 c =
     let c-read = c .before .before .before .before .read in
-    c .checked .ensures ∙ check-accepted _ _ (c-read .ensures) (c .before .before .enum-told .given .1) _ _ (c .before .check .ensures)
+    c .checked .ensures
+    ∙ check-accepted _ _ (c-read .ensures) (c .before .before .enum-told .given .1) _ _ (c .before .check .ensures)
 
 pub ruhkevois-check-spec : {M : Type 1} → statement M
 ruhkevois-check-spec =

@@ -31,7 +31,8 @@ told-requires c κs = search needs
 returns-2 : tie.Need-returns-2
 returns-2 c =
     let c-read = c .before .before .before .before .read in
-    earliest-accepted _ _ (c-read .ensures) (c .before .before .enum-told .given .1) _ _ _ (c .before .earliest .ensures) (c .told .ensures)
+    earliest-accepted _ _ (c-read .ensures) (c .before .before .enum-told .given .1) _ _ _
+    (c .before .earliest .ensures) (c .told .ensures)
 
 pub ruhkevois-earliest-spec : {M : Type 1} → statement M
 ruhkevois-earliest-spec =

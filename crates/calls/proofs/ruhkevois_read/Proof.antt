@@ -28,7 +28,8 @@ enum-told c = search needs
 
 cast-pack : tie.Need-cast-pack
 cast-pack c =
-    let short = accepted-file-is-short _ (verdict-of-file _ _ (c .before .before .read .ensures) Pass (c .enum-told .given .1)) in
+    let passed = verdict-of-file _ _ (c .before .before .read .ensures) Pass (c .enum-told .given .1) in
+    let short = accepted-file-is-short _ passed in
     record { fits = omega arith }
 
 pack-requires : tie.Need-pack-requires

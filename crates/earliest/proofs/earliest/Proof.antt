@@ -31,7 +31,8 @@ returns-2 : tie.Need-returns-2
 returns-2 c =
     let c-args = c .before .before .before .before .before .args in
     let c-validate = c .before .before .before .before .validate in
-    answers-foreign (jobIn (c-args .job)) (c-args .set) (sym (c-validate .ensures) ∙ c .before .before .enum-told .given .1) (sym (c .before .foreign .ensures .0) ∙ c .if1 .taken)
+    let pass = sym (c-validate .ensures) ∙ c .before .before .enum-told .given .1 in
+    answers-foreign (jobIn (c-args .job)) (c-args .set) pass (sym (c .before .foreign .ensures .0) ∙ c .if1 .taken)
 
 slice-aggregate-fill : tie.Need-slice-aggregate-fill
 slice-aggregate-fill c = search needs
@@ -69,7 +70,8 @@ returns-3 c =
     let c-if1 = c .before .before .before .before .before .before .if1 in
     let c-fill = c .before .before .before .before .fill in
     let pass = sym (c-validate .ensures) ∙ c-enum-told .given .1 in
-    answers-time (jobIn (c-args .job)) (c-args .set) pass (sym (c-foreign .ensures .0) ∙ c-if1 .left) _ (c-fill .ensures) _ (c .before .set-time .ensures) _ (c .answer .ensures)
+    answers-time (jobIn (c-args .job)) (c-args .set) pass (sym (c-foreign .ensures .0) ∙ c-if1 .left)
+    _ (c-fill .ensures) _ (c .before .set-time .ensures) _ (c .answer .ensures)
 
 pub earliest-spec : {M : Type 1} → statement M
 earliest-spec =

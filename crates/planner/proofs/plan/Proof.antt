@@ -40,8 +40,8 @@ returns-3 c =
     let c-enum-told = c .before .before .before .enum-told in
     let c-solve = c .before .solve in
     let pass = sym (c-validate .ensures) ∙ c-enum-told .given .1 in
-    plans-none (jobIn (c-args .job)) (c-args .out .now) pass (c .before .before .if1 .left) (c-solve .result) (c-solve .ensures)
-    (not-true (c-solve .result .found) (c .if2 .taken))
+    plans-none (jobIn (c-args .job)) (c-args .out .now) pass (c .before .before .if1 .left) (c-solve .result)
+    (c-solve .ensures) (not-true (c-solve .result .found) (c .if2 .taken))
 
 copy-plan-requires : tie.Need-copy-plan-requires
 copy-plan-requires c κs =

@@ -82,7 +82,8 @@ returns c =
     let c-pre = at16 .before .before .before .before .before .pre in
     let c-write = c .before .before .before .before .write in
     absurd
-    (file-not-refused (c-args .job) c-pre _ refl (c-write .result) _ (c-write .ensures) _ (c .before .enum-told .given .1))
+    (file-not-refused (c-args .job) c-pre _ refl (c-write .result) _ (c-write .ensures) _
+    (c .before .enum-told .given .1))
 
 slice-aggregate-shortest : tie.Need-slice-aggregate-shortest
 slice-aggregate-shortest c = search needs
@@ -154,7 +155,8 @@ returns-2 c =
     (ap (λ (f : Frame). f .goal) (c-of .ensures)) (ap (λ (f : Frame). f .horizon) (c-of .ensures))
     (λ e.
     let f = c .shortest .ensures .found e (jobIn job) task within in (f .0, λ bytes accepted l. f .1 bytes accepted))
-    (λ e bytes accepted l. let late = c .shortest .ensures .none e (jobIn job) task within bytes accepted in omega arith)
+    (λ e bytes accepted l.
+    let late = c .shortest .ensures .none e (jobIn job) task within bytes accepted in omega arith)
 
 pub solve-spec : {M : Type 1} → statement M
 solve-spec =

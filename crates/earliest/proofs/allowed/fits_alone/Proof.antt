@@ -13,7 +13,8 @@ use Rattle.earliest.proofs.allowed.fits_alone.Statement.{statement}
 use Rattle.earliest.proofs.allowed.fits_alone.Tie as tie
 
 abbrev Inv-loop : tie.InvT-loop
-Inv-loop pools available a k₀ k = (k ≤ pools) × (anyBelow k (λ i. over (getD available i 0) (getD (a .pools) i 0)) ≡ false)
+Inv-loop pools available a k₀ k =
+    (k ≤ pools) × (anyBelow k (λ i. over (getD available i 0) (getD (a .pools) i 0)) ≡ false)
 
 abbrev μ-loop : tie.MeasureT-loop
 μ-loop pools available a k₀ k = pools - k
@@ -40,7 +41,8 @@ returns c =
     let at = c-args in
     let k = c-loop .k in
     let test : ℕ → Bool = λ i. over (getD (at .t2) i 0) (getD (at .t3 .pools) i 0) in
-    sym (ap not (below-found (at .pools) test k (omega arith) (lt-ltb (getD (at .t2) k 0) (getD (at .t3 .pools) k 0) (omega arith))))
+    let found = lt-ltb (getD (at .t2) k 0) (getD (at .t3 .pools) k 0) (omega arith) in
+    sym (ap not (below-found (at .pools) test k (omega arith) found))
 
 add-k : tie.Need-add-k Inv-loop μ-loop
 add-k c = omega arith
@@ -54,8 +56,10 @@ loop-again c =
     let c-loop = c .before .before .before .loop in
     let at = c-args in
     let k = c-loop .k in
-    let test : ℕ → Bool = λ i. over (getD (at .t2) i 0) (getD (at .t3 .pools) i 0) in
-    (omega arith, below-more k test ∙ rw (le-ltb (getD (at .t2) k 0) (getD (at .t3 .pools) k 0) (omega arith), c-loop .inv .1))
+    let test : ℕ → Bool = λ i. over (getD (at .t2) i 0) (getD (at .t3 .pools) i 0) in (
+      omega arith,
+      below-more k test ∙ rw (le-ltb (getD (at .t2) k 0) (getD (at .t3 .pools) k 0) (omega arith), c-loop .inv .1),
+    )
 
 returns-2 : tie.Need-returns-2 Inv-loop μ-loop
 returns-2 c =

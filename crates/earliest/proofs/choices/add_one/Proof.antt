@@ -49,7 +49,8 @@ loop-again c =
       lowers .0,
       λ J i n able is fits.
           let before = inv .2 J i n able is fits in
-          below-next J (CarriedSettled J i) (c-loop .q) _ xs _ _ _ before (lowers .1 J i n (lowerable-on J _ _ xs _ able before) is fits (omega arith)),
+          below-next J (CarriedSettled J i) (c-loop .q) _ xs _ _ _ before
+          (lowers .1 J i n (lowerable-on J _ _ xs _ able before) is fits (omega arith)),
     )
 
 same-length : tie.Need-same-length Inv-loop μ-loop

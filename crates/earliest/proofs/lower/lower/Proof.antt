@@ -23,8 +23,11 @@ returns c =
     let c-args = c .before .before .before .before .args in
     let c-place = c .before .before .place in
     let h = c-pre in
-    let at = c-place .ensures in
-    (h .0, entry-stays (c-args .table .now) (c-args .p) (c-args .q) (c-args .time) (c-place .result) (at .0) (omega arith) (omega arith))
+    let at = c-place .ensures in (
+      h .0,
+      entry-stays (c-args .table .now) (c-args .p) (c-args .q) (c-args .time) (c-place .result) (at .0)
+          (omega arith) (omega arith),
+    )
 
 mul-table : tie.Need-mul-table
 mul-table c = search needs
@@ -41,8 +44,11 @@ returns-2 c =
     let c-args = c .before .before .before .before .args in
     let c-place = c .before .before .place in
     let h = c-pre in
-    let at = c-place .ensures in
-    (length-set (c-args .table .now) (c-place .result) (c-args .time) ∙ h .0, entry-lowered (c-args .table .now) (c-args .p) (c-args .q) (c-args .time) (c-place .result) (at .0) (omega arith) (omega arith))
+    let at = c-place .ensures in (
+      length-set (c-args .table .now) (c-place .result) (c-args .time) ∙ h .0,
+      entry-lowered (c-args .table .now) (c-args .p) (c-args .q) (c-args .time) (c-place .result) (at .0)
+          (omega arith) (omega arith),
+    )
 
 pub lower-spec : {M : Type 1} → statement M
 lower-spec =

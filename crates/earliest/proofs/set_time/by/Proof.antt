@@ -38,7 +38,8 @@ returns c =
     let at = c-args in
     let late = c-row-by .ensures (not-true (c-row-by .result) (c .if1 .taken)) in
     let member = c-loop .inv .1 (omega arith) in
-    let least = member-at-most-latest (at .set) (λ q. rowNumber (at .table .now) (at .set) q (suc q)) (at .facts) (c-loop .high) (omega arith) member in
+    let least = member-at-most-latest (at .set) (λ q. rowNumber (at .table .now) (at .set) q (suc q)) (at .facts)
+    (c-loop .high) (omega arith) member in
     λ e. omega arith
 
 add-next : tie.Need-add-next Inv-loop μ-loop

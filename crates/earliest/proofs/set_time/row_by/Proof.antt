@@ -59,7 +59,8 @@ returns c =
     let value = entry-read (at .table .now) (c-entry .result) (c-loop .low) (at .high) (h .0) (c-entry .ensures .0)
     (omega arith) (h .1) in
     let member = c-loop .inv .1 (omega arith) in
-    let least = member-at-most-latest (at .set) (λ p. getD (at .table .now) (entryOf p (at .high)) none) (suc (at .high)) (c-loop .low) (omega arith) member in
+    let least = member-at-most-latest (at .set) (λ p. getD (at .table .now) (entryOf p (at .high)) none)
+    (suc (at .high)) (c-loop .low) (omega arith) member in
     λ e. omega arith
 
 add-next : tie.Need-add-next Inv-loop μ-loop

@@ -60,8 +60,8 @@ returns c =
     let c-loop = c .before .before .before .before .loop in
     let c-later = c .before .later in
     let h = c-pre in
-    let value = entry-read (c-args .table .now) (c-entry .result) (c-loop .low) (c-args .high) (h .0) (c-entry .ensures .0)
-    (omega arith) (h .1) in
+    let value = entry-read (c-args .table .now) (c-entry .result) (c-loop .low) (c-args .high) (h .0)
+    (c-entry .ensures .0) (omega arith) (h .1) in
     counted-late _ _ _ (c-loop .low) (c-loop .latest) _ (c-later .result) (c-loop .inv) (omega arith) (omega arith)
     (inl value)
     (c-later .ensures) (c .if1 .taken)
@@ -87,8 +87,8 @@ loop-again c =
     let c-loop = c .before .before .before .before .before .loop in
     let c-later = c .before .before .later in
     let h = c-pre in
-    let value = entry-read (c-args .table .now) (c-entry .result) (c-loop .low) (c-args .high) (h .0) (c-entry .ensures .0)
-    (omega arith) (h .1) in
+    let value = entry-read (c-args .table .now) (c-entry .result) (c-loop .low) (c-args .high) (h .0)
+    (c-entry .ensures .0) (omega arith) (h .1) in
     counted-on _ _ _ (c-loop .low) (c-loop .latest) _ (c-later .result) (c .next2 .result) (c-loop .inv) (omega arith)
     (omega arith) (inl value) (c-later .ensures) (c .before .if1 .left) (c .next2 .ensures)
 

@@ -32,7 +32,8 @@ loop-holds : tie.Need-loop-holds Inv-loop μ-loop
 loop-holds c =
     let c-pre = c .before .before .before .before .pre in
     let c-args = c .before .before .before .before .args in
-    (omega arith, c-pre .0, λ able. below-at-first (jobIn (c-args .t2)) (JoinedSettled (jobIn (c-args .t2)) (c-args .i)) _ (able .kept))
+    let job = c-args .t2 in
+    (omega arith, c-pre .0, λ able. below-at-first (jobIn job) (JoinedSettled (jobIn job) (c-args .i)) _ (able .kept))
 
 mul-b : tie.Need-mul-b Inv-loop μ-loop
 mul-b c = omega arith
@@ -74,7 +75,8 @@ loop-again c =
       λ able.
           let before = inv .2 able in
           below-next (jobIn job) (JoinedSettled (jobIn job) i) j _ xs _ _ _ before
-          (lowers .1 (jobIn job) (job .counts) (lowerable-on (jobIn job) _ _ xs _ able before) (has-pools job) (is-action job i (h .3)) (is-action job j (c-if1 .taken))),
+          (lowers .1 (jobIn job) (job .counts) (lowerable-on (jobIn job) _ _ xs _ able before) (has-pools job)
+          (is-action job i (h .3)) (is-action job j (c-if1 .taken))),
     )
 
 same-length : tie.Need-same-length Inv-loop μ-loop
@@ -88,7 +90,8 @@ returns c =
     let c-loop = c .before .before .loop in
     let inv = c-loop .inv in
     let job = c-args .t2 in
-    let all : c-loop .j ≡ length (jobIn job .actions) = rw (length-tabulate (job .counts .actions) (actionAt job)) (omega arith) in
+    let all : c-loop .j ≡ length (jobIn job .actions) =
+    rw (length-tabulate (job .counts .actions) (actionAt job)) (omega arith) in
     (inv .1, λ able. rw all at (inv .2 able))
 
 pub add-each-with-spec : {M : Type 1} → statement M

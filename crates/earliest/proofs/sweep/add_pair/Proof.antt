@@ -18,7 +18,11 @@ returns c =
     let c-pre = c .before .before .before .pre in
     let c-may-join = c .before .may-join in
     let at = c-args in
-    (c-pre .0, not-joined-lowers (at .facts) (at .pools) (at .available) (at .i) (at .j) (at .a) (at .b) (c-may-join .result) (c-may-join .ensures) (not-true (c-may-join .result) (c .if1 .taken)) (at .table .now))
+    let apart = not-true (c-may-join .result) (c .if1 .taken) in (
+      c-pre .0,
+      not-joined-lowers (at .facts) (at .pools) (at .available) (at .i) (at .j) (at .a) (at .b)
+          (c-may-join .result) (c-may-join .ensures) apart (at .table .now),
+    )
 
 add-each-requires : tie.Need-add-each-requires
 add-each-requires c κs =
@@ -35,7 +39,11 @@ returns-2 c =
     let c-if1 = c .before .before .before .before .if1 in
     let at = c-args in
     let lowers = c .before .before .add-each .ensures in
-    (lowers .0, joined-lowers (at .facts) (at .pools) (at .available) (at .i) (at .j) (at .a) (at .b) (c-may-join .result) (c-may-join .ensures) (not-false (c-may-join .result) (c-if1 .left)) (at .table .now) _ _ (lowers .1))
+    let joined = not-false (c-may-join .result) (c-if1 .left) in (
+      lowers .0,
+      joined-lowers (at .facts) (at .pools) (at .available) (at .i) (at .j) (at .a) (at .b)
+          (c-may-join .result) (c-may-join .ensures) joined (at .table .now) _ _ (lowers .1),
+    )
 
 pub add-pair-spec : {M : Type 1} → statement M
 add-pair-spec =

@@ -23,7 +23,8 @@ abbrev μ-loop : tie.MeasureT-loop
 
 loop-holds : tie.Need-loop-holds Inv-loop μ-loop
 loop-holds c =
-    (omega arith, c .before .before .pre .0, λ able. below-at-first (jobIn (c .before .before .args .job)) (ActionDone (jobIn (c .before .before .args .job))) _ (able .kept))
+    let job = c .before .before .args .job in
+    (omega arith, c .before .before .pre .0, λ able. below-at-first (jobIn job) (ActionDone (jobIn job)) _ (able .kept))
 
 by-action-requires : tie.Need-by-action-requires Inv-loop μ-loop
 by-action-requires c κs =
@@ -50,7 +51,8 @@ loop-again c =
       lowers .0,
       λ able.
           let before = inv .2 able in
-          below-next (jobIn job) (ActionDone (jobIn job)) (c-loop .i) _ xs _ _ _ before (lowers .1 (lowerable-on (jobIn job) _ _ xs _ able before)),
+          below-next (jobIn job) (ActionDone (jobIn job)) (c-loop .i) _ xs _ _ _ before
+          (lowers .1 (lowerable-on (jobIn job) _ _ xs _ able before)),
     )
 
 same-length : tie.Need-same-length Inv-loop μ-loop
@@ -64,7 +66,8 @@ returns c =
     let c-loop = c .before .before .loop in
     let inv = c-loop .inv in
     let job = c-args .job in
-    let all : c-loop .i ≡ length (jobIn job .actions) = rw (length-tabulate (job .counts .actions) (actionAt job)) (omega arith) in
+    let all : c-loop .i ≡ length (jobIn job .actions) =
+    rw (length-tabulate (job .counts .actions) (actionAt job)) (omega arith) in
     (inv .1, λ able. rw all at (inv .2 able))
 
 pub by-actions-spec : {M : Type 1} → statement M

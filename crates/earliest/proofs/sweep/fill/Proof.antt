@@ -47,12 +47,16 @@ loop-again : tie.Need-loop-again Inv-loop μ-loop
 loop-again c =
     let c-loop = c .before .before .before .before .before .loop in
     let sweeps = c .before .before .sweep .ensures in
-    let lowering = sweeps .1 (c-loop .inv .1) in
-    (sweeps .0, lowerable-on _ _ (c-loop .table) _ _ (c-loop .inv .1) lowering, settled-after _ _ (c-loop .table) _ _ lowering)
+    let lowering = sweeps .1 (c-loop .inv .1) in (
+      sweeps .0,
+      lowerable-on _ _ (c-loop .table) _ _ (c-loop .inv .1) lowering,
+      settled-after _ _ (c-loop .table) _ _ lowering,
+    )
 
 same-length : tie.Need-same-length Inv-loop μ-loop
 same-length c =
-    let h = c .before .before .before .pre in c .before .loop .inv .0 ∙ sym (ap length (h .0) ∙ length-replicate 2080 none)
+    let h = c .before .before .before .pre in
+    c .before .loop .inv .0 ∙ sym (ap length (h .0) ∙ length-replicate 2080 none)
 
 returns : tie.Need-returns Inv-loop μ-loop
 returns c =

@@ -1,4 +1,5 @@
--- `compare::same_actions` is safe and ends. The measure is the number of actions left; nothing else is kept from turn to turn.
+-- `compare::same_actions` is safe and ends. The measure is the number of actions left;
+-- nothing else is kept from turn to turn.
 -- Assumes nothing.
 use Prim.Native.Nat.{_-_}
 use borrow.Author.Needs.{needs}

@@ -1,4 +1,5 @@
--- `values::one_by_one` is safe and ends. The measure is the next refusal's number; nothing else is kept from turn to turn.
+-- `values::one_by_one` is safe and ends. The measure is the next refusal's number;
+-- nothing else is kept from turn to turn.
 -- Assumes nothing.
 use borrow.Author.Needs.{needs}
 use Rattle.file_cases.proofs.values.one_by_one.Statement.{statement}

@@ -55,8 +55,9 @@ returns-2 c =
     let at = c-args in
     let away = sym (c-has .ensures) ∙ c-if1 .left in
     let inside = c .subset .ensures .1 .sound e in
+    let is = c .before .union .ensures .0 ∙ ap (λ (set : ℕ). union set (c-of-adders .result)) (c-single .ensures) in
     closed-by-adders (at .sets .now) (at .actions) (at .start) (at .q) away (c-of-adders .result) (c-of-adders .ensures)
-    (λ n h. ap (λ (set : ℕ). has set n) (sym (c .before .union .ensures .0 ∙ ap (λ (set : ℕ). union set (c-of-adders .result)) (c-single .ensures))) ∙ inside n h)
+    (λ n h. ap (λ (set : ℕ). has set n) (sym is) ∙ inside n h)
 
 pub closed-at-spec : {M : Type 1} → statement M
 closed-at-spec =

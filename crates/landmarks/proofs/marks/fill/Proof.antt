@@ -31,8 +31,10 @@ returns : tie.Need-returns
 returns c =
     let at8 = c .before .before .before .before .before .before .before .before in
     let c-search = at8 .before .search in
-    let c-begin = c .before .before .begin in
-    (kept-again 256 384 _ _ _ (c-search .ensures) (c-begin .ensures .kept), closed-when-empty _ _ _ _ (c-begin .ensures))
+    let c-begin = c .before .before .begin in (
+      kept-again 256 384 _ _ _ (c-search .ensures) (c-begin .ensures .kept),
+      closed-when-empty _ _ _ _ (c-begin .ensures),
+    )
 
 same-length-2 : tie.Need-same-length-2
 same-length-2 c =

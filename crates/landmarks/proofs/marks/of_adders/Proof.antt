@@ -28,8 +28,10 @@ loop-less c = omega arith
 
 loop-again : tie.Need-loop-again Inv-loop μ-loop
 loop-again c =
-    let c-args = c .before .before .before .before .args in
-    (omega arith, adders-on (c-args .sets .now) (c-args .q) _ _ _ (c .through .ensures) (c .before .before .loop .inv .1))
+    let c-args = c .before .before .before .before .args in (
+      omega arith,
+      adders-on (c-args .sets .now) (c-args .q) _ _ _ (c .through .ensures) (c .before .before .loop .inv .1),
+    )
 
 returns : tie.Need-returns Inv-loop μ-loop
 returns c =

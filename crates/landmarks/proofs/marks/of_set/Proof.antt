@@ -58,7 +58,8 @@ loop-again c =
     let next = c .next2 .ensures in (
       next .within,
       next .found,
-      c .before .union .ensures .0 ∙ ap (union _) (inv .2) ∙ sym (marks-on _ _ (c-loop .q) _ (omega arith) (inv .1 (omega arith)) next),
+      c .before .union .ensures .0 ∙ ap (union _) (inv .2)
+          ∙ sym (marks-on _ _ (c-loop .q) _ (omega arith) (inv .1 (omega arith)) next),
     )
 
 returns : tie.Need-returns Inv-loop μ-loop

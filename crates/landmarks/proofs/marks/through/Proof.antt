@@ -60,7 +60,9 @@ returns-2 c =
     let r = c .common .ensures in
     record {
       inside = λ n h. and-right (has (c-of-set .result) n) _ (sym (r n) ∙ h);
-      adder = λ adds n h. ap (λ (set : ℕ). has set n) (sym (c-of-set .ensures)) ∙ and-left (has (c-of-set .result) n) _ (sym (r n) ∙ h);
+      adder = λ adds n h.
+          ap (λ (set : ℕ). has set n) (sym (c-of-set .ensures))
+          ∙ and-left (has (c-of-set .result) n) _ (sym (r n) ∙ h);
     }
 
 pub through-spec : {M : Type 1} → statement M

@@ -42,7 +42,8 @@ loop-again c =
     let r = c .before .before .fill-row .ensures in (
       omega arith,
       kept-again 576 1156 _ _ _ (inv .1) (kept-less 576 _ 1156 _ _ (omega arith) (r .0)),
-      rows-on (c-args .sets .now) (c-args .start) _ _ (c-args .actions) (c-loop .row) few (omega arith) (r .0) (r .1) (inv .2),
+      rows-on (c-args .sets .now) (c-args .start) _ _ (c-args .actions) (c-loop .row) few (omega arith)
+          (r .0) (r .1) (inv .2),
     )
 
 same-length : tie.Need-same-length Inv-loop μ-loop

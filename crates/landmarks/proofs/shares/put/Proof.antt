@@ -35,7 +35,8 @@ loop-less c = omega arith
 
 loop-again : tie.Need-loop-again Inv-loop μ-loop
 loop-again c =
-    let h = c .before .before .pre in (omega arith, put-on _ _ _ _ (c .before .loop .k) (omega arith) (c .before .loop .inv .1))
+    let h = c .before .before .pre in
+    (omega arith, put-on _ _ _ _ (c .before .loop .k) (omega arith) (c .before .loop .inv .1))
 
 same-length : tie.Need-same-length Inv-loop μ-loop
 same-length c =

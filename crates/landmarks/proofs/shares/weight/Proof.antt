@@ -74,7 +74,8 @@ mul-result c =
     let h = c-pre in
     let small = c-wide2 .ensures .1 in
     let same = c .wide3 .ensures .0 in
-    let most = mul-le-mul {n₁ = c-wide2 .result} {m₁ = c .wide3 .result} {n₂ = 2 ^ 32} {m₂ = 255} (omega arith) (omega arith) in
+    let most = mul-le-mul {n₁ = c-wide2 .result} {m₁ = c .wide3 .result} {n₂ = 2 ^ 32} {m₂ = 255}
+    (omega arith) (omega arith) in
     omega arith
 
 returns-2 : tie.Need-returns-2
@@ -86,7 +87,8 @@ returns-2 c =
     let h = c-pre in
     let small = c-wide2 .ensures .1 in
     let same = c .wide3 .ensures .0 in
-    let most = mul-le-mul {n₁ = c-wide2 .result} {m₁ = c .wide3 .result} {n₂ = 2 ^ 32} {m₂ = 255} (omega arith) (omega arith) in (
+    let most = mul-le-mul {n₁ = c-wide2 .result} {m₁ = c .wide3 .result} {n₂ = 2 ^ 32} {m₂ = 255}
+    (omega arith) (omega arith) in (
       rw (le-ltb (c-args .row) 4 (c-if1 .left)) (ap₂ _*_ (c-wide2 .ensures .0) same),
       omega arith,
     )

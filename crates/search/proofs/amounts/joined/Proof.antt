@@ -48,7 +48,8 @@ returns c =
     let at = c-args in
     let from = c-wide .ensures .0 in
     let stop = c-stop .ensures .0 in
-    joins-uses (at .numbers .now) (at .t) (at .i) (at .start) (at .uses) _ (rw (from, stop) at (c .before .before .plus .ensures))
+    joins-uses (at .numbers .now) (at .t) (at .i) (at .start) (at .uses) _
+    (rw (from, stop) at (c .before .before .plus .ensures))
     (rw (from, stop) at (c .before .plus2 .ensures)) (c .plus3 .ensures)
 
 pub joined-spec : {M : Type 1} → statement M

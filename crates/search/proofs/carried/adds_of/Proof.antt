@@ -21,7 +21,9 @@ next-requires c κs = tt
 
 loop-holds : tie.Need-loop-holds Inv-loop μ-loop
 loop-holds c =
-    let next = c .next .ensures in (next .within, next .found, adds-at-first (c .before .before .args .sets .now) (c .before .before .args .left) _ next)
+    let c-args = c .before .before .args in
+    let next = c .next .ensures in
+    (next .within, next .found, adds-at-first (c-args .sets .now) (c-args .left) _ next)
 
 cast-union : tie.Need-cast-union Inv-loop μ-loop
 cast-union c = omega arith
@@ -56,8 +58,12 @@ loop-again : tie.Need-loop-again Inv-loop μ-loop
 loop-again c =
     let c-args = c .before .before .before .before .before .before .before .args in
     let c-loop = c .before .before .before .before .loop in
-    let next = c .next2 .ensures in
-    (next .within, next .found, adds-on (c-args .sets .now) (c-args .left) (c-loop .k) _ _ _ (c .before .union .ensures .0) next (c-loop .inv .2))
+    let next = c .next2 .ensures in (
+      next .within,
+      next .found,
+      adds-on (c-args .sets .now) (c-args .left) (c-loop .k) _ _ _ (c .before .union .ensures .0) next
+          (c-loop .inv .2),
+    )
 
 returns : tie.Need-returns Inv-loop μ-loop
 returns c =

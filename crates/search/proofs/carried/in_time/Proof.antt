@@ -58,14 +58,15 @@ returns c =
     let few = c-pre .0 .amounts .few in
     let w = c .before .wide .ensures .0 in
     let late = c .by .ensures e in
-    let event = event-before J (at .sets .now) (at .numbers .now) (at .frame) described few (at .st) stands (at .left) _ _
-    (c-event .ensures .2) (c-latest-start .ensures) in
+    let event = event-before J (at .sets .now) (at .numbers .now) (at .frame) described few (at .st) stands (at .left)
+    _ _ (c-event .ensures .2) (c-latest-start .ensures) in
     let is = c-union2 .ensures .0
-    ∙ ap (λ (set : ℕ). union set (at .st .at .held)) (c-difference .ensures .0 ∙ ap (difference (at .st .wanted)) (c-union .ensures .0)) in
+    ∙ ap (λ (set : ℕ). union set (at .st .at .held))
+    (c-difference .ensures .0 ∙ ap (difference (at .st .wanted)) (c-union .ensures .0)) in
     let carried = carried-from J (at .sets .now) (at .numbers .now) (at .frame) described few (at .st) stands (at .left)
     (c-adds-of .result) (c-union2 .result) (c-adds-of .ensures) is in
-    dead-when-carried J (at .frame) (at .times .now) filled (described .facts) (at .st) stands (at .left) _ (c-union2 .result)
-    event carried (omega arith)
+    dead-when-carried J (at .frame) (at .times .now) filled (described .facts) (at .st) stands (at .left) _
+    (c-union2 .result) event carried (omega arith)
 
 pub in-time-spec : {M : Type 1} → statement M
 in-time-spec =

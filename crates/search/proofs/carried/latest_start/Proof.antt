@@ -11,7 +11,8 @@ use Rattle.search.proofs.carried.latest_start.Statement.{statement}
 use Rattle.search.proofs.carried.latest_start.Tie as tie
 
 abbrev Inv-loop : tie.InvT-loop
-Inv-loop numbers st left from m₀ k₀ m k = (k ≤ 64) × (k < 64 → has left k ≡ true) × LatestStart numbers left (st .minute) from k m
+Inv-loop numbers st left from m₀ k₀ m k =
+    (k ≤ 64) × (k < 64 → has left k ≡ true) × LatestStart numbers left (st .minute) from k m
 
 abbrev μ-loop : tie.MeasureT-loop
 μ-loop numbers st left from m₀ k₀ m k = 64 - k
@@ -21,7 +22,13 @@ next-requires c κs = tt
 
 loop-holds : tie.Need-loop-holds Inv-loop μ-loop
 loop-holds c =
-    let next = c .next .ensures in (next .within, next .found, latest-at-first (c .before .before .args .numbers .now) (c .before .before .args .left) (c .before .before .args .st .minute) (c .before .before .args .from) _ (c .before .before .pre .3) next)
+    let c-args = c .before .before .args in
+    let next = c .next .ensures in (
+      next .within,
+      next .found,
+      latest-at-first (c-args .numbers .now) (c-args .left) (c-args .st .minute) (c-args .from) _
+          (c .before .before .pre .3) next,
+    )
 
 start-of-requires : tie.Need-start-of-requires Inv-loop μ-loop
 start-of-requires c κs =
@@ -53,7 +60,8 @@ loop-again c =
     let next = c .next2 .ensures in (
       next .within,
       next .found,
-      latest-on (c-args .numbers .now) (c-args .left) (c-args .st .minute) (c-args .from) (c-loop .k) _ _ _ (c-start-of .result) (c-start-of .ensures) (c .before .later-start .ensures) next (c-loop .inv .2),
+      latest-on (c-args .numbers .now) (c-args .left) (c-args .st .minute) (c-args .from) (c-loop .k) _ _ _
+          (c-start-of .result) (c-start-of .ensures) (c .before .later-start .ensures) next (c-loop .inv .2),
     )
 
 returns : tie.Need-returns Inv-loop μ-loop

@@ -34,7 +34,8 @@ wide-requires c κs = tt
 loop-holds : tie.Need-loop-holds Inv-loop μ-loop
 loop-holds c =
     let c-pre = c .before .before .before .before .before .pre in
-    let h = c-pre in (h .1, omega arith, raised-as _ _ _ _ _ _ _ _ (sym (c .wide .ensures .0)) (λ J task passed before. before))
+    let h = c-pre in
+    (h .1, omega arith, raised-as _ _ _ _ _ _ _ _ (sym (c .wide .ensures .0)) (λ J task passed before. before))
 
 until-requires : tie.Need-until-requires Inv-loop μ-loop
 until-requires c κs = tt
@@ -45,7 +46,8 @@ solve-requires c κs =
     let c-args = at8 .before .args in
     let c-pre = at8 .before .pre in
     let c-loop = c .before .before .before .loop in
-    rw (c .until .ensures) (whole-until (c-args .file .now) _ _ _ (c-args .frame) (c-loop .horizon) (c-loop .inv .0) (c-pre .0))
+    rw (c .until .ensures)
+    (whole-until (c-args .file .now) _ _ _ (c-args .frame) (c-loop .horizon) (c-loop .inv .0) (c-pre .0))
 
 returns : tie.Need-returns Inv-loop μ-loop
 returns c =

@@ -36,8 +36,12 @@ loop-again c =
     let inv = c-loop .inv in
     let i = inv .0 in
     let n = c .before .halve .ensures in
-    let b = n .closer .1 in
-    (omega arith, n .still, (λ J task passed before. n .raised J task passed (inv .2 J task passed before)), λ f. n .found (inv .3 f))
+    let b = n .closer .1 in (
+      omega arith,
+      n .still,
+      (λ J task passed before. n .raised J task passed (inv .2 J task passed before)),
+      λ f. n .found (inv .3 f),
+    )
 
 returns : tie.Need-returns Inv-loop μ-loop
 returns c =

@@ -41,7 +41,8 @@ solve-requires c κs =
     let last = c-args .best .end in
     let m = low + (last - low) / 2 in
     let same : m % 65536 ≡ m = omega arith in
-    rw (c .until .ensures ∙ ap (until (c-args .frame)) same) (whole-until (c-args .file .now) _ _ _ (c-args .frame) m (omega arith) (h .0))
+    rw (c .until .ensures ∙ ap (until (c-args .frame)) same)
+    (whole-until (c-args .file .now) _ _ _ (c-args .frame) m (omega arith) (h .0))
 
 add-t16 : tie.Need-add-t16
 add-t16 c =
@@ -61,10 +62,12 @@ returns c =
     let last = c-args .best .end in
     let m = low + (last - low) / 2 in
     let same : m % 65536 ≡ m = omega arith in
-    let solves = solves-as _ _ _ _ _ _ _ (c .before .before .until .ensures ∙ ap (until (c-args .frame)) same) (c-solve .ensures) in
+    let until-m = c .before .before .until .ensures ∙ ap (until (c-args .frame)) same in
+    let solves = solves-as _ _ _ _ _ _ _ until-m (c-solve .ensures) in
+    let not-found = not-true (c-solve .result .found) (c .if1 .taken) in
     record {
       found = λ f. f;
-      raised = raised-past _ _ _ _ (c-args .frame) m (omega arith) _ solves (not-true (c-solve .result .found) (c .if1 .taken)) low;
+      raised = raised-past _ _ _ _ (c-args .frame) m (omega arith) _ solves not-found low;
       closer = (omega arith, omega arith, omega arith);
       still = h .3;
     }
@@ -92,10 +95,11 @@ returns-2 c =
     let same : m % 65536 ≡ m = omega arith in
     let late : m < c-solve .result .end = c .if2 .taken in
     let solves = solves-as _ _ _ _ _ _ _ (c-until .ensures ∙ ap (until (c-args .frame)) same) (c-solve .ensures) in
+    let was-found = not-false (c-solve .result .found) (c .before .before .if1 .left) in
     record {
       found = λ f. f;
       raised = λ J task passed before.
-          let early = found-in-time _ _ _ _ (c-args .frame) m (omega arith) _ solves (not-false (c-solve .result .found) (c .before .before .if1 .left)) J task in
+          let early = found-in-time _ _ _ _ (c-args .frame) m (omega arith) _ solves was-found J task in
           absurd (omega arith);
       closer = (omega arith, omega arith, omega arith);
       still = h .3;

@@ -41,7 +41,8 @@ regress-requires c κs =
     let c-args = at8 .before .before .args in
     let c-pre = at8 .before .before .pre in
     let c-none = c .before .before .before .before .before .none in
-    let begins = begins-with-goal _ _ (c-args .frame) _ _ _ _ (c-none .ensures) (c .before .before .wide .ensures .0) (c .before .look .ensures) (c .look2 .ensures) in
+    let begins = begins-with-goal _ _ (c-args .frame) _ _ _ _ (c-none .ensures) (c .before .before .wide .ensures .0)
+    (c .before .look .ensures) (c .look2 .ensures) in
     (ready-at-first _ _ _ (c-args .frame) (c-pre) _ begins, fresh-at-first _ _ _ (c-args .frame) (c-pre) _ begins)
 
 returns-2 : tie.Need-returns-2
@@ -52,7 +53,8 @@ returns-2 c =
     let c-none = c .before .before .before .before .before .before .none in
     let c-wide = c .before .before .before .wide in
     solved-by-regress _ _ _ (c-args .frame) (c-pre) _
-    (begins-with-goal _ _ (c-args .frame) _ _ _ _ (c-none .ensures) (c-wide .ensures .0) (c .before .before .look .ensures) (c .before .look2 .ensures))
+    (begins-with-goal _ _ (c-args .frame) _ _ _ _ (c-none .ensures) (c-wide .ensures .0)
+    (c .before .before .look .ensures) (c .before .look2 .ensures))
     _ _ (c .regress .ensures)
 
 pub solve-spec : {M : Type 1} → statement M

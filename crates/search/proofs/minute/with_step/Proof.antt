@@ -68,9 +68,12 @@ returns c =
     let into = ltb (at .start) (at .t) && leb (at .t) (at .stop) in
     minute-with-step _ _ _ _ _ _ _ _
     (record {
-      running = c-union .ensures .0 ∙ ap (λ (s : ℕ). union s (at .m .running)) (c-when .ensures ∙ ap (λ (s : ℕ). cond into s 0) one);
+      running = c-union .ensures .0
+          ∙ ap (λ (s : ℕ). union s (at .m .running)) (c-when .ensures ∙ ap (λ (s : ℕ). cond into s 0) one);
       held = c-union2 .ensures .0 ∙ ap (λ (s : ℕ). union s (at .m .held)) (c-when2 .ensures);
-      starting = c-union3 .ensures .0 ∙ ap (λ (s : ℕ). union s (at .m .starting)) (c-when3 .ensures ∙ ap (λ (s : ℕ). cond (eqb (at .start) (at .t)) s 0) one);
+      starting = c-union3 .ensures .0
+          ∙ ap (λ (s : ℕ). union s (at .m .starting))
+          (c-when3 .ensures ∙ ap (λ (s : ℕ). cond (eqb (at .start) (at .t)) s 0) one);
       needed = c-union4 .ensures .0 ∙ ap (λ (s : ℕ). union s (at .m .needed)) (c-when4 .ensures);
       across = c .before .before .union5 .ensures .0 ∙ ap (λ (s : ℕ). union s (at .m .across)) (c-when5 .ensures);
       added = c .union6 .ensures .0 ∙ ap (λ (s : ℕ). union s (at .m .added)) (c .before .when6 .ensures);

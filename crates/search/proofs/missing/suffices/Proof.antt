@@ -17,15 +17,20 @@ of-set-requires c κs = c .before .before .before .pre .0 .lent .setCount
 stores-suffice-requires : tie.Need-stores-suffice-requires
 stores-suffice-requires c κs =
     let c-pre = c .before .before .before .before .pre in
-    let safe = c-pre .0 in
-    (safe .lent .amounts .numberCount, safe .stores, sums-of-more _ 32 _ (safe .known .few) (safe .small .spent), c-pre .1)
+    let safe = c-pre .0 in (
+      safe .lent .amounts .numberCount,
+      safe .stores,
+      sums-of-more _ 32 _ (safe .known .few) (safe .small .spent),
+      c-pre .1,
+    )
 
 returns : tie.Need-returns
 returns c =
     let c-args = c .before .before .before .before .before .before .args in
     let c-union = c .before .before .before .union in
     let c-stores-suffice = c .before .stores-suffice in
-    let missing = c .before .before .of-set .ensures ∙ ap (marksOf (markAt (c-args .sets .now)) 64) (c-union .ensures .0) in
+    let missing = c .before .before .of-set .ensures
+    ∙ ap (marksOf (markAt (c-args .sets .now)) 64) (c-union .ensures .0) in
     λ e. c-stores-suffice .ensures (c-args .sets .now) missing (not-true (c-stores-suffice .result) (c .if1 .taken))
 
 pools-suffice-requires : tie.Need-pools-suffice-requires

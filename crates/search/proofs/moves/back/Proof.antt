@@ -75,7 +75,8 @@ returns c =
         minute = refl;
         gone = c-gone .result;
         isGone = gone-as _ _ _ (at .st .steps) _ _ _ _ _ s (c-wide2 .ensures .0) (c-gone .ensures);
-        wanted = c .before .union .ensures .0 ∙ ap (λ (set : ℕ). union set (c-look .result .needed)) (c .before .before .difference .ensures .0);
+        wanted = c .before .union .ensures .0
+            ∙ ap (λ (set : ℕ). union set (c-look .result .needed)) (c .before .before .difference .ensures .0);
         at = looks-as _ _ _ (at .st .steps) _ _ _ s (c-look .ensures);
         uses = looks-uses-as _ _ (at .st .steps) _ _ _ s (c .look2 .ensures);
         twice = refl;

@@ -48,7 +48,12 @@ loop-again c =
       r1,
       λ j l a b.
           ⊎-elim
-          (λ here. let same : j ≡ c-loop .k = omega arith in let b′ = rw same at b in let a′ = rw same at a in let m = r .2 b′ in omega arith)
+          (λ here.
+          let same : j ≡ c-loop .k = omega arith in
+          let b′ = rw same at b in
+          let a′ = rw same at a in
+          let m = r .2 b′ in
+          omega arith)
           (λ before. inv .3 j before (omega arith) b)
           (le-or-lt (c-loop .k) j),
     )

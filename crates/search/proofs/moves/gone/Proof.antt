@@ -12,7 +12,8 @@ use Rattle.search.proofs.moves.gone.Tie as tie
 
 abbrev Inv-loop : tie.InvT-loop
 Inv-loop sets numbers actions s t steps set₀ k₀ set k =
-    (k ≤ steps .count) × ((J : Job) → DescribesEach J sets numbers actions → set ≡ addedBetween s t (chosenTo J steps k))
+    (k ≤ steps .count)
+    × ((J : Job) → DescribesEach J sets numbers actions → set ≡ addedBetween s t (chosenTo J steps k))
 
 abbrev μ-loop : tie.MeasureT-loop
 μ-loop sets numbers actions s t steps set₀ k₀ set k = steps .count - k
@@ -60,7 +61,9 @@ loop-again c =
     let below = c-pre .1 .known (c-loop .k) (c-loop-test .taken) in (
       omega arith,
       λ J described.
-          rw next (c .union .ensures .0 ∙ ap₂ union (c .before .gone-of .ensures J (described _ below)) (c-loop .inv .1 J described)),
+          rw next
+          (c .union .ensures .0
+          ∙ ap₂ union (c .before .gone-of .ensures J (described _ below)) (c-loop .inv .1 J described)),
     )
 
 returns : tie.Need-returns Inv-loop μ-loop

@@ -94,8 +94,15 @@ attempt-take-requires t c κs =
     let few = lent .amounts .few in
     let known = h .1 in
     let fits = h .2 .fits refl in
-    let small = small-with-more _ 32 _ (ready .safe .known .few) (ready .safe .small) in
-    (lent .setCount, lent .amounts .numberCount, omega arith, h .2 .room refl, lent .amounts .short _ known, omega arith, small)
+    let small = small-with-more _ 32 _ (ready .safe .known .few) (ready .safe .small) in (
+      lent .setCount,
+      lent .amounts .numberCount,
+      omega arith,
+      h .2 .room refl,
+      lent .amounts .short _ known,
+      omega arith,
+      small,
+    )
 
 attempt-all-needed-requires : (t : ℕ) → attempt-lts.Need-all-needed-requires (
   take-reads.Asked,
@@ -161,7 +168,8 @@ attempt-returns t c =
       found = λ e. absurd (true≢false (sym e ∙ none));
       dead = λ e J task stands.
           dead-when-taken-until _ _ _ (c-args .frame) (c-args .st) (h .0) _ (h .1) (h .2) _ taken J _ task stands _
-          (c-all-needed .ensures (not-true (c-all-needed .result) (c .before .if1 .taken)) _ _ (next .safe .known) J (task .described)
+          (c-all-needed .ensures (not-true (c-all-needed .result) (c .before .if1 .taken)) _ _ (next .safe .known) J
+          (task .described)
           (stands-taken _ _ _ (c-args .frame) (c-args .st) (h .0) _ (h .1) (h .2) _ taken J _ task stands));
     }
 
@@ -253,7 +261,8 @@ attempt-returns-2 t c =
       found = λ e. absurd (true≢false (sym e ∙ none));
       dead = λ e J task stands.
           dead-when-taken-until _ _ _ (c-args .frame) (c-args .st) (h .0) _ (h .1) (h .2) _ taken J _ task stands _
-          (c-all-reached .ensures (not-true (c-all-reached .result) (c .before .if2 .taken)) J (task .described) (task .filled)
+          (c-all-reached .ensures (not-true (c-all-reached .result) (c .before .if2 .taken)) J (task .described)
+          (task .filled)
           (stands-taken _ _ _ (c-args .frame) (c-args .st) (h .0) _ (h .1) (h .2) _ taken J _ task stands));
     }
 
@@ -311,7 +320,8 @@ attempt-returns-3 t c =
       found = c .choose .ensures .found;
       dead = λ e J task stands.
           dead-when-taken-open _ _ _ (c-args .frame) (c-args .st) (h .0) _ (h .1) (h .2) _ taken J _ task stands _
-          (c .choose .ensures .dead e J task (stands-taken _ _ _ (c-args .frame) (c-args .st) (h .0) _ (h .1) (h .2) _ taken J _ task stands));
+          (c .choose .ensures .dead e J task
+          (stands-taken _ _ _ (c-args .frame) (c-args .st) (h .0) _ (h .1) (h .2) _ taken J _ task stands));
     }
 
 abbrev choose-Inv-loop : choose-lts.InvT-loop
@@ -319,7 +329,8 @@ choose-Inv-loop sets numbers times file frame st undecided left₀ left =
     (left ≤ undecided)
     × ((a : ℕ) → has left a ≡ true → (a < frame .actions) × MayStop sets numbers frame st a true)
     × ((J : Job) → TaskOf J file sets numbers times frame → Stands J frame st
-    → DeadFor J frame (OpenIn frame st left) (chosen J (st .steps)) → DeadFor J frame (OpenIn frame st undecided) (chosen J (st .steps)))
+    → DeadFor J frame (OpenIn frame st left) (chosen J (st .steps))
+    → DeadFor J frame (OpenIn frame st undecided) (chosen J (st .steps)))
 
 abbrev choose-μ-loop : choose-lts.MeasureT-loop
 choose-μ-loop sets numbers times file frame st undecided left₀ left = left
@@ -510,7 +521,8 @@ choose-returns t c =
           inv .2 J task stands
           (rw none
           (dead-when-back _ _ _ (c-args .frame) (c-args .st) (h .0) _ (b .0) (b .1) (b .2) (b .3) J _ task stands
-          (c .regress .ensures .dead e J task (stands-back _ _ _ (c-args .frame) (c-args .st) (h .0) _ (b .0) (b .1) (b .2) (b .3) J _ task stands))));
+          (c .regress .ensures .dead e J task
+          (stands-back _ _ _ (c-args .frame) (c-args .st) (h .0) _ (b .0) (b .1) (b .2) (b .3) J _ task stands))));
     }
 
 choose-pick-requires : (t : ℕ) → choose-lts.Need-pick-requires (
@@ -635,7 +647,10 @@ choose-returns-2 : (t : ℕ) → choose-lts.Need-returns-2 (
   nothing-reads.Learnt,
 ) (choose-at t) choose.Post choose-Inv-loop choose-μ-loop
 choose-returns-2 t c =
-    record { found = λ e. c .before .attempt .ensures .found (c .if3 .taken); dead = λ e. absurd (true≢false (sym (c .if3 .taken) ∙ e)) }
+    record {
+      found = λ e. c .before .attempt .ensures .found (c .if3 .taken);
+      dead = λ e. absurd (true≢false (sym (c .if3 .taken) ∙ e));
+    }
 
 choose-loop-less : (t : ℕ) → choose-lts.Need-loop-less (
   candidates-reads.Asked,
@@ -694,7 +709,8 @@ choose-loop-again t c =
     let inv = c-loop .inv in
     let most = inv .0 in
     let i = c-pick .result in
-    let e : c-difference .result ≡ difference (c-loop .left) (single i) = c-difference .ensures .0 ∙ ap (difference (c-loop .left)) (c-single .ensures) in
+    let e : c-difference .result ≡ difference (c-loop .left) (single i) =
+    c-difference .ensures .0 ∙ ap (difference (c-loop .left)) (c-single .ensures) in
     let less = less-without (c-loop .left) i (c-pick .ensures .1) in (
       omega arith,
       (λ a member. inv .1 a (in-difference-parts (c-loop .left) (single i) a (rw e at member) .0)),
@@ -753,7 +769,8 @@ choose-returns-3 t c =
     record {
       found = λ e. absurd (true≢false (sym e ∙ none));
       dead = λ e J task stands.
-          c-loop .inv .2 J task stands (c .before .before .in-time .ensures (c .before .if1 .left) J (task .described) (task .filled) stands);
+          c-loop .inv .2 J task stands
+          (c .before .before .in-time .ensures (c .before .if1 .left) J (task .described) (task .filled) stands);
     }
 
 regress-finish-requires : (t : ℕ) → regress-lts.Need-finish-requires (
@@ -787,7 +804,8 @@ regress-returns t c =
     let h = c-pre .1 .0 in
     record {
       found = c .finish .ensures .found;
-      dead = λ e J task stands. dead-when-unfinished J _ _ _ _ (c-args .frame) (c-args .st) _ h task (c .finish .ensures) (omega arith) e;
+      dead = λ e J task stands.
+          dead-when-unfinished J _ _ _ _ (c-args .frame) (c-args .st) _ h task (c .finish .ensures) (omega arith) e;
     }
 
 regress-suffices-requires : (t : ℕ) → regress-lts.Need-suffices-requires (
@@ -832,7 +850,8 @@ regress-returns-2 t c =
     record {
       found = λ e. absurd (true≢false (sym e ∙ none));
       dead = λ e J task stands.
-          c-suffices .ensures (not-true (c-suffices .result) (c .before .if2 .taken)) J (task .described) (task .marked) stands;
+          c-suffices .ensures (not-true (c-suffices .result) (c .before .if2 .taken)) J (task .described)
+          (task .marked) stands;
     }
 
 regress-choose-requires : (t : ℕ) → regress-lts.Need-choose-requires (
@@ -869,7 +888,8 @@ regress-returns-3 t c =
     record {
       found = c .choose .ensures .found;
       dead = λ e J task stands.
-          dead-until J (c-args .frame) (c-args .st) few (task .described .actions) (c .choose .ensures .dead e J task stands);
+          dead-until J (c-args .frame) (c-args .st) few (task .described .actions)
+          (c .choose .ensures .dead e J task stands);
     }
 
 pub +attempt+choose+regress-spec : {M : Type 1} → statement M

@@ -35,10 +35,11 @@ returns c =
     let at = c-args in
     let safe = h .0 in
     let before : suc (at .st .minute - 1) ≡ at .st .minute = omega arith in
-    barred-when-pools-exceeded J (at .sets .now) _ (at .frame) described (at .st) (safe .known) stands (at .i) (h .1) fits
-    (at .st .minute - 1) before
+    barred-when-pools-exceeded J (at .sets .now) _ (at .frame) described (at .st) (safe .known) stands (at .i) (h .1)
+    fits (at .st .minute - 1) before
     (sym (exceeds-as-pools J (at .sets .now) _ (at .frame) described (chosen J (at .st .steps)) (at .i) (h .1)
-    (safe .pools) (at .st .minute - 1) (at .st .uses .before) (stands .uses .before _ before)) ∙ sym (c .before .exceeds .ensures) ∙ c .if1 .taken)
+    (safe .pools) (at .st .minute - 1) (at .st .uses .before) (stands .uses .before _ before))
+    ∙ sym (c .before .exceeds .ensures) ∙ c .if1 .taken)
 
 add-exceeds-2 : tie.Need-add-exceeds-2
 add-exceeds-2 c = search needs
@@ -61,9 +62,11 @@ returns-2 c =
     let h = c-pre in
     let at = c-args in
     let safe = h .0 in
-    barred-when-stores-exceeded J (at .sets .now) _ (at .frame) described (at .st) (safe .known) stands (at .i) (h .1) fits
+    barred-when-stores-exceeded J (at .sets .now) _ (at .frame) described (at .st) (safe .known) stands (at .i) (h .1)
+    fits
     (sym (exceeds-as-stores J (at .sets .now) _ (at .frame) described (chosen J (at .st .steps)) (at .i) (h .1)
-    (safe .stores) (at .st .minute) (at .st .uses) (stands .uses)) ∙ sym (c .exceeds2 .ensures) ∙ not-false (c .exceeds2 .result) e)
+    (safe .stores) (at .st .minute) (at .st .uses) (stands .uses))
+    ∙ sym (c .exceeds2 .ensures) ∙ not-false (c .exceeds2 .result) e)
 
 pub affordable-spec : {M : Type 1} → statement M
 affordable-spec =

@@ -44,7 +44,8 @@ loop-again c =
     let next = c .next2 .ensures in (
       next .within,
       next .found,
-      candidates-on _ _ _ _ _ _ _ _ _ (c-loop .inv .1 (omega arith)) (c .before .with-candidate .ensures) next (c-loop .inv .2),
+      candidates-on _ _ _ _ _ _ _ _ _ (c-loop .inv .1 (omega arith)) (c .before .with-candidate .ensures) next
+          (c-loop .inv .2),
     )
 
 returns : tie.Need-returns Inv-loop μ-loop

@@ -25,7 +25,9 @@ returns c =
       room = λ e. absurd (true≢false (sym e));
       fits = λ e. absurd (true≢false (sym e));
       apart = λ e. absurd (true≢false (sym e));
-      barred = λ e. c-sets-allow .ensures .barred (not-true (c-sets-allow .result) (c .if1 .taken)) (at .numbers .now) (at .frame) (h .1) (h .0 .known);
+      barred = λ e.
+          c-sets-allow .ensures .barred (not-true (c-sets-allow .result) (c .if1 .taken)) (at .numbers .now)
+          (at .frame) (h .1) (h .0 .known);
     }
 
 returns-2 : tie.Need-returns-2
@@ -38,7 +40,9 @@ returns-2 c =
       room = λ e. absurd (true≢false (sym e));
       fits = λ e. absurd (true≢false (sym e));
       apart = λ e. absurd (true≢false (sym e));
-      barred = λ e J described stands fits. barred-when-full J (at .sets .now) (at .numbers .now) (at .frame) described (at .st) (h .0 .known) stands (at .i) (h .1) fits (omega arith);
+      barred = λ e J described stands fits.
+          barred-when-full J (at .sets .now) (at .numbers .now) (at .frame) described (at .st) (h .0 .known) stands
+          (at .i) (h .1) fits (omega arith);
     }
 
 wide-requires : tie.Need-wide-requires

@@ -82,7 +82,8 @@ returns-4 c =
     let at = c-args in
     let safe = h .0 in
     let room = sym (exceeds-as-pools J (at .sets .now) _ (at .frame) described (chosen J (at .st .steps)) (at .i) (h .1)
-    (safe .pools) (at .st .minute) (at .st .uses .now) (stands .uses .now)) ∙ sym (c .exceeds .ensures) ∙ not-true (c .exceeds .result) e in
+    (safe .pools) (at .st .minute) (at .st .uses .now) (stands .uses .now))
+    ∙ sym (c .exceeds .ensures) ∙ not-true (c .exceeds .result) e in
     barred-when-free J (at .sets .now) _ (at .frame) described (at .st) (safe .known) stands (at .i) (h .1) fits
     (sym (c-meets .ensures .0) ∙ c-if2 .left) (sym (c-meets2 .ensures .0) ∙ c-if3 .left) (omega arith) room
 

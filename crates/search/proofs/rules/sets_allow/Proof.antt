@@ -36,7 +36,8 @@ returns c =
     let none = sym (c-meets .ensures .0) ∙ not-true (c-meets .result) (c .if1 .taken) in
     record {
       apart = λ e. absurd (true≢false (sym e));
-      barred = λ e numbers frame l known J d s f. barred-when-adding-nothing-wanted J (at .sets .now) numbers frame d (at .st) known s (at .i) l f none;
+      barred = λ e numbers frame l known J d s f.
+          barred-when-adding-nothing-wanted J (at .sets .now) numbers frame d (at .st) known s (at .i) l f none;
     }
 
 add-meets-2 : tie.Need-add-meets-2
@@ -60,7 +61,8 @@ returns-2 c =
     let some = sym (c .before .meets2 .ensures .0) ∙ c .if2 .taken in
     record {
       apart = λ e. absurd (true≢false (sym e));
-      barred = λ e numbers frame l known J d s f. barred-when-clashing J (at .sets .now) numbers frame d (at .st) known s (at .i) l f some;
+      barred = λ e numbers frame l known J d s f.
+          barred-when-clashing J (at .sets .now) numbers frame d (at .st) known s (at .i) l f some;
     }
 
 union-requires : tie.Need-union-requires
@@ -107,13 +109,16 @@ returns-3 c =
     let c-meets3 = c .before .meets3 in
     let at = c-args in
     let apart = sym (c-meets2 .ensures .0) ∙ c-if2 .left in
-    let given : c-union2 .result ≡ union (union (at .st .at .held) (at .st .at .added)) (needsAt (at .sets .now) (at .i)) =
+    let given : c-union2 .result
+    ≡ union (union (at .st .at .held) (at .st .at .added)) (needsAt (at .sets .now) (at .i)) =
     c-union2 .ensures .0 ∙ ap (λ (s : ℕ). union s (needsAt (at .sets .now) (at .i))) (c-union .ensures .0) in
     let rest = c .before .before .difference .ensures .0 ∙ ap (difference (addsAt (at .sets .now) (at .i))) given in
-    let none = ap (λ (s : ℕ). meets s (at .st .wanted)) (sym rest) ∙ sym (c-meets3 .ensures .0) ∙ not-true (c-meets3 .result) (c .if3 .taken) in
+    let none = ap (λ (s : ℕ). meets s (at .st .wanted)) (sym rest)
+    ∙ sym (c-meets3 .ensures .0) ∙ not-true (c-meets3 .result) (c .if3 .taken) in
     record {
       apart = λ e. absurd (true≢false (sym e));
-      barred = λ e numbers frame l known J d s f. barred-when-provided J (at .sets .now) numbers frame d (at .st) known s (at .i) l f apart none;
+      barred = λ e numbers frame l known J d s f.
+          barred-when-provided J (at .sets .now) numbers frame d (at .st) known s (at .i) l f apart none;
     }
 
 add-meets-3 : tie.Need-add-meets-3
@@ -143,7 +148,8 @@ returns-4 c =
     record {
       apart = λ e. apart;
       barred = λ e numbers frame l known J d s f.
-          barred-when-deleting J (at .sets .now) numbers frame d (at .st) known s (at .i) l f (sym (c .meets4 .ensures .0) ∙ not-false (c .meets4 .result) e);
+          barred-when-deleting J (at .sets .now) numbers frame d (at .st) known s (at .i) l f
+          (sym (c .meets4 .ensures .0) ∙ not-false (c .meets4 .result) e);
     }
 
 pub sets-allow-spec : {M : Type 1} → statement M

@@ -32,7 +32,10 @@ element-copy-out-adds-alone c =
 adds-alone-requires : tie.Need-adds-alone-requires Inv-loop μ-loop
 adds-alone-requires c κs =
     let c-pre = c .before .before .before .before .before .before .pre in
-    let h = c-pre in let b = h .1 .known (c .before .before .loop .k) (c .before .loop-test .taken) in let f = h .2 in (h .0, omega arith)
+    let h = c-pre in
+    let b = h .1 .known (c .before .before .loop .k) (c .before .loop-test .taken) in
+    let f = h .2 in
+    (h .0, omega arith)
 
 returns : tie.Need-returns Inv-loop μ-loop
 returns c =
@@ -44,9 +47,11 @@ returns c =
     λ e numbers frame known-steps J described stands.
     let at = c-args in
     let i = getD (at .st .steps .numbers) (c-loop .k) 0 in
-    let none = ap (λ (set : ℕ). meets (difference (addsAt (at .sets .now) i) set) (at .st .wanted)) (sym (c-union .ensures .0))
+    let none = ap (λ (set : ℕ). meets (difference (addsAt (at .sets .now) i) set) (at .st .wanted))
+    (sym (c-union .ensures .0))
     ∙ sym (c-adds-alone .ensures) ∙ not-true (c-adds-alone .result) (c .if1 .taken) in
-    dead-when-adding-nothing-alone J (at .sets .now) numbers frame described (at .st) known-steps stands (c-loop .k) (c-loop .inv .0) (c-loop-test .taken) none
+    dead-when-adding-nothing-alone J (at .sets .now) numbers frame described (at .st) known-steps stands
+    (c-loop .k) (c-loop .inv .0) (c-loop-test .taken) none
 
 add-k : tie.Need-add-k Inv-loop μ-loop
 add-k c = omega arith

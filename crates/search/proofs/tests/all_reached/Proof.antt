@@ -45,7 +45,8 @@ returns c =
     let at8 = c .before .before .before .before .before .before .before .before in
     let c-args = at8 .before .before .before .before .args in
     let c-reached = c .before .reached in
-    λ e J described filled stands. c-reached .ensures (not-true (c-reached .result) (c .if1 .taken)) J described filled (c-args .st .minute)
+    λ e J described filled stands.
+    c-reached .ensures (not-true (c-reached .result) (c .if1 .taken)) J described filled (c-args .st .minute)
 
 add-k : tie.Need-add-k Inv-loop μ-loop
 add-k c = omega arith

@@ -60,7 +60,9 @@ loop-again c =
     let below = c-pre .1 .known (c-loop .k) (c-loop-test .taken) in (
       omega arith,
       λ J described.
-          rw next (c .union .ensures .0 ∙ ap₂ union (c .before .need-of .ensures J (described _ below)) (c-loop .inv .1 J described)),
+          rw next
+          (c .union .ensures .0
+          ∙ ap₂ union (c .before .need-of .ensures J (described _ below)) (c-loop .inv .1 J described)),
     )
 
 returns : tie.Need-returns Inv-loop μ-loop
