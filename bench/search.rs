@@ -1,5 +1,5 @@
-//! The plain search as a program. Without an argument it plans the job file on standard input and prints the end (22: no
-//! plan; -: not planned in ten seconds) and the nodes; given a folder of job files it prints a table.
+//! The plain search as a program. Without an argument it plans the job file on standard input and prints the end (22:
+//! no plan; -: not planned in ten seconds) and the nodes; given a folder of job files it prints a table.
 mod known;
 mod landmarks;
 #[allow(dead_code)]
