@@ -6,9 +6,8 @@ use mathlib.Core.Bool.{Bool, true, false, not, _&&_, _||_, true≢false}
 use mathlib.Core.Logic.{_⊎_, ⊎-elim}
 use mathlib.Core.List.{List}
 use native.Mathlib.Omega.{arith}
-use lib.Dec.{eqb}
 use lib.ListN.{length, getD}
-use borrow.Author.Tests.{eqb-true, eqb-false, not-true, ltb-false, le-ltb}
+use borrow.Author.Tests.{not-true, ltb-false, le-ltb}
 use Rattle.lists.proofs.Bools.{and-left, and-right, or-left, or-right}
 use Rattle.facts.specs.FactSet.{has, union, difference, single}
 use Rattle.facts.proofs.Membership.{has-union}
@@ -16,12 +15,11 @@ use Rattle.facts.proofs.SetLaws.{in-difference-parts}
 use Rattle.job.specs.Job.{Action, Job}
 use Rattle.job.specs.Valid.{over}
 use Rattle.timeline.specs.Timeline.{hinders}
-use Rattle.timeline.proofs.Tests.{decided}
 use Rattle.timeline.proofs.Places.{below-none, none-below}
 use Rattle.times.specs.Earliest.{timeOf, actionOf, fitsAlone, fitTogether}
 use Rattle.times.specs.Numbers.{none, tableIn}
 use Rattle.times.proofs.Times.{By}
-use Rattle.times.proofs.Choices.{Alone, Together, both, one, other, each}
+use Rattle.times.proofs.Choices.{Alone, Together, both, other, each}
 use Rattle.times.proofs.Kept.{finiteIn}
 use Rattle.earliest.specs.Numbers.{setNumber}
 use Rattle.earliest.specs.Lowering.{Lowerable, RowOffered, AllOffered}

@@ -1,6 +1,6 @@
 -- Lowerings one after the other, and the lowering of one entry.
 -- Assumes nothing.
-use Prim.Native.Nat.{ℕ, suc, _+_, _*_, _≤_, _<_, min, max}
+use Prim.Native.Nat.{ℕ, _+_, _*_, _≤_, _<_, min, max}
 use mathlib.Core.Path.{_≡_, refl, sym, ap, _∙_}
 use mathlib.Core.Bool.{Bool, true, false, cond, _||_, true≢false}
 use mathlib.Core.Logic.{_⊎_, inl, inr, ⊎-elim}
@@ -10,16 +10,15 @@ use native.Mathlib.Omega.{arith}
 use lib.ListN.{getD, set, length}
 use Rattle.lists.proofs.Inside.{getD-inside}
 use Rattle.lists.proofs.Bools.{or-left, or-right}
-use Rattle.facts.specs.FactSet.{has}
 use Rattle.job.specs.Job.{Job}
 use Rattle.pairs.specs.Pairs.{entryOf}
 use Rattle.timeline.proofs.Tests.{or-cases, le-or-lt}
 use Rattle.times.specs.Earliest.{rightSide}
-use Rattle.times.specs.Numbers.{none, numberOf, timeIn, tableIn}
-use Rattle.times.proofs.Times.{By, by-later-minute}
+use Rattle.times.specs.Numbers.{none, tableIn}
+use Rattle.times.proofs.Times.{by-later-minute}
 use Rattle.times.proofs.Monotone.{right-side-mono}
 use Rattle.times.proofs.Choices.{Reached, reached-of-right-side, right-side-of-reached, reached-swap}
-use Rattle.times.proofs.Sentinel.{number-of-at-most, number-by, by-time-in}
+use Rattle.times.proofs.Sentinel.{by-time-in}
 use Rattle.times.proofs.Slots.{entry-before-2080}
 use Rattle.times.proofs.Falling.{sum, sum-falls, lowered-by-number}
 use Rattle.times.proofs.Kept.{Kept, finiteIn, entry-inside, entry-at-most-none, kept-when-written}

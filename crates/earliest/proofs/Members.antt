@@ -1,13 +1,13 @@
 -- The loops that lower the entries of a fact with the facts of a set, and of one set with another.
 -- Assumes nothing.
-use Prim.Native.Nat.{ℕ, _≤_, _<_}
+use Prim.Native.Nat.{ℕ, _<_}
 use mathlib.Core.Path.{_≡_}
 use mathlib.Core.Bool.{Bool, true}
 use mathlib.Core.List.{List}
 use native.Mathlib.Omega.{arith}
 use Rattle.facts.specs.FactSet.{has}
 use Rattle.job.specs.Job.{Job}
-use Rattle.earliest.specs.Lowering.{Lowerable, Lowering, EntryAtMost, RowAtMost, AllAtMost}
+use Rattle.earliest.specs.Lowering.{Lowerable, Lowering, EntryAtMost, RowAtMost}
 use Rattle.earliest.specs.Lowering.{RowOffered, AllOffered, LowersEntry, LowersRow}
 use Rattle.earliest.proofs.LoweringLaws.{lowerable-on, offered-on}
 

@@ -1,20 +1,19 @@
 -- In a plan, each landmark of what holds at a minute is added by a new step that stops by then.
 -- Assumes nothing.
 use Prim.Native.Nat.{ℕ, zero, suc, _<_, _≤_}
-use mathlib.Core.Path.{_≡_, sym, ap, _∙_}
-use mathlib.Core.Bool.{Bool, true, false}
+use mathlib.Core.Path.{_≡_, ap, _∙_}
+use mathlib.Core.Bool.{true, false}
 use mathlib.Core.Logic.{⊎-elim}
 use mathlib.Core.List.{List, _++_}
 use native.Mathlib.Omega.{arith}
 use Rattle.facts.specs.FactSet.{has, Subset}
 use Rattle.facts.proofs.Membership.{has-zero}
 use Rattle.facts.proofs.SetLaws.{in-union-cases}
-use Rattle.job.specs.Job.{Action, Job}
+use Rattle.job.specs.Job.{Job}
 use Rattle.timeline.specs.Step.{Step}
 use Rattle.timeline.specs.Timeline.{held}
 use Rattle.timeline.proofs.Tests.{not-both}
-use Rattle.timeline.proofs.Places.{Place, Member, EachStep, append-cases, place-append}
-use Rattle.times.specs.Earliest.{actionOf}
+use Rattle.timeline.proofs.Places.{Place, EachStep, append-cases, place-append}
 use Rattle.times.proofs.PlanSteps.{PlanOf, own-action, needs-at, held-since}
 use Rattle.regression.specs.DeadEnd.{Until}
 use Rattle.regression.proofs.Gathered.{in-cond-parts}

@@ -2,19 +2,17 @@
 -- of the pools' minutes.
 -- Assumes nothing.
 use Prim.Native.Nat.{ℕ, _+_, _*_, _-_, _<_, _≤_}
-use mathlib.Core.Path.{_≡_, ap}
+use mathlib.Core.Path.{ap}
 use mathlib.Core.Logic.{⊎-elim}
 use mathlib.Core.List.{List, _++_, append-assoc}
 use native.Mathlib.Nat.{le-refl, mul-add, mul-le-mul-left}
 use native.Mathlib.Omega.{arith}
 use lib.ListN.{length, getD}
-use Rattle.facts.specs.FactSet.{has, Subset}
 use Rattle.facts.proofs.SetLaws.{in-union-left, in-union-right}
 use Rattle.job.specs.Job.{Action, Job}
 use Rattle.timeline.specs.Step.{Step, total, unionOf}
 use Rattle.timeline.specs.Timeline.{held, storeUse, storeCap, usedUp}
 use Rattle.timeline.proofs.Places.{EachStep, append-cases, place-append, total-append, total-mono}
-use Rattle.times.specs.Earliest.{actionOf}
 use Rattle.times.proofs.PlanSteps.{own-action, own-stop}
 use Rattle.regression.specs.Tests.{mustHold}
 use Rattle.regression.specs.DeadEnd.{NormalPlan, Until, Dead}

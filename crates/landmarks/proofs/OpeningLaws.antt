@@ -1,7 +1,7 @@
 -- Openings: how they are filled, and that no plan uses a pool before its opening.
 -- Assumes nothing.
 use Prim.Native.Nat.{ℕ, _+_, _*_, _≤_, _<_}
-use mathlib.Core.Path.{_≡_, sym, ap}
+use mathlib.Core.Path.{_≡_, ap}
 use mathlib.Core.Logic.{⊎-elim}
 use mathlib.Core.List.{List}
 use native.Mathlib.Nat.{eq-or-lt-of-le}
@@ -19,7 +19,7 @@ use Rattle.times.specs.Earliest.{actionOf}
 use Rattle.tables.specs.declared.Frame.{Frame}
 use Rattle.tables.specs.Tables.{needsAt, poolUseAt, Describes}
 use Rattle.landmarks.specs.Tables.{KeptBefore}
-use Rattle.landmarks.specs.Openings.{OpensAt, openAt, OpenTo, OpeningsTo, OpeningsPut}
+use Rattle.landmarks.specs.Openings.{OpensAt, OpenTo, OpeningsTo, OpeningsPut}
 use Rattle.landmarks.proofs.TableLaws.{kept-at-first, kept-when-set}
 
 -- what a user of the pool needs holds at its start, so the start is not before the time of that

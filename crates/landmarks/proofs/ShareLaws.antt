@@ -1,13 +1,12 @@
 -- Shares in the table: rows that are put, kept and tested.
 -- Assumes nothing.
 use Prim.Native.Nat.{ℕ, zero, suc, _+_, _*_, _-_, _≤_, _<_}
-use mathlib.Core.Path.{_≡_, refl, sym, ap, ap₂, _∙_}
+use mathlib.Core.Path.{_≡_, refl, ap, ap₂, _∙_}
 use mathlib.Core.Bool.{Bool, true, false, cond}
 use mathlib.Core.Logic.{⊎-elim}
 use mathlib.Core.List.{List}
 use native.Mathlib.Nat.{eq-or-lt-of-le}
 use native.Mathlib.Omega.{arith}
-use lib.Dec.{ltb}
 use lib.ListN.{length, getD, set}
 use lib.Seq.{getD-set-same, getD-set-other}
 use borrow.Author.Tests.{lt-ltb, le-ltb}
@@ -15,9 +14,9 @@ use Rattle.facts.specs.FactSet.{has, difference}
 use Rattle.job.specs.Job.{Job}
 use Rattle.timeline.proofs.Tests.{le-or-lt}
 use Rattle.times.specs.Earliest.{actionOf}
-use Rattle.tables.specs.Tables.{addsAt, durationAt, DescribesEach, Numbers}
+use Rattle.tables.specs.Tables.{addsAt, DescribesEach, Numbers}
 use Rattle.landmarks.specs.Landmarks.{sumOver, Shares}
-use Rattle.landmarks.specs.Tables.{KeptBefore, PutFrom, shareFrom, rowAt, weightAt, WithinAt, Within, WithinAll}
+use Rattle.landmarks.specs.Tables.{KeptBefore, PutFrom, shareFrom, rowAt, weightAt, Within, WithinAll}
 use Rattle.landmarks.proofs.TableLaws.{kept-at-first, kept-when-set}
 
 -- ---- one number in each entry

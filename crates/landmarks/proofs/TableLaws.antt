@@ -1,13 +1,13 @@
 -- Landmarks in the table: unions and sums over the facts of a set, fact by fact; and what the test of the table says.
 -- Assumes nothing.
 use Prim.Native.Nat.{ℕ, zero, suc, _+_, _≤_, _<_}
-use mathlib.Core.Path.{_≡_, refl, sym, ap, ap₂, _∙_}
+use mathlib.Core.Path.{_≡_, refl, sym, ap, _∙_}
 use mathlib.Core.Bool.{Bool, true, false, cond, not}
 use mathlib.Core.Logic.{inl, inr, ⊎-elim}
 use mathlib.Core.List.{List}
 use native.Mathlib.Nat.{eq-or-lt-of-le}
 use native.Mathlib.Omega.{arith}
-use lib.ListN.{length, getD, set, length-set}
+use lib.ListN.{length, set, length-set}
 use lib.Seq.{getD-set-same, getD-set-other}
 use Rattle.facts.specs.FactSet.{has, union, single, Subset, NextFact}
 use Rattle.facts.proofs.Membership.{has-zero}
@@ -16,7 +16,7 @@ use Rattle.job.specs.Job.{Job}
 use Rattle.timeline.proofs.Tests.{not-both, decided}
 use Rattle.times.specs.Earliest.{actionOf}
 use Rattle.times.proofs.Singles.{only-in-single}
-use Rattle.tables.specs.Tables.{DescribesEach, needsAt, addsAt}
+use Rattle.tables.specs.Tables.{DescribesEach, needsAt}
 use Rattle.landmarks.specs.Landmarks.{Landmarks, marksOf, sumOver}
 use Rattle.landmarks.specs.Tables.{markAt, KeptBefore, Begun, Through, ByAdders, ClosedAt, Closed}
 use Rattle.landmarks.proofs.AddedOnTheWay.{mark-of}

@@ -3,7 +3,7 @@
 use Prim.Native.Nat.{ℕ}
 use mathlib.Core.List.{List}
 use Rattle.tables.specs.declared.Frame.{Frame}
-use Rattle.landmarks.specs.Tables.{KeptBefore, Closed, WithinAll}
+use Rattle.landmarks.specs.Tables.{Closed, WithinAll}
 use Rattle.landmarks.specs.Openings.{OpeningsTo}
 use Rattle.landmarks.specs.Cliques.{CliquesAt}
 

@@ -2,12 +2,11 @@
 -- Assumes nothing.
 use Prim.Native.Nat.{ℕ, _+_, _*_, _-_, _≤_, _<_}
 use mathlib.Core.Path.{_≡_}
-use mathlib.Core.Bool.{Bool, true, cond, not}
+use mathlib.Core.Bool.{true, cond, not}
 use mathlib.Core.List.{List}
 use lib.Dec.{ltb}
 use lib.ListN.{length, getD}
 use Rattle.facts.specs.FactSet.{has, union, difference, single, Subset}
-use Rattle.job.specs.Job.{Job}
 use Rattle.tables.specs.Tables.{needsAt, addsAt, durationAt, poolUseAt, storeUseAt}
 use Rattle.tables.specs.Filled.{SameBefore}
 use Rattle.landmarks.specs.Landmarks.{marksOf, sumOver}

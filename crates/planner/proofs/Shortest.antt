@@ -16,7 +16,6 @@ use Rattle.job.specs.Valid.{jobRows}
 use Rattle.job.proofs.Passed.{Passed, passed}
 use Rattle.job.proofs.Table.{pass-of-append}
 use Rattle.timeline.specs.Step.{stepsIn}
-use Rattle.timeline.specs.Timeline.{end}
 use Rattle.timeline.specs.Accepted.{Accepted}
 use Rattle.timeline.proofs.PlanBytes.{few-steps-of-accepted}
 use Rattle.makespan.specs.Makespan.{Makespan, endsAt, noPlan, LeastEnd, makespan}

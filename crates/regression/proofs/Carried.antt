@@ -1,17 +1,16 @@
 -- Carried facts: what is wanted at minute t, and added then neither by the tail nor by an action that may still stop,
 -- held already at the event minute before; and so did what the steps that run in the minute before t need.
 -- Assumes nothing.
-use Prim.Native.Nat.{ℕ, zero, suc, _+_, _-_, _<_, _≤_}
-use mathlib.Core.Path.{_≡_, refl, sym, ap, _∙_}
+use Prim.Native.Nat.{ℕ, zero, suc, _+_, _<_, _≤_}
+use mathlib.Core.Path.{_≡_, refl}
 use mathlib.Core.Bool.{Bool, true, false}
-use mathlib.Core.Logic.{_⊎_, inl, inr, ⊎-elim}
+use mathlib.Core.Logic.{_⊎_, ⊎-elim}
 use mathlib.Core.List.{List, _++_}
-use native.Mathlib.Nat.{eq-or-lt-of-le}
 use native.Mathlib.Omega.{arith}
 use lib.ListN.{length}
 use Rattle.lists.specs.Lists.{any}
 use Rattle.facts.specs.FactSet.{has, Subset}
-use Rattle.job.specs.Job.{Action, Job}
+use Rattle.job.specs.Job.{Job}
 use Rattle.timeline.specs.Step.{Step}
 use Rattle.timeline.specs.Timeline.{held}
 use Rattle.timeline.proofs.Tests.{decided, not-both, le-or-lt}
@@ -24,7 +23,7 @@ use Rattle.regression.specs.Wanted.{wantedAt}
 use Rattle.regression.specs.Normal.{touchesAt}
 use Rattle.regression.specs.DeadEnd.{NormalPlan, Open, Dead}
 use Rattle.regression.proofs.WantedFacts.{wanted-holds}
-use Rattle.regression.proofs.WantedBetween.{AddedBetween, wanted-unless-added-between}
+use Rattle.regression.proofs.WantedBetween.{wanted-unless-added-between}
 use Rattle.regression.proofs.BlockedSteps.{touches-reads, not-blocked-when-untouched}
 use Rattle.regression.proofs.Tail.{tail-wants}
 use Rattle.regression.proofs.DeadEnds.{Bounds}

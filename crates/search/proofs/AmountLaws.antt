@@ -14,8 +14,7 @@ use borrow.Author.Tests.{lt-ltb, le-ltb}
 use Rattle.job.specs.Job.{Job}
 use Rattle.job.specs.Valid.{over}
 use Rattle.timeline.specs.Step.{Step, stepOf}
-use Rattle.timeline.specs.Timeline.{free, hasShare, inUse, storeUse, storeCap, usedUp}
-use Rattle.timeline.specs.Accepted.{anyBelow}
+use Rattle.timeline.specs.Timeline.{free, hasShare, storeUse, storeCap}
 use Rattle.timeline.proofs.Tests.{or-neither}
 use Rattle.timeline.proofs.Below.{below-more, below-found, below-same}
 use Rattle.times.specs.Earliest.{actionOf}

@@ -1,29 +1,28 @@
 -- Why an action that fails a test does not stop at the state's minute: in no normal plan with the chosen steps it does.
 -- Assumes nothing.
-use Prim.Native.Nat.{ℕ, suc, pred, _+_, _-_, _≤_, _<_}
+use Prim.Native.Nat.{ℕ, suc, _+_, _≤_, _<_}
 use mathlib.Core.Path.{_≡_, refl, sym, ap, ap₂, _∙_}
-use mathlib.Core.Bool.{Bool, true, false, not, cond, _&&_, _||_, true≢false, and-false}
-use mathlib.Core.Logic.{_⊎_, inl, inr, ⊎-elim}
+use mathlib.Core.Bool.{Bool, true, false, not, cond, _&&_, true≢false, and-false}
+use mathlib.Core.Logic.{⊎-elim}
 use mathlib.Core.List.{List, [], _∷_}
 use native.Mathlib.Nat.{le-refl}
 use native.Mathlib.Omega.{arith}
 use lib.Dec.{eqb, leb, ltb}
 use lib.ListN.{length, getD}
 use borrow.Author.Tests.{ltb-true, leb-true, lt-ltb, le-ltb, le-leb, eq-eqb, ne-eqb, eqb-true}
-use Rattle.lists.specs.Lists.{any}
-use Rattle.lists.proofs.Bools.{and-left, and-right, or-left, or-right, or-true}
+use Rattle.lists.proofs.Bools.{and-left, and-right}
 use Rattle.facts.specs.FactSet.{has, union, difference, meets, single}
 use Rattle.facts.proofs.Membership.{meets-some}
 use Rattle.facts.proofs.SetLaws.{in-union-left, in-union-right, in-union-cases, in-difference, in-difference-parts}
-use Rattle.facts.proofs.SetLaws.{in-both-meets, not-in-both, no-common-member}
+use Rattle.facts.proofs.SetLaws.{not-in-both, no-common-member}
 use Rattle.job.specs.Job.{Job}
-use Rattle.timeline.specs.Step.{Step, stepOf, unionOf, anyPair}
-use Rattle.timeline.specs.Timeline.{free, inUse, storeUse, storeCap, usedUp, clash, addedAt}
-use Rattle.timeline.specs.Accepted.{clashing, anyBelow}
+use Rattle.timeline.specs.Step.{Step, unionOf}
+use Rattle.timeline.specs.Timeline.{free, inUse, storeUse, storeCap, usedUp, clash}
+use Rattle.timeline.specs.Accepted.{clashing}
 use Rattle.timeline.proofs.Tests.{and-both, decided, or-neither}
 use Rattle.timeline.proofs.Below.{below-same}
 use Rattle.job.specs.Valid.{over}
-use Rattle.timeline.proofs.Places.{Place, here, there, Member, EachStep, any-at, below-some, below-none, none-below}
+use Rattle.timeline.proofs.Places.{Place, here, there, EachStep, any-at, below-some}
 use Rattle.timeline.proofs.Places.{any-of-none, each-cons}
 use Rattle.timeline.proofs.Clashes.{overlap-when}
 use Rattle.times.specs.Earliest.{actionOf}
@@ -31,7 +30,7 @@ use Rattle.times.proofs.Singles.{only-in-single, in-single}
 use Rattle.regression.specs.Wanted.{wantedAt, ifStarts}
 use Rattle.regression.specs.Normal.{addedBeside, blocked, blocks, lacksRoom}
 use Rattle.regression.specs.Tests.{provided, solelyProvides, deletesWanted}
-use Rattle.regression.specs.DeadEnd.{Until, Dead}
+use Rattle.regression.specs.DeadEnd.{Until}
 use Rattle.regression.proofs.Gathered.{in-unionOf, in-unionOf-from, in-cond-parts}
 use Rattle.regression.proofs.WantedFacts.{wanted-from-stop-on}
 use Rattle.regression.proofs.DeadEnds.{dead-when-clashing, dead-when-pool-exceeded, dead-when-store-exceeded}

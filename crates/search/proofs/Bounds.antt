@@ -1,7 +1,7 @@
 -- The bounds of the least horizon: what a search for one horizon says of them.
 -- Assumes nothing.
-use Prim.Native.Nat.{ℕ, _+_, _≤_, _<_}
-use mathlib.Core.Path.{_≡_, refl, sym, ap, _∙_}
+use Prim.Native.Nat.{ℕ, _+_, _≤_}
+use mathlib.Core.Path.{_≡_, ap}
 use mathlib.Core.Bool.{true, false}
 use mathlib.Core.List.{List}
 use native.Mathlib.Nat.{le-refl}
@@ -10,7 +10,6 @@ use Rattle.job.specs.Job.{Job}
 use Rattle.job.proofs.Passed.{Passed}
 use Rattle.timeline.specs.Step.{stepsIn}
 use Rattle.timeline.specs.Timeline.{end}
-use Rattle.timeline.specs.Accepted.{Accepted}
 use Rattle.times.specs.Numbers.{tableIn}
 use Rattle.times.proofs.PlanSteps.{plan-of-accepted}
 use Rattle.times.proofs.Admissible.{goal-not-before-its-time}
@@ -18,7 +17,6 @@ use Rattle.earliest.specs.Numbers.{setNumber}
 use Rattle.earliest.proofs.SetTimes.{number-by-set}
 use Rattle.tables.specs.declared.Frame.{Frame}
 use Rattle.leaf.specs.declared.Answer.{Answer}
-use Rattle.leaf.specs.Answer.{Found}
 use Rattle.search.specs.Search.{TaskOf}
 use Rattle.search.specs.Horizons.{until, Whole, NoneBefore, Solves, Raised, FoundBy}
 

@@ -1,8 +1,8 @@
 -- Sets of actions, gone over from one to the next: candidates, what they add, and when they would start.
 -- Assumes nothing.
-use Prim.Native.Nat.{ℕ, _+_, _*_, _-_, _^_, _≤_, _<_}
-use mathlib.Core.Path.{_≡_, refl, sym, ap, _∙_}
-use mathlib.Core.Bool.{Bool, true, false}
+use Prim.Native.Nat.{ℕ, _+_, _-_, _^_, _≤_, _<_}
+use mathlib.Core.Path.{_≡_, sym, ap, _∙_}
+use mathlib.Core.Bool.{true}
 use mathlib.Core.Logic.{_⊎_, inl, inr, ⊎-elim}
 use mathlib.Core.List.{List}
 use native.Mathlib.Nat.{eq-or-lt-of-le}
@@ -18,7 +18,7 @@ use Rattle.times.proofs.Singles.{in-single, only-in-single}
 use Rattle.tables.specs.Tables.{addsAt, durationAt}
 use Rattle.tables.specs.declared.Frame.{Frame}
 use Rattle.search.specs.declared.state.State.{State}
-use Rattle.search.specs.States.{BarredBy, MayStop, WithCandidate, Candidates}
+use Rattle.search.specs.States.{WithCandidate, Candidates}
 use Rattle.search.specs.Carried.{AddsOf, LatestStart}
 
 -- below the next member, a number is below this one, is it, or is no member

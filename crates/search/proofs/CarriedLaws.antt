@@ -1,14 +1,12 @@
 -- What a state carries back from its minute, read off its sets.
 -- Assumes nothing.
-use Prim.Native.Nat.{ℕ, _+_, _-_, _≤_, _<_}
-use mathlib.Core.Path.{_≡_, refl, sym, ap, _∙_}
-use mathlib.Core.Bool.{Bool, true, false, cond, not, _&&_}
+use Prim.Native.Nat.{ℕ, _≤_}
+use mathlib.Core.Path.{_≡_, sym, ap, _∙_}
+use mathlib.Core.Bool.{Bool, true, false, cond, not}
 use mathlib.Core.Logic.{inl, inr, ⊎-elim}
 use mathlib.Core.List.{List}
-use native.Mathlib.Nat.{eq-or-lt-of-le}
 use native.Mathlib.Omega.{arith}
-use lib.Dec.{eqb, leb, ltb}
-use lib.ListN.{length}
+use lib.Dec.{eqb, ltb}
 use borrow.Author.Tests.{eq-eqb, ltb-true, leb-true, not-false}
 use Rattle.lists.proofs.Bools.{and-left, and-right}
 use Rattle.facts.specs.FactSet.{has, union, difference}
@@ -16,9 +14,9 @@ use Rattle.facts.proofs.SetLaws.{in-union-left, in-union-right, in-union-cases,
 use Rattle.job.specs.Job.{Job}
 use Rattle.timeline.specs.Step.{Step}
 use Rattle.timeline.proofs.Tests.{not-both, false-unless, le-or-lt}
-use Rattle.timeline.proofs.Places.{Place, EachStep}
+use Rattle.timeline.proofs.Places.{EachStep}
 use Rattle.regression.proofs.Gathered.{in-cond, in-cond-parts, in-unionOf, in-unionOf-from}
-use Rattle.regression.proofs.Carried.{EventBefore, WantedBefore, NeededBefore, Carried}
+use Rattle.regression.proofs.Carried.{EventBefore, NeededBefore, Carried}
 use Rattle.tables.specs.Tables.{Describes, chosen}
 use Rattle.tables.specs.declared.Frame.{Frame}
 use Rattle.search.specs.declared.state.State.{State}

@@ -1,8 +1,8 @@
 -- Why the search misses no plan: one action after the other, and from event to event.
 -- Assumes nothing.
-use Prim.Native.Nat.{ℕ, zero, suc, _+_, _-_, _≤_, _<_}
-use mathlib.Core.Path.{_≡_, refl, sym, ap, _∙_}
-use mathlib.Core.Bool.{Bool, true, false, not}
+use Prim.Native.Nat.{ℕ, _≤_, _<_}
+use mathlib.Core.Path.{_≡_, refl, ap}
+use mathlib.Core.Bool.{true, false, not}
 use mathlib.Core.Logic.{⊎-elim}
 use mathlib.Core.List.{List, _∷_}
 use native.Mathlib.Omega.{arith}
@@ -18,23 +18,18 @@ use Rattle.timeline.specs.Step.{Step}
 use Rattle.timeline.proofs.Shares.{handover}
 use Rattle.timeline.proofs.Tests.{not-both, false-unless}
 use Rattle.timeline.proofs.Places.{EachStep, below-none}
-use Rattle.times.specs.Earliest.{actionOf}
 use Rattle.times.proofs.Singles.{only-in-single}
-use Rattle.regression.specs.Normal.{eventMinute}
-use Rattle.regression.specs.DeadEnd.{Until, Open, Dead}
+use Rattle.regression.specs.DeadEnd.{Until, Open}
 use Rattle.regression.proofs.BlockedSteps.{Touches}
 use Rattle.regression.proofs.Decisions.{alsoDecided, dead-choose, dead-decided}
 use Rattle.regression.proofs.Decisions.{dead-when-barred, dead-when-none-decided}
 use Rattle.regression.proofs.Minutes.{no-event, dead-back-to-event}
-use Rattle.tables.specs.Tables.{Describes, Known, chosen}
+use Rattle.tables.specs.Tables.{chosen}
 use Rattle.tables.specs.declared.Frame.{Frame}
-use Rattle.tables.specs.declared.Steps.{Steps}
-use Rattle.leaf.specs.declared.Answer.{Answer}
-use Rattle.leaf.specs.Answer.{Finishes}
 use Rattle.search.specs.declared.state.State.{State}
-use Rattle.search.specs.States.{Stands, DeadFor, Barred, nextStep}
+use Rattle.search.specs.States.{DeadFor, Barred, nextStep}
 use Rattle.search.specs.Moves.{NoStartBetween}
-use Rattle.search.specs.Search.{TaskOf, OpenIn}
+use Rattle.search.specs.Search.{OpenIn}
 use Rattle.search.proofs.Chosen.{place-of-chosen}
 
 -- the set of all ones has every fact below 64

@@ -1,13 +1,12 @@
 -- The search for one horizon begins with the goal and no steps; from horizon to horizon the bounds close in.
 -- Assumes nothing.
-use Prim.Native.Nat.{ℕ, suc, _+_, _≤_, _<_}
-use mathlib.Core.Path.{_≡_, refl, sym, ap, ap₂, _∙_}
-use mathlib.Core.Bool.{true, false, true≢false}
+use Prim.Native.Nat.{ℕ, _≤_, _<_}
+use mathlib.Core.Path.{_≡_, refl, sym, ap, _∙_}
+use mathlib.Core.Bool.{true≢false}
 use mathlib.Core.Logic.{⊎-elim}
 use mathlib.Core.List.{List, []}
-use native.Mathlib.Nat.{le-refl}
 use native.Mathlib.Omega.{arith}
-use lib.ListN.{length, length-replicate}
+use lib.ListN.{length-replicate}
 use Rattle.facts.specs.FactSet.{has}
 use Rattle.facts.proofs.Membership.{has-zero}
 use Rattle.job.specs.Job.{Job}
@@ -16,7 +15,7 @@ use Rattle.timeline.specs.Step.{stepsIn}
 use Rattle.timeline.specs.Timeline.{end}
 use Rattle.timeline.specs.Accepted.{Accepted}
 use Rattle.timeline.proofs.Tests.{le-or-lt}
-use Rattle.regression.specs.DeadEnd.{Until, Dead}
+use Rattle.regression.specs.DeadEnd.{Until}
 use Rattle.regression.proofs.WantedFacts.{wanted-at-horizon}
 use Rattle.regression.proofs.NoPlan.{no-accepted-plan-when-dead}
 use Rattle.tables.specs.Tables.{Describes, Known, noSteps, chosen}

@@ -1,7 +1,7 @@
 -- The sets of a minute, one step after the other.
 -- Assumes nothing.
 use Prim.Native.Nat.{ℕ, _+_}
-use mathlib.Core.Path.{_≡_, refl, sym, ap, _∙_}
+use mathlib.Core.Path.{_≡_, refl, sym, ap}
 use mathlib.Core.Bool.{cond, _&&_}
 use mathlib.Core.List.{List, _∷_}
 use lib.Dec.{eqb, leb, ltb}
@@ -10,7 +10,7 @@ use Rattle.job.specs.Job.{Job}
 use Rattle.timeline.specs.Step.{Step, stepOf}
 use Rattle.tables.specs.Tables.{DescribesAction, needsAt, addsAt, durationAt}
 use Rattle.search.specs.declared.minute.Minute.{Minute}
-use Rattle.search.specs.Minutes.{runsInto, MinuteOf, Is}
+use Rattle.search.specs.Minutes.{MinuteOf, Is}
 
 -- each set joined with what the step has of it
 pub record Joined (t number start stop needs adds : ℕ) (m r : Minute) : Type 0 where

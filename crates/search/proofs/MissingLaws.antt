@@ -1,7 +1,7 @@
 -- A fresh state for whose landmarks a store or a pool has too little left, or the minutes are too few, is a dead end.
 -- Assumes nothing.
 use Prim.Native.Nat.{ℕ, _+_, _*_, _-_, _≤_, _<_}
-use mathlib.Core.Path.{_≡_, sym, ap, ap₂, _∙_}
+use mathlib.Core.Path.{_≡_, ap, ap₂, _∙_}
 use mathlib.Core.Bool.{false}
 use mathlib.Core.List.{List}
 use native.Mathlib.Omega.{arith}
@@ -10,7 +10,7 @@ use borrow.Author.Tests.{leb-false}
 use Rattle.facts.specs.FactSet.{union}
 use Rattle.job.specs.Job.{Job}
 use Rattle.timeline.specs.Step.{Step}
-use Rattle.timeline.specs.Timeline.{storeCap, usedUp}
+use Rattle.timeline.specs.Timeline.{storeCap}
 use Rattle.timeline.proofs.Places.{EachStep}
 use Rattle.regression.specs.Tests.{mustHold}
 use Rattle.regression.specs.DeadEnd.{Until}

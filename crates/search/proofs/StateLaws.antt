@@ -1,14 +1,14 @@
 -- The next state stands as the one before: an action taken, and the way back to an event minute.
 -- Assumes nothing.
-use Prim.Native.Nat.{ℕ, suc, _+_, _-_, _≤_, _<_}
-use mathlib.Core.Path.{_≡_, refl, sym, ap, ap₂, _∙_}
-use mathlib.Core.Bool.{Bool, true, false, cond, _&&_, _||_, true≢false}
+use Prim.Native.Nat.{ℕ, _+_, _-_, _≤_, _<_}
+use mathlib.Core.Path.{_≡_, sym, ap, ap₂, _∙_}
+use mathlib.Core.Bool.{true, false, cond, true≢false}
 use mathlib.Core.Logic.{⊎-elim}
 use mathlib.Core.List.{List, _∷_}
-use native.Mathlib.Nat.{eq-or-lt-of-le, le-refl}
+use native.Mathlib.Nat.{eq-or-lt-of-le}
 use native.Mathlib.Omega.{arith}
 use lib.Dec.{eqb}
-use lib.ListN.{length, getD, set}
+use lib.ListN.{getD, set}
 use lib.Seq.{getD-set-same, getD-set-other}
 use borrow.Author.Tests.{eqb-true, lt-ltb, le-leb}
 use Rattle.lists.proofs.Bools.{and-left, and-right}
@@ -20,10 +20,10 @@ use Rattle.timeline.proofs.Tests.{or-cases, and-both, le-or-lt}
 use Rattle.timeline.proofs.Places.{here, there, EachStep}
 use Rattle.times.specs.Earliest.{actionOf}
 use Rattle.times.proofs.Singles.{in-single}
-use Rattle.regression.specs.Wanted.{wantedAt, neededAt}
+use Rattle.regression.specs.Wanted.{wantedAt}
 use Rattle.regression.proofs.Gathered.{in-unionOf, in-unionOf-from, in-cond-parts}
 use Rattle.regression.proofs.WantedBetween.{wanted-back-to}
-use Rattle.tables.specs.Tables.{Describes, Known, chosenTo, chosen, pushed, durationAt, clashesAt, addsAt}
+use Rattle.tables.specs.Tables.{Describes, Known, chosen, pushed, durationAt, clashesAt, addsAt}
 use Rattle.tables.specs.declared.Frame.{Frame}
 use Rattle.tables.specs.declared.Steps.{Steps}
 use Rattle.search.specs.declared.state.State.{State}
@@ -31,9 +31,9 @@ use Rattle.search.specs.declared.minute.Minute.{Minute}
 use Rattle.search.specs.declared.amounts.Uses.{Uses}
 use Rattle.search.specs.Minutes.{runsInto, MinuteOf}
 use Rattle.search.specs.Amounts.{UsesOf}
-use Rattle.search.specs.States.{AddedTwice, Stands, Safe, nextStep}
+use Rattle.search.specs.States.{AddedTwice, Stands, nextStep}
 use Rattle.search.specs.Moves.{startOf, Taken, NoStartBetween, Back}
-use Rattle.search.proofs.Chosen.{place-of-chosen, chosen-pushed, known-pushed}
+use Rattle.search.proofs.Chosen.{place-of-chosen, chosen-pushed}
 use Rattle.search.proofs.BarredActions.{stops, wanted-still, lasting, not-running}
 
 minute-as : (t t′ : ℕ) (L L′ : List Step) (m : Minute) → t ≡ t′ → L ≡ L′ → MinuteOf t L m → MinuteOf t′ L′ m

@@ -1,11 +1,10 @@
 -- Why a state that fails a test is a dead end.
 -- Assumes nothing.
-use Prim.Native.Nat.{ℕ, _+_, _≤_, _<_}
-use mathlib.Core.Path.{_≡_, refl, sym, ap, ap₂, _∙_}
+use Prim.Native.Nat.{ℕ, _≤_, _<_}
+use mathlib.Core.Path.{_≡_, sym, ap, _∙_}
 use mathlib.Core.Bool.{Bool, true, false, not, cond, _&&_, true≢false}
 use mathlib.Core.Logic.{⊎-elim}
 use mathlib.Core.List.{List}
-use native.Mathlib.Nat.{le-refl}
 use native.Mathlib.Omega.{arith}
 use lib.Dec.{eqb, leb, ltb}
 use lib.ListN.{getD}
@@ -16,8 +15,8 @@ use Rattle.facts.proofs.SetLaws.{not-in-both, no-common-member}
 use Rattle.job.specs.Job.{Job}
 use Rattle.timeline.specs.Step.{Step, unionOf}
 use Rattle.timeline.proofs.Tests.{and-both, decided}
-use Rattle.timeline.proofs.Places.{Place, Member}
-use Rattle.times.specs.Earliest.{actionOf, timeOf}
+use Rattle.timeline.proofs.Places.{Member}
+use Rattle.times.specs.Earliest.{timeOf}
 use Rattle.times.specs.Numbers.{tableIn}
 use Rattle.times.proofs.Times.{By}
 use Rattle.earliest.specs.Numbers.{setNumber}

@@ -1,28 +1,27 @@
 -- The steps of the search: what is ready stays ready, and a dead end after a step is one before it.
 -- Assumes nothing.
-use Prim.Native.Nat.{ℕ, _+_, _≤_, _<_}
-use mathlib.Core.Path.{_≡_, refl, sym, ap, ap₂, _∙_}
+use Prim.Native.Nat.{ℕ, _≤_, _<_}
+use mathlib.Core.Path.{_≡_, refl, sym, ap, _∙_}
 use mathlib.Core.Bool.{true, false, not}
 use mathlib.Core.List.{List, _∷_}
 use native.Mathlib.Omega.{arith}
-use lib.ListN.{length}
-use Rattle.facts.specs.FactSet.{has, meets}
+use Rattle.facts.specs.FactSet.{has}
 use Rattle.job.specs.Job.{Job}
 use Rattle.timeline.specs.Step.{Step}
 use Rattle.regression.specs.DeadEnd.{Until, Open}
 use Rattle.regression.proofs.Decisions.{dead-open}
-use Rattle.tables.specs.Tables.{Known, chosen, durationAt, clashesAt}
+use Rattle.tables.specs.Tables.{Known, chosen}
 use Rattle.tables.specs.declared.Frame.{Frame}
 use Rattle.tables.specs.declared.Steps.{Steps}
 use Rattle.leaf.specs.declared.Answer.{Answer}
 use Rattle.leaf.specs.Answer.{Finishes}
 use Rattle.search.specs.declared.state.State.{State}
-use Rattle.search.specs.States.{Stands, Safe, DeadFor, nextStep, MayStop}
+use Rattle.search.specs.States.{Stands, DeadFor, nextStep, MayStop}
 use Rattle.search.specs.Moves.{Taken, Back, NoStartBetween}
 use Rattle.search.specs.Missing.{Fresh}
 use Rattle.search.specs.Search.{TaskOf, Ready, OpenIn}
 use Rattle.search.proofs.Chosen.{known-pushed}
-use Rattle.search.proofs.StateLaws.{chosen-taken, taken-stands, chosen-back, back-stands}
+use Rattle.search.proofs.StateLaws.{chosen-taken, taken-stands, back-stands}
 use Rattle.search.proofs.Completeness.{dead-back}
 
 -- ---- an action taken

@@ -10,14 +10,11 @@ use Rattle.job.proofs.Passed.{Passed}
 use Rattle.timeline.specs.Step.{stepsIn}
 use Rattle.timeline.specs.Timeline.{end}
 use Rattle.timeline.specs.Accepted.{Accepted}
-use Rattle.regression.specs.DeadEnd.{Until}
-use Rattle.tables.specs.Tables.{Known, chosen, Lent}
+use Rattle.tables.specs.Tables.{Lent}
 use Rattle.tables.specs.declared.Frame.{Frame}
-use Rattle.tables.specs.declared.Steps.{Steps}
 use Rattle.leaf.specs.declared.Answer.{Answer}
 use Rattle.leaf.specs.Answer.{FileOf, Found}
 use Rattle.search.specs.declared.horizons.Rise.{Rise}
-use Rattle.search.specs.States.{DeadFor}
 use Rattle.search.specs.Search.{TaskOf}
 
 -- the frame for another horizon

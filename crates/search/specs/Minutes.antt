@@ -1,18 +1,17 @@
 -- What the chosen steps mean for one minute.
 -- Assumes nothing.
-use Prim.Native.Nat.{ℕ, _≤_, _<_}
+use Prim.Native.Nat.{ℕ}
 use mathlib.Core.Path.{_≡_}
 use mathlib.Core.Bool.{Bool, cond, _&&_}
 use mathlib.Core.List.{List, _∷_}
 use lib.Dec.{leb, ltb}
-use lib.ListN.{length}
 use Rattle.facts.specs.FactSet.{single}
 use Rattle.job.specs.Job.{Job}
 use Rattle.timeline.specs.Step.{Step, stepOf, unionOf}
 use Rattle.timeline.specs.Timeline.{addedAt}
 use Rattle.regression.specs.Wanted.{ifStarts, neededAt}
 use Rattle.regression.specs.Tests.{runningNeeds}
-use Rattle.tables.specs.Tables.{DescribesAction, durationAt, chosen, DescribesEach}
+use Rattle.tables.specs.Tables.{DescribesAction, chosen, DescribesEach}
 use Rattle.tables.specs.declared.Steps.{Steps}
 use Rattle.search.specs.declared.minute.Minute.{Minute}
 

@@ -20,7 +20,7 @@ use Rattle.landmarks.specs.Cliques.{Cliques, apartAt, leastAt}
 use Rattle.search.specs.declared.state.State.{State}
 use Rattle.search.specs.States.{Stands, DeadFor}
 
--- the tables have landmarks, shares and cliques of the job, on a day on which only the start set is at hand
+-- the tables have landmarks, shares, openings and cliques of the job, on a day on which only the start set is at hand
 pub record Marked (J : Job) (sets numbers : List ℕ) (frame : Frame) : Type 0 where
   pub first : frame .first ≡ 0
   pub landmarks : Landmarks J (J .start) 64 (markAt sets)

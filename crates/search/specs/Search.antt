@@ -1,22 +1,22 @@
 -- What the search promises of a state: the plan that it finds is accepted, and where it finds none there is none.
 -- Assumes nothing.
-use Prim.Native.Nat.{ℕ, _+_, _≤_, _<_}
+use Prim.Native.Nat.{ℕ, _≤_}
 use mathlib.Core.Path.{_≡_}
-use mathlib.Core.Bool.{Bool, true, false, not}
-use mathlib.Core.List.{List, _∷_}
+use mathlib.Core.Bool.{true, false, not}
+use mathlib.Core.List.{List}
 use lib.ListN.{length}
 use Rattle.facts.specs.FactSet.{has, foreign}
 use Rattle.job.specs.Job.{Job}
 use Rattle.timeline.specs.Step.{Step}
 use Rattle.earliest.specs.Sweep.{Filled}
-use Rattle.regression.specs.DeadEnd.{Until, Open}
-use Rattle.tables.specs.Tables.{Describes, chosen}
+use Rattle.regression.specs.DeadEnd.{Open}
+use Rattle.tables.specs.Tables.{Describes}
 use Rattle.tables.specs.declared.Frame.{Frame}
 use Rattle.leaf.specs.declared.Answer.{Answer}
 use Rattle.leaf.specs.Answer.{FileOf, Found}
 use Rattle.search.specs.declared.state.State.{State}
 use Rattle.search.specs.Missing.{Marked}
-use Rattle.search.specs.States.{Stands, Safe, DeadFor, nextStep}
+use Rattle.search.specs.States.{Stands, Safe, DeadFor}
 
 -- everything that is lent is of this job
 pub record TaskOf (J : Job) (file sets numbers times : List ℕ) (frame : Frame) : Type 0 where

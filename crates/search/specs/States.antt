@@ -5,7 +5,6 @@ use mathlib.Core.Path.{_≡_}
 use mathlib.Core.Bool.{Bool, true, false}
 use mathlib.Core.Logic.{_⊎_}
 use mathlib.Core.List.{List, _∷_}
-use lib.Dec.{ltb}
 use lib.ListN.{getD}
 use Rattle.facts.specs.FactSet.{has, union, single, meets, Subset}
 use Rattle.job.specs.Job.{Job}
@@ -13,7 +12,7 @@ use Rattle.timeline.specs.Step.{Step}
 use Rattle.timeline.proofs.Places.{Member}
 use Rattle.times.specs.Earliest.{actionOf}
 use Rattle.regression.specs.Wanted.{wantedAt}
-use Rattle.regression.specs.DeadEnd.{Until, Open, Dead, stepStopping}
+use Rattle.regression.specs.DeadEnd.{Until, Dead, stepStopping}
 use Rattle.tables.specs.Tables.{Describes, Known, chosen, durationAt, clashesAt, Lent}
 use Rattle.tables.specs.declared.Frame.{Frame}
 use Rattle.search.specs.declared.state.State.{State}

@@ -1,12 +1,11 @@
 -- `facts::next` meets its contract: the shift drops the facts below, the zeros lead to the next.
 -- Assumes nothing.
-use Prim.Native.Nat.{_+_, _/_, _%_, _^_, _≤_, _<_}
-use mathlib.Core.Path.{_≡_, ap}
+use Prim.Native.Nat.{_/_, _%_, _^_, _≤_}
+use mathlib.Core.Path.{_≡_}
 use native.Mathlib.Nat.{div-le-self}
 use native.Mathlib.Omega.{arith}
 use borrow.Author.Needs.{needs}
 use lib.Count.{trailingZeros}
-use Rattle.facts.specs.FactSet.{NextFact}
 use Rattle.facts.proofs.Lowest.{lowest-by-zeros, lowest-of-word, next-when-none, next-when-rest-empty}
 use Rattle.facts.proofs.Lowest.{next-by-lowest}
 use Rattle.facts.proofs.next.Statement.{statement}

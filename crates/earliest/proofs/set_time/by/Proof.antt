@@ -1,7 +1,7 @@
 -- `by` meets its contract: a row that is later makes the set later.
 -- Assumes nothing.
-use Prim.Native.Nat.{ℕ, _-_, _≤_, _<_, suc}
-use mathlib.Core.Path.{_≡_, sym}
+use Prim.Native.Nat.{_-_, _≤_, _<_, suc}
+use mathlib.Core.Path.{_≡_}
 use mathlib.Core.Bool.{true, true≢false}
 use borrow.Author.Tests.{not-true}
 use Rattle.facts.specs.FactSet.{has}

@@ -1,7 +1,7 @@
 -- `row_by` meets its contract: an entry that is later makes the row later.
 -- Assumes nothing.
-use Prim.Native.Nat.{ℕ, _-_, _≤_, _<_, suc}
-use mathlib.Core.Path.{_≡_, sym}
+use Prim.Native.Nat.{_-_, _≤_, _<_, suc}
+use mathlib.Core.Path.{_≡_}
 use mathlib.Core.Bool.{true, true≢false}
 use lib.ListN.{getD}
 use Rattle.facts.specs.FactSet.{has}

@@ -1,10 +1,8 @@
 -- `row_time` meets its contract: the facts of the set below `low` are counted, and none is late.
 -- Assumes nothing.
-use Prim.Native.Nat.{ℕ, _+_, _-_, _≤_, _<_, suc}
-use mathlib.Core.Path.{_≡_, ap, _∙_}
+use Prim.Native.Nat.{_-_, suc}
 use mathlib.Core.Logic.{inl}
-use mathlib.Core.List.{List}
-use lib.ListN.{length, getD}
+use lib.ListN.{getD}
 use Rattle.pairs.specs.Pairs.{entryOf}
 use Rattle.times.specs.Numbers.{none}
 use Rattle.times.proofs.Slots.{entry-before-2080}

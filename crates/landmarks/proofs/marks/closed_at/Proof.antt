@@ -1,8 +1,7 @@
 -- `closed_at` meets its contract: at hand, or within what the adders need.
 -- Assumes nothing.
 use Prim.Native.Nat.{ℕ}
-use mathlib.Core.Path.{_≡_, sym, ap, _∙_}
-use mathlib.Core.Bool.{true}
+use mathlib.Core.Path.{sym, ap, _∙_}
 use borrow.Author.Tests.{eqb-true}
 use Rattle.facts.specs.FactSet.{has, union}
 use Rattle.landmarks.proofs.TableLaws.{closed-at-hand, closed-by-adders}

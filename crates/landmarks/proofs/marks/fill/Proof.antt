@@ -1,6 +1,5 @@
 -- `fill` meets its contract: the table found passes the test, or is put to nothing.
 -- Assumes nothing.
-use mathlib.Core.Path.{_≡_}
 use borrow.Author.Tests.{not-false}
 use Rattle.landmarks.proofs.TableLaws.{kept-again, closed-when-empty}
 use native.Mathlib.Omega.{arith}

@@ -1,8 +1,7 @@
 -- `through` meets its contract.
 -- Assumes nothing.
 use Prim.Native.Nat.{ℕ}
-use mathlib.Core.Path.{_≡_, sym, ap, _∙_}
-use mathlib.Core.Bool.{true}
+use mathlib.Core.Path.{sym, ap, _∙_}
 use Rattle.lists.proofs.Bools.{and-left, and-right}
 use Rattle.facts.specs.FactSet.{has}
 use Rattle.timeline.proofs.Tests.{not-both}

@@ -1,7 +1,6 @@
 -- `fill` meets its contract: the first rows are filled, and stay.
 -- Assumes nothing.
 use Prim.Native.Nat.{ℕ, _-_, _≤_, _<_}
-use mathlib.Core.Path.{_≡_}
 use Rattle.landmarks.specs.Tables.{KeptBefore, Within}
 use Rattle.landmarks.proofs.TableLaws.{kept-at-first, kept-again}
 use Rattle.landmarks.proofs.ShareLaws.{numbers-kept, kept-less, rows-on}

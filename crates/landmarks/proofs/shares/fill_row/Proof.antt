@@ -1,6 +1,5 @@
 -- `fill_row` meets its contract: the row found passes the test, or is put to nothing.
 -- Assumes nothing.
-use mathlib.Core.Path.{_≡_}
 use borrow.Author.Tests.{not-false}
 use Rattle.landmarks.proofs.TableLaws.{kept-again}
 use Rattle.landmarks.proofs.ShareLaws.{numbers-kept, within-when-empty}

@@ -1,7 +1,6 @@
 -- `lower` meets its contract: entries before the place stay.
 -- Assumes nothing.
 use Prim.Native.Nat.{_-_, _≤_}
-use mathlib.Core.Path.{_≡_}
 use Rattle.landmarks.specs.Tables.{KeptBefore}
 use Rattle.landmarks.proofs.TableLaws.{kept-at-first, kept-again}
 use Rattle.landmarks.proofs.ShareLaws.{kept-less}

@@ -1,7 +1,6 @@
 -- `search` meets its contract: entries before the row stay.
 -- Assumes nothing.
-use Prim.Native.Nat.{_+_, _*_, _-_, _≤_}
-use mathlib.Core.Path.{_≡_}
+use Prim.Native.Nat.{_-_, _≤_}
 use Rattle.landmarks.specs.Tables.{KeptBefore, rowAt}
 use Rattle.landmarks.proofs.TableLaws.{kept-at-first, kept-again}
 use Rattle.landmarks.proofs.ShareLaws.{numbers-kept}

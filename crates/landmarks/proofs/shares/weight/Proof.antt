@@ -1,11 +1,9 @@
 -- `weight` meets its contract.
 -- Assumes nothing.
-use Prim.Native.Nat.{ℕ, _+_, _*_, _-_, _^_, _≤_}
-use mathlib.Core.Path.{_≡_, sym, ap₂, _∙_}
-use mathlib.Core.Bool.{Bool, cond}
+use Prim.Native.Nat.{_*_, _^_}
+use mathlib.Core.Path.{ap₂}
 use native.Mathlib.Nat.{mul-le-mul}
 use borrow.Author.Tests.{lt-ltb, le-ltb}
-use Rattle.tables.specs.Tables.{durationAt, poolUseAt}
 use native.Mathlib.Omega.{arith}
 use borrow.Author.Needs.{needs}
 use Rattle.landmarks.proofs.shares.weight.Statement.{statement}

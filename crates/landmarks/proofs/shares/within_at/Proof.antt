@@ -1,9 +1,7 @@
 -- `within_at` meets its contract.
 -- Assumes nothing.
-use Prim.Native.Nat.{ℕ, _*_, _≤_}
-use mathlib.Core.Path.{_≡_, sym, ap, _∙_}
+use Prim.Native.Nat.{_*_}
 use borrow.Author.Tests.{leb-true}
-use Rattle.landmarks.specs.Landmarks.{sumOver}
 use native.Mathlib.Omega.{arith}
 use borrow.Author.Needs.{needs}
 use Rattle.landmarks.proofs.shares.within_at.Statement.{statement}

@@ -1,8 +1,6 @@
 -- `draw::number` meets its contract: a remainder is below its divisor.
 -- Assumes nothing.
-use Prim.Native.Nat.{_%_, _<_}
 use native.Mathlib.Nat.{mod-lt}
-use native.Mathlib.Omega.{arith}
 use borrow.Author.Needs.{needs}
 use Rattle.random_jobs.proofs.draw.number.Statement.{statement}
 use Rattle.random_jobs.proofs.draw.number.Tie as tie

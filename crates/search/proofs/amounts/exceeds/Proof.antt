@@ -1,7 +1,7 @@
 -- `exceeds` meets its contract: none of the first k limits is exceeded.
 -- Assumes nothing.
 use Prim.Native.Nat.{_-_, _≤_}
-use mathlib.Core.Path.{_≡_, refl, sym, ap}
+use mathlib.Core.Path.{_≡_, refl, sym}
 use mathlib.Core.Bool.{false}
 use Rattle.search.specs.Amounts.{exceeds}
 use Rattle.search.proofs.AmountLaws.{exceeds-found, exceeds-not-yet}

@@ -1,7 +1,7 @@
 -- `in_time` meets its contract: what must be carried comes later than the event minute.
 -- Assumes nothing.
 use Prim.Native.Nat.{ℕ}
-use mathlib.Core.Path.{_≡_, ap, ap₂, _∙_}
+use mathlib.Core.Path.{ap, _∙_}
 use Rattle.facts.specs.FactSet.{union, difference}
 use Rattle.search.proofs.CarriedLaws.{event-before, carried-from}
 use Rattle.search.proofs.StateTests.{dead-when-carried}

@@ -1,6 +1,6 @@
 -- `descend` meets its contract: between `bound` and the plan's end lies the least end.
 -- Assumes nothing.
-use Prim.Native.Nat.{ℕ, _-_, _≤_}
+use Prim.Native.Nat.{_-_, _≤_}
 use mathlib.Core.Path.{_≡_}
 use mathlib.Core.Bool.{true}
 use Rattle.search.specs.Horizons.{Raised, FoundBy}

@@ -2,7 +2,6 @@
 -- Assumes nothing.
 use Prim.Native.Nat.{_+_, _-_, _≤_, suc}
 use mathlib.Core.Path.{_≡_}
-use lib.ListN.{getD}
 use Rattle.job.specs.Job.{Job}
 use Rattle.tables.specs.Tables.{chosenTo, DescribesEach}
 use Rattle.search.specs.Minutes.{MinuteOf}

@@ -1,6 +1,5 @@
 -- `minutes_suffice` meets its contract: a clique that takes too long makes a dead end.
 -- Assumes nothing.
-use mathlib.Core.Path.{_≡_}
 use borrow.Author.Tests.{leb-false}
 use Rattle.search.proofs.MissingLaws.{dead-when-minutes-exceeded}
 use native.Mathlib.Omega.{arith}

@@ -1,7 +1,7 @@
 -- `stores_suffice` meets its contract: the store that does not makes a dead end.
 -- Assumes nothing.
-use Prim.Native.Nat.{ℕ, _-_, _≤_}
-use mathlib.Core.Path.{_≡_, sym, ap, _∙_}
+use Prim.Native.Nat.{_-_, _≤_}
+use mathlib.Core.Path.{sym, ap, _∙_}
 use mathlib.Core.Bool.{true≢false}
 use borrow.Author.Tests.{not-true}
 use Rattle.search.specs.Missing.{fits}

@@ -1,6 +1,6 @@
 -- `suffices` meets its contract: the tests are of the landmarks of what must hold.
 -- Assumes nothing.
-use mathlib.Core.Path.{_≡_, ap, _∙_}
+use mathlib.Core.Path.{ap, _∙_}
 use borrow.Author.Tests.{not-true}
 use Rattle.landmarks.specs.Landmarks.{marksOf}
 use Rattle.landmarks.specs.Tables.{markAt}

@@ -1,6 +1,6 @@
 -- `gone` meets its contract: the first k steps are joined.
 -- Assumes nothing.
-use Prim.Native.Nat.{ℕ, _+_, _-_, _≤_, suc}
+use Prim.Native.Nat.{_+_, _-_, _≤_, suc}
 use mathlib.Core.Path.{_≡_, refl, ap₂, _∙_}
 use Rattle.facts.specs.FactSet.{union}
 use Rattle.job.specs.Job.{Job}

@@ -1,7 +1,5 @@
 -- `gone_of` meets its contract: the step's stop and sets are those of the tables.
 -- Assumes nothing.
-use Prim.Native.Nat.{ℕ}
-use mathlib.Core.Path.{sym, _∙_}
 use Rattle.search.proofs.Looks.{step-in-tables}
 use native.Mathlib.Omega.{arith}
 use borrow.Author.Needs.{needs}

@@ -1,7 +1,7 @@
 -- `supply` meets its contract.
 -- Assumes nothing.
 use Prim.Native.Nat.{_*_, _^_}
-use mathlib.Core.Path.{_≡_, ap₂}
+use mathlib.Core.Path.{ap₂}
 use native.Mathlib.Nat.{mul-le-mul}
 use native.Mathlib.Omega.{arith}
 use borrow.Author.Needs.{needs}

@@ -2,7 +2,6 @@
 -- Assumes nothing.
 use Prim.Native.Nat.{ℕ, _+_, _*_, _-_, _^_, _≤_, suc, min}
 use mathlib.Core.Path.{_≡_, refl, ap₂, _∙_}
-use mathlib.Core.List.{List}
 use lib.ListN.{getD}
 use Rattle.search.specs.Missing.{UsedBefore}
 use native.Mathlib.Omega.{arith}

@@ -1,7 +1,7 @@
 -- `used_by` meets its contract.
 -- Assumes nothing.
 use Prim.Native.Nat.{ℕ, _*_, _-_, _^_, min}
-use mathlib.Core.Path.{_≡_, ap₂, _∙_}
+use mathlib.Core.Path.{ap₂, _∙_}
 use native.Mathlib.Nat.{mul-le-mul}
 use native.Mathlib.Omega.{arith}
 use borrow.Author.Needs.{needs}

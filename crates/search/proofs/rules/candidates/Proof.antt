@@ -1,6 +1,6 @@
 -- `candidates` meets its contract: the actions below k are found or barred.
 -- Assumes nothing.
-use Prim.Native.Nat.{ℕ, _-_, _≤_, _<_}
+use Prim.Native.Nat.{_-_, _≤_, _<_}
 use mathlib.Core.Path.{_≡_}
 use mathlib.Core.Bool.{true}
 use Rattle.facts.specs.FactSet.{has}

@@ -1,10 +1,8 @@
 -- `may_stop` meets its contract, test by test.
 -- Assumes nothing.
-use Prim.Native.Nat.{_+_, _≤_}
-use mathlib.Core.Path.{_≡_, sym, ap, _∙_}
+use mathlib.Core.Path.{sym}
 use mathlib.Core.Bool.{true≢false}
 use borrow.Author.Tests.{not-true, not-false}
-use Rattle.times.specs.Earliest.{actionOf}
 use Rattle.search.proofs.BarredActions.{barred-when-full}
 use native.Mathlib.Omega.{arith}
 use Rattle.search.proofs.rules.may_stop.Statement.{statement}

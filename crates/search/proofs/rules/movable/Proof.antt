@@ -1,6 +1,6 @@
 -- `movable` meets its contract: what is true of it is that nothing blocks the action.
 -- Assumes nothing.
-use mathlib.Core.Path.{_≡_, sym, _∙_}
+use mathlib.Core.Path.{sym, _∙_}
 use mathlib.Core.Bool.{true≢false}
 use borrow.Author.Tests.{not-true}
 use Rattle.tables.specs.Tables.{chosen}

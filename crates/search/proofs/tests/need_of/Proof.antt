@@ -1,6 +1,5 @@
 -- `need_of` meets its contract: the step's minutes and sets are those of the tables.
 -- Assumes nothing.
-use mathlib.Core.Path.{sym, _∙_}
 use Rattle.search.proofs.Looks.{step-in-tables}
 use native.Mathlib.Omega.{arith}
 use borrow.Author.Needs.{needs}
