@@ -16,7 +16,6 @@ ghost use Rattle.timeline.specs.Timeline.{end};
 ghost use Rattle.timeline.specs.Accepted.{anyBelow, clashing, exceedsPool, exceedsStore};
 ghost use Rattle.timeline.specs.Value.{stepOfValue, stepAt, stepsOf};
 ghost use Rattle.checker.specs.Leaf.{Share, InUse, ExceedsPool, UsedUp};
-use job::Action;
 use job::Counts;
 use job::Job;
 use job::refusal::Refusal;

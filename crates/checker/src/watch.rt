@@ -1,9 +1,8 @@
 // The clock over a whole plan, with the needs of each step looked at where it starts.
 ghost use mathlib.Core.Path.{_≡_};
-ghost use mathlib.Core.Bool.{not, _&&_};
+ghost use mathlib.Core.Bool.{not};
 ghost use mathlib.Core.List.{[], _∷_};
 ghost use Prim.Native.Nat.{_≤_, _<_};
-ghost use lib.Dec.{eqb};
 ghost use Rattle.lists.specs.Lists.{any, Each};
 ghost use Rattle.facts.specs.FactSet.{subset};
 ghost use Rattle.job.specs.Refusal.{_when_, first};

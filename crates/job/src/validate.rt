@@ -1,6 +1,5 @@
 // Tests 3 to 11 of a job value, in the order of the table over the whole job.
 ghost use mathlib.Core.Path.{_≡_};
-ghost use mathlib.Core.Bool.{_||_};
 ghost use Prim.Native.Nat.{_≤_};
 ghost use Rattle.lists.specs.Lists.{firsts, any};
 ghost use Rattle.job.specs.Job.{actionIn, jobIn, Fits};

@@ -1,8 +1,7 @@
 // The search for one horizon, from event minute to event minute.
-ghost use mathlib.Core.Path.{_≡_};
 ghost use mathlib.Core.Bool.{true};
 ghost use mathlib.Core.List.{_∷_};
-ghost use Prim.Native.Nat.{_≤_, _<_};
+ghost use Prim.Native.Nat.{_<_};
 ghost use Rattle.regression.specs.DeadEnd.{Until};
 ghost use Rattle.tables.specs.Tables.{chosen};
 ghost use Rattle.search.specs.States.{nextStep, MayStop};

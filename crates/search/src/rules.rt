@@ -2,10 +2,9 @@
 ghost use mathlib.Core.Path.{_≡_};
 ghost use mathlib.Core.Bool.{true, false};
 ghost use mathlib.Core.Logic.{_⊎_};
-ghost use Prim.Native.Nat.{_+_, _≤_, _<_};
+ghost use Prim.Native.Nat.{_+_, _<_};
 ghost use lib.ListN.{length};
 ghost use Rattle.facts.specs.FactSet.{has};
-ghost use Rattle.tables.specs.Tables.{durationAt};
 ghost use Rattle.search.specs.States.{Safe, BarredBy, SetsAllow, MayStop, WithCandidate, Candidates};
 use crate::amounts;
 use crate::minute;

@@ -1,8 +1,7 @@
 // Tests of a state: whether some normal plan may have its steps.
 ghost use mathlib.Core.Path.{_≡_};
-ghost use Prim.Native.Nat.{ℕ, _≤_, _<_};
+ghost use Prim.Native.Nat.{_≤_, _<_};
 ghost use lib.ListN.{length};
-ghost use mathlib.Core.List.{List};
 ghost use Rattle.facts.specs.FactSet.{difference, meets};
 ghost use Rattle.tables.specs.Tables.{addsAt, durationAt, Known, Lent};
 ghost use Rattle.search.specs.Moves.{DeadUnless, NeedOf, NeedsAt};
