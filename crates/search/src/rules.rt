@@ -126,7 +126,8 @@ fn longer(numbers: &[u32], i: u8, k: u8) -> u8
     k
 }
 
-// The candidate to take first: the longest, for it leaves the fewest ways to go on; of equally long ones the last.
+// The candidate to take first: the longest, of equally long ones the last. Any would do; with this one the order of the
+// file's actions matters least (docs/DECISIONS.md).
 pub fn pick(numbers: &[u32], left: u64) -> u8
     requires { ⌜ (length (now numbers) ≡ 1156) × (0 < left) ⌝ }
     ensures { λ r. ⌜ (r < 64) × (has left r ≡ true) ⌝ }
