@@ -30,7 +30,7 @@ use Rattle.tables.specs.Tables.{addsAt, durationAt, Describes}
 use Rattle.landmarks.specs.Tables.{KeptBefore}
 use Rattle.landmarks.specs.Cliques.{NeverHolds, NeverOverlap, Cliques, apartAt, leastAt, Exclude, CliquesAt}
 use Rattle.landmarks.specs.Cliques.{Unreached, ApartTo, LeastTo, Outside, Lessened, LeastPut, Remaining}
-use Rattle.landmarks.proofs.TableLaws.{kept-at-first, kept-when-set}
+use Rattle.landmarks.proofs.TableLaws.{kept-at-first, kept-when-set, at-most-on}
 
 module _ (J : Job) (sets numbers times : List ℕ) (frame : Frame) (described : Describes J sets numbers frame)
     (filled : Filled J times) where
@@ -190,10 +190,7 @@ apart-on xs ys numbers times frame i away known few outside lessened before k q 
 pub least-on : (sets numbers : List ℕ) (q i best less : ℕ) → less ≤ best
     → (has (addsAt sets i) q ≡ true → less ≤ durationAt numbers i) → LeastTo sets numbers i q best
     → LeastTo sets numbers (i + 1) q less
-least-on sets numbers q i best less fewer here before k l adds =
-    ⊎-elim (λ e. let same : k ≡ i = omega arith in rw same (here (rw same at adds)))
-    (λ lower. let rest = before k (omega arith) adds in omega arith)
-    (eq-or-lt-of-le l)
+least-on sets numbers q = at-most-on (λ k. has (addsAt sets k) q ≡ true) (durationAt numbers)
 
 pub least-put-at-first : (sets : List ℕ) (actions : ℕ) (xs : List ℕ) → length xs ≡ 1156 → LeastPut sets actions 0 xs xs
 least-put-at-first sets actions xs size =

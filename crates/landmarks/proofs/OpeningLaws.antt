@@ -20,7 +20,7 @@ use Rattle.tables.specs.declared.Frame.{Frame}
 use Rattle.tables.specs.Tables.{needsAt, poolUseAt, Describes}
 use Rattle.landmarks.specs.Tables.{KeptBefore}
 use Rattle.landmarks.specs.Openings.{OpensAt, OpenTo, OpeningsTo, OpeningsPut}
-use Rattle.landmarks.proofs.TableLaws.{kept-at-first, kept-when-set}
+use Rattle.landmarks.proofs.TableLaws.{kept-at-first, kept-when-set, at-most-on}
 
 -- what a user of the pool needs holds at its start, so the start is not before the time of that
 pub opens-of-tables : (J : Job) (sets numbers times : List ℕ) (frame : Frame) → Describes J sets numbers frame
@@ -44,10 +44,8 @@ opens-of-tables J sets numbers times frame described filled pool minute inside o
 pub open-on : (sets numbers times : List ℕ) (frame : Frame) (pool i best less : ℕ) → less ≤ best
     → (0 < poolUseAt numbers i pool → less ≤ setNumber times (needsAt sets i) (frame .facts))
     → OpenTo sets numbers times frame i pool best → OpenTo sets numbers times frame (i + 1) pool less
-open-on sets numbers times frame pool i best less fewer here before k l uses =
-    ⊎-elim (λ e. let same : k ≡ i = omega arith in rw same (here (rw same at uses)))
-    (λ lower. let rest = before k (omega arith) uses in omega arith)
-    (eq-or-lt-of-le l)
+open-on sets numbers times frame pool =
+    at-most-on (λ k. 0 < poolUseAt numbers k pool) (λ k. setNumber times (needsAt sets k) (frame .facts))
 
 -- ---- pool after pool
 pub openings-at-first : (sets times : List ℕ) (frame : Frame) (xs : List ℕ) → length xs ≡ 1156

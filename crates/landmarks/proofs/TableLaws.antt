@@ -179,3 +179,11 @@ landmarks-when-closed J sets numbers actions start count described closed =
         (in-union-cases (single q) (marksOf (markAt sets) 64 (needsAt sets i)) p
         (closed q below .others i inside in-adds p mark)) in
         (m .0, m .1, ap (λ (set : ℕ). has set (m .0)) (sym (d .needs)) ∙ m .2, m .3)
+
+-- ---- action after action: a number that is at most what each action takes that it is about
+pub at-most-on : (about : ℕ → Type 0) (takes : ℕ → ℕ) (i best less : ℕ) → less ≤ best → (about i → less ≤ takes i)
+    → ((k : ℕ) → k < i → about k → best ≤ takes k) → (k : ℕ) → k < i + 1 → about k → less ≤ takes k
+at-most-on about takes i best less fewer here before k l holds =
+    ⊎-elim (λ e. let same : k ≡ i = omega arith in rw same (here (rw same at holds)))
+    (λ lower. let rest = before k (omega arith) holds in omega arith)
+    (eq-or-lt-of-le l)
