@@ -3,17 +3,19 @@
 use Prim.Native.Nat.{ℕ, _+_, _-_, _<_, _≤_}
 use mathlib.Core.Path.{_≡_}
 use mathlib.Core.List.{List, _++_, append-assoc}
+use mathlib.Core.Logic.{⊎-elim}
 use native.Mathlib.Omega.{arith}
 use Rattle.facts.specs.FactSet.{Subset}
 use Rattle.job.specs.Job.{Job}
 use Rattle.timeline.specs.Step.{Step}
 use Rattle.timeline.specs.Timeline.{held}
-use Rattle.timeline.proofs.Places.{EachStep}
+use Rattle.timeline.proofs.Places.{EachStep, append-cases}
 use Rattle.times.specs.Earliest.{Table, timeOf, Solves}
 use Rattle.times.proofs.Times.{By}
 use Rattle.times.proofs.PlanSteps.{PlanOf}
 use Rattle.times.proofs.Admissible.{held-set-not-before-its-time}
 use Rattle.regression.specs.DeadEnd.{NormalPlan}
+use Rattle.regression.proofs.DeadEnds.{Bounds}
 use Rattle.begun.specs.RestOfDay.{restOfJob, restOfPlan}
 use Rattle.begun.proofs.RestPlan.{rest-holds-the-same, rest-is-a-day}
 
@@ -33,3 +35,11 @@ module _ (J : Job) (M T goal : ℕ) (K : List Step) (kept : EachStep (λ x. x .s
       → By (timeOf (restOfJob J M K) times set) (m - M)
   rest-times-bound-normal E C new normal inside =
       rest-times-bound (E ++ C) new (rw append-assoc (normal .plan)) (rw append-assoc inside)
+
+-- the bound that the search's tests take, for chosen steps C and the kept ones
+pub rest-bounds : (J : Job) (M T goal : ℕ) (K : List Step) → EachStep (λ x. x .start < M) K → M ≤ T → (times : Table)
+    → Solves (restOfJob J M K) times → (C : List Step) → EachStep (λ x. M ≤ x .start) C
+    → Bounds J M goal T (C ++ K) (λ set m. By (timeOf (restOfJob J M K) times set) (m - M))
+rest-bounds J M T goal K kept inTime times solves C new E newer p set m after inside =
+    rest-times-bound-normal J M T goal K kept inTime times solves set m after E C
+    (λ x Q i. ⊎-elim (λ r. newer x (r .0) (r .1)) (λ r. new x (r .0) (r .1)) (append-cases E C i)) p inside

@@ -15,7 +15,6 @@ use Rattle.timeline.specs.Timeline.{held}
 use Rattle.timeline.proofs.Tests.{not-both}
 use Rattle.timeline.proofs.Places.{Place, EachStep, append-cases, place-append}
 use Rattle.times.proofs.PlanSteps.{PlanOf, own-action, needs-at, held-since}
-use Rattle.regression.specs.DeadEnd.{Until}
 use Rattle.regression.proofs.Gathered.{in-cond-parts}
 use Rattle.landmarks.specs.Landmarks.{Landmarks, marksOf}
 
@@ -29,11 +28,12 @@ mark-of marks (suc n) set p h =
     (λ e. let r = mark-of marks n set p e in let l = r .1 in (r .0, omega arith, r .2, r .3))
     (in-union-cases _ (marksOf marks n set) p h)
 
--- a step of E adds p
-pub record AddedIn (E : List Step) (p : ℕ) : Type 0 where
+-- a step of E that stops by t adds p
+pub record AddedIn (E : List Step) (t p : ℕ) : Type 0 where
   pub by : Step
   pub rest : List Step
   pub place : Place by rest E
+  pub stops : by .stop ≤ t
   pub adds : has (by .action .adds) p ≡ true
 
 -- all that holds at minute b, and what the steps L add between b and t, is at hand
@@ -42,7 +42,7 @@ pub record AtHand (J : Job) (b t atHand : ℕ) (E L : List Step) : Type 0 where
   pub given : EachStep (λ x. b < x .stop → x .stop ≤ t → Subset (x .action .adds) atHand) L
 
 module _ (J : Job) (b t atHand goal T : ℕ) (E L : List Step) (plan : PlanOf J T goal (E ++ L))
-    (stop : EachStep (Until b t) E) (base : AtHand J b t atHand E L) where
+    (stop : EachStep (λ x. (b ≤ x .start) × (x .start < x .stop)) E) (base : AtHand J b t atHand E L) where
   -- a fact that is not at hand was added by a step of E
   added-by-new : (m q : ℕ) → b ≤ m → m ≤ t → has (held (J .start) (E ++ L) m) q ≡ true → has atHand q ≡ false
       → (x : Step) × (R : List Step) × Place x R E × (x .stop ≤ m) × (has (x .action .adds) q ≡ true)
@@ -61,7 +61,7 @@ module _ (J : Job) (b t atHand goal T : ℕ) (E L : List Step) (plan : PlanOf J 
   module _ (n : ℕ) (marks : ℕ → ℕ) (landmarks : Landmarks J atHand n marks) where
     -- by the minute, with one more than it as the falling number
     landmark-by : (fuel m : ℕ) → m < fuel → (q p : ℕ) → q < n → b ≤ m → m ≤ t
-        → has (held (J .start) (E ++ L) m) q ≡ true → has (marks q) p ≡ true → AddedIn E p × (has atHand p ≡ false)
+        → has (held (J .start) (E ++ L) m) q ≡ true → has (marks q) p ≡ true → AddedIn E t p × (has atHand p ≡ false)
     landmark-by zero m l q p below after early holds mark = absurd (omega arith)
     landmark-by (suc fuel) m l q p below after early holds mark =
         let fresh = landmarks .fresh q p below mark in
@@ -75,7 +75,7 @@ module _ (J : Job) (b t atHand goal T : ℕ) (E L : List Step) (plan : PlanOf J 
         let own = own-action J T goal (E ++ L) plan inPlan in
         ⊎-elim
         (λ same. (
-          record { by = x; rest = a .1; place = a .2; adds = ap (has (x .action .adds)) same ∙ a .4 },
+          record { by = x; rest = a .1; place = a .2; stops = omega arith; adds = ap (has (x .action .adds)) same ∙ a .4 },
           ap (has atHand) same ∙ fresh,
         ))
         (λ each.
@@ -85,13 +85,13 @@ module _ (J : Job) (b t atHand goal T : ℕ) (E L : List Step) (plan : PlanOf J 
         (landmarks .why q p below mark)
 
     pub landmark-added : (q p : ℕ) → q < n → b ≤ t → has (held (J .start) (E ++ L) t) q ≡ true
-        → has (marks q) p ≡ true → AddedIn E p × (has atHand p ≡ false)
+        → has (marks q) p ≡ true → AddedIn E t p × (has atHand p ≡ false)
     landmark-added q p below after holds mark =
         landmark-by (suc t) t (omega arith) q p below after (omega arith) holds mark
 
     -- of all facts of a set
     pub landmarks-added : (set : ℕ) → b ≤ t → Subset set (held (J .start) (E ++ L) t) → (p : ℕ)
-        → has (marksOf marks n set) p ≡ true → AddedIn E p × (has atHand p ≡ false)
+        → has (marksOf marks n set) p ≡ true → AddedIn E t p × (has atHand p ≡ false)
     landmarks-added set after holds p h =
         let m = mark-of marks n set p h in
         landmark-added (m .0) p (m .1) after (holds (m .0) (m .2)) (m .3)

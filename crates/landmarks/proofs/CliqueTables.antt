@@ -16,41 +16,37 @@ use Rattle.facts.specs.FactSet.{has, Members, union, difference, subset, Subset
 use Rattle.facts.proofs.Membership.{subset-decides}
 use Rattle.facts.proofs.SetLaws.{in-union-left, in-union-right, in-difference-parts}
 use Rattle.job.specs.Job.{Job}
+use Rattle.timeline.specs.Step.{Step}
 use Rattle.timeline.proofs.Tests.{not-both, false-unless, decided, trichotomy}
-use Rattle.times.specs.Time.{at, unreachable}
 use Rattle.times.specs.Earliest.{actionOf}
 use Rattle.times.proofs.Singles.{in-single}
-use Rattle.times.proofs.Admissible.{unreachable-set-never-holds}
-use Rattle.times.specs.Numbers.{tableIn}
 use Rattle.earliest.specs.Numbers.{setNumber}
-use Rattle.earliest.specs.Sweep.{Filled}
-use Rattle.earliest.proofs.SetTimes.{time-of-set}
 use Rattle.tables.specs.declared.Frame.{Frame}
 use Rattle.tables.specs.Tables.{addsAt, durationAt, Describes}
+use Rattle.landmarks.specs.Bounds.{TimesBound}
 use Rattle.landmarks.specs.Tables.{KeptBefore}
 use Rattle.landmarks.specs.Cliques.{NeverHolds, NeverOverlap, Cliques, apartAt, leastAt, Exclude, CliquesAt}
 use Rattle.landmarks.specs.Cliques.{Unreached, ApartTo, LeastTo, Outside, Lessened, LeastPut, Remaining}
 use Rattle.landmarks.proofs.TableLaws.{kept-at-first, kept-when-set, at-most-on}
 
 module _ (J : Job) (sets numbers times : List ℕ) (frame : Frame) (described : Describes J sets numbers frame)
-    (filled : Filled J times) where
+    (b : ℕ) (K : List Step) (origin : ℕ) (bounds : TimesBound J b K origin times) where
   unreached-never-holds : (i j : ℕ) → i < frame .actions → j < frame .actions → Unreached sets times frame i j
-      → NeverHolds J (union (actionOf J i .needs) (actionOf J j .needs))
-  unreached-never-holds i j first second late T goal P plan m =
-      unreachable-set-never-holds J (tableIn times) (filled .solves) T goal P plan both m
-      (time-of-set J times (filled .able) both
-      ∙ ap (λ (b : Bool). cond b unreachable (at (setNumber times both (J .facts))))
-      (lt-ltb 530400 (setNumber times both (J .facts)) after))
+      → NeverHolds J b K (union (actionOf J i .needs) (actionOf J j .needs))
+  unreached-never-holds i j first second late T goal inTime N new plan m after holds =
+      let reached = bounds T goal inTime N new plan both m after holds .1 in
+      let beyond = later in
+      omega arith
     where
       both : ℕ
       both = union (actionOf J i .needs) (actionOf J j .needs)
 
-      after : 530400 < setNumber times both (J .facts)
-      after =
+      later : 530400 < setNumber times both (J .facts)
+      later =
           rw (← described .each i first .needs, ← described .each j second .needs, described .facts) late
 
   never-when-excluded : (i j : ℕ) → i < frame .actions → j < frame .actions → Exclude sets numbers times frame i j
-      → NeverOverlap J i j
+      → NeverOverlap J b K i j
   never-when-excluded i j first second exclude =
       record {
         different = exclude .different;
@@ -68,7 +64,7 @@ module _ (J : Job) (sets numbers times : List ℕ) (frame : Frame) (described : 
             (exclude .why);
       }
 
-  pub cliques-of-tables : CliquesAt sets numbers times frame → Cliques J 64 (apartAt sets) (leastAt numbers)
+  pub cliques-of-tables : CliquesAt sets numbers times frame → Cliques J b K 64 (apartAt sets) (leastAt numbers)
   cliques-of-tables tables =
       record {
         exclusive = λ q p i j below member first second adds addsToo.

@@ -6,5 +6,7 @@ pub mod TableLaws
 pub mod ShareLaws
 pub mod CliqueLaws
 pub mod CliqueTables
+pub mod TimeBounds
+pub mod AddedByNew
 pub mod OpeningLaws
 mod KeptTables

@@ -3,39 +3,42 @@
 use Prim.Native.Nat.{ℕ, _+_, _*_, _≤_, _<_}
 use mathlib.Core.Path.{_≡_, ap}
 use mathlib.Core.Logic.{⊎-elim}
-use mathlib.Core.List.{List}
+use mathlib.Core.List.{List, _++_}
 use native.Mathlib.Nat.{eq-or-lt-of-le}
 use native.Mathlib.Omega.{arith}
 use lib.ListN.{length, set, getD}
 use lib.Seq.{getD-set-same, getD-set-other}
 use Rattle.job.specs.Job.{Action, Job}
-use Rattle.times.specs.Numbers.{tableIn}
+use Rattle.timeline.specs.Step.{Step}
+use Rattle.timeline.proofs.Places.{place-append}
 use Rattle.times.proofs.PlanSteps.{own-action, needs-at}
-use Rattle.times.proofs.Admissible.{held-set-not-before-its-time}
 use Rattle.earliest.specs.Numbers.{setNumber}
-use Rattle.earliest.specs.Sweep.{Filled}
-use Rattle.earliest.proofs.SetTimes.{number-by-set}
 use Rattle.times.specs.Earliest.{actionOf}
 use Rattle.tables.specs.declared.Frame.{Frame}
 use Rattle.tables.specs.Tables.{needsAt, poolUseAt, Describes}
+use Rattle.landmarks.specs.Bounds.{TimesBound}
 use Rattle.landmarks.specs.Tables.{KeptBefore}
 use Rattle.landmarks.specs.Openings.{OpensAt, OpenTo, OpeningsTo, OpeningsPut}
 use Rattle.landmarks.proofs.TableLaws.{kept-at-first, kept-when-set, at-most-on}
 
 -- what a user of the pool needs holds at its start, so the start is not before the time of that
 pub opens-of-tables : (J : Job) (sets numbers times : List ℕ) (frame : Frame) → Describes J sets numbers frame
-    → Filled J times → (pool minute : ℕ) → pool < length (J .pools)
-    → OpenTo sets numbers times frame (frame .actions) pool minute → OpensAt J pool minute
-opens-of-tables J sets numbers times frame described filled pool minute inside opening T goal P plan x Q i uses =
-    let known : x .number < frame .actions = rw (described .actions) at (plan .known x Q i) in
+    → (b : ℕ) (K : List Step) (origin : ℕ) → TimesBound J b K origin times → (pool minute : ℕ)
+    → pool < length (J .pools) → OpenTo sets numbers times frame (frame .actions) pool minute
+    → OpensAt J b K pool (minute + origin)
+opens-of-tables J sets numbers times frame described b K origin bounds pool minute inside opening T goal E new plan x Q i
+    uses =
+    let inPlan = place-append K i in
+    let known : x .number < frame .actions = rw (described .actions) at (plan .known x _ inPlan) in
     let each = described .each (x .number) known in
-    let lasts = plan .keeps .lasting x Q i in
-    let own = ap (λ (a : Action). getD (a .pools) pool 0) (own-action J T goal P plan i) in
+    let lasts = plan .keeps .lasting x _ inPlan in
+    let inTime = plan .keeps .inTime x _ inPlan in
+    let after = new x Q i in
+    let own = ap (λ (a : Action). getD (a .pools) pool 0) (own-action J T goal (E ++ K) plan inPlan) in
     let use-of-pool = each .pools pool inside in
     let soonest = opening (x .number) known (omega arith) in
-    let number = number-by-set J times (filled .able) (actionOf J (x .number) .needs) (x .start)
-    (held-set-not-before-its-time J (tableIn times) (filled .solves) T goal P plan _ (x .start)
-    (needs-at J T goal P plan i (x .start) (omega arith) lasts)) in
+    let number = bounds T goal (omega arith) E new plan (actionOf J (x .number) .needs) (x .start) after
+    (needs-at J T goal (E ++ K) plan inPlan (x .start) (omega arith) lasts) .0 in
     let same : setNumber times (needsAt sets (x .number)) (frame .facts)
     ≡ setNumber times (actionOf J (x .number) .needs) (J .facts) = rw (each .needs, described .facts) in
     omega arith

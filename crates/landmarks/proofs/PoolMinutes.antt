@@ -13,7 +13,7 @@ use Rattle.timeline.specs.Timeline.{inUse}
 use Rattle.timeline.proofs.Tests.{le-or-lt}
 use Rattle.timeline.proofs.Places.{EachStep, total-mono}
 use Rattle.timeline.proofs.Shares.{useAt, share-when, use-of-share}
-use Rattle.landmarks.specs.Landmarks.{minutesBefore}
+use Rattle.landmarks.specs.Landmarks.{minutesIn}
 
 -- the sum of f over n minutes from minute m on
 abbrev over : ℕ → ℕ → (ℕ → ℕ) → ℕ
@@ -47,46 +47,39 @@ module _ (J : Job) (pool : ℕ) where
   share x = getD (x .action .pools) pool 0
 
   -- a step has its use in each of its minutes
-  used-each-minute : (x : Step) (m n : ℕ) → m ≤ x .start
-      → share x * minutesBefore (m + n) x ≤ over m n (λ k. useAt J pool k x)
-  used-each-minute x m zero l =
-      let none : minutesBefore (m + 0) x ≡ 0 = omega arith in rw none (omega (arith, mul-zero (share x)))
-  used-each-minute x m (suc n) l =
-      let rest = used-each-minute x m n l in
+  used-each-minute : (x : Step) (m n : ℕ) → share x * minutesIn m (m + n) x ≤ over m n (λ k. useAt J pool k x)
+  used-each-minute x m zero =
+      let none : minutesIn m (m + 0) x ≡ 0 = omega arith in rw none (omega (arith, mul-zero (share x)))
+  used-each-minute x m (suc n) =
+      let rest = used-each-minute x m n in
       ⊎-elim
       (λ started.
       ⊎-elim
       (λ over.
-      let same : minutesBefore (m + suc n) x ≡ minutesBefore (m + n) x = omega arith in
+      let same : minutesIn m (m + suc n) x ≡ minutesIn m (m + n) x = omega arith in
       rw same (omega arith))
       (λ runs.
-      let more : minutesBefore (m + suc n) x ≡ suc (minutesBefore (m + n) x) = omega arith in
-      let e = mul-suc (share x) (minutesBefore (m + n) x) in
+      let more : minutesIn m (m + suc n) x ≡ suc (minutesIn m (m + n) x) = omega arith in
+      let e = mul-suc (share x) (minutesIn m (m + n) x) in
       let same-use = use-of-share J pool (m + n) x (share-when J pool (m + n) x started (omega arith)) in
       rw (more, same-use) (omega arith))
       (le-or-lt (x .stop) (m + n)))
       (λ later.
-      let same : minutesBefore (m + suc n) x ≡ minutesBefore (m + n) x = omega arith in
+      let same : minutesIn m (m + suc n) x ≡ minutesIn m (m + n) x = omega arith in
       rw same (omega arith))
       (le-or-lt (x .start) (m + n))
 
-  -- steps of which those that use the pool start at m or later
-  pub minutes-within : (m t most : ℕ) (P : List Step) → EachStep (λ x. 0 < share x → m ≤ x .start) P
-      → ((k : ℕ) → inUse J pool k P ≤ most) → total (λ x. share x * minutesBefore t x) P ≤ most * (t - m)
-  minutes-within m t most P after within =
+  -- what steps use of the pool from m on and before t
+  pub minutes-within : (m t most : ℕ) (P : List Step) → ((k : ℕ) → inUse J pool k P ≤ most)
+      → total (λ x. share x * minutesIn m t x) P ≤ most * (t - m)
+  minutes-within m t most P within =
       let all = over-at-most m (t - m) most (λ k. inUse J pool k P) within in
       let same = over-total m (t - m) (useAt J pool) P in
-      let each : total (λ x. share x * minutesBefore t x) P ≤ total (λ x. over m (t - m) (λ k. useAt J pool k x)) P =
-      total-mono (λ x. share x * minutesBefore t x) (λ x. over m (t - m) (λ k. useAt J pool k x)) P
-      (λ x Q i. one x (share x) refl (after x Q i)) in
+      let each : total (λ x. share x * minutesIn m t x) P ≤ total (λ x. over m (t - m) (λ k. useAt J pool k x)) P =
+      total-mono (λ x. share x * minutesIn m t x) (λ x. over m (t - m) (λ k. useAt J pool k x)) P
+      (λ x Q i.
+      let sum = used-each-minute x m (t - m) in
+      let no-less : minutesIn m t x ≤ minutesIn m (m + (t - m)) x = omega arith in
+      let more = mul-le-mul-left (share x) no-less in
+      omega arith) in
       omega arith
-    where
-      one : (x : Step) (u : ℕ) → share x ≡ u → (0 < u → m ≤ x .start)
-          → share x * minutesBefore t x ≤ over m (t - m) (λ k. useAt J pool k x)
-      one x zero e later = rw e (omega (arith, zero-mul (minutesBefore t x)))
-      one x (suc u) e later =
-          let starts = later (omega arith) in
-          let sum = used-each-minute x m (t - m) starts in
-          let no-less : minutesBefore t x ≤ minutesBefore (m + (t - m)) x = omega arith in
-          let more = mul-le-mul-left (share x) no-less in
-          omega arith

@@ -4,12 +4,13 @@ use Prim.Native.Nat.{ℕ, _+_, _≤_, _<_}
 use mathlib.Core.Path.{_≡_}
 use mathlib.Core.Bool.{true, false}
 use mathlib.Core.Logic.{_⊎_}
-use mathlib.Core.List.{List}
+use mathlib.Core.List.{List, _++_}
 use lib.ListN.{length, getD}
 use Rattle.facts.specs.FactSet.{has, union, Subset}
 use Rattle.job.specs.Job.{Job}
 use Rattle.timeline.specs.Step.{Step}
 use Rattle.timeline.specs.Timeline.{held}
+use Rattle.timeline.proofs.Places.{EachStep}
 use Rattle.times.specs.Earliest.{actionOf}
 use Rattle.times.proofs.PlanSteps.{PlanOf}
 use Rattle.earliest.specs.Numbers.{setNumber}
@@ -17,24 +18,25 @@ use Rattle.tables.specs.declared.Frame.{Frame}
 use Rattle.tables.specs.Tables.{clashes, needsAt, addsAt, clashesAt, durationAt, poolUseAt}
 use Rattle.landmarks.specs.Tables.{KeptBefore}
 
--- in no plan does a set ever hold
-abbrev pub NeverHolds : Job → ℕ → Type 0
-NeverHolds J set =
-    (T goal : ℕ) (P : List Step) → PlanOf J T goal P → (m : ℕ) → Subset set (held (J .start) P m) → ⊥
+-- in no plan of the kept steps K and else steps that start at minute b or later does a set hold from b on
+abbrev pub NeverHolds : Job → ℕ → List Step → ℕ → Type 0
+NeverHolds J b K set =
+    (T goal : ℕ) → b ≤ T → (N : List Step) → EachStep (λ x. b ≤ x .start) N → PlanOf J T goal (N ++ K)
+    → (m : ℕ) → b ≤ m → Subset set (held (J .start) (N ++ K) m) → ⊥
 
--- Actions i and j are different and no plan has both in one minute: they clash, or use more of some pool together than
+-- Actions i and j are different and no such plan has both in one minute from b on: they clash, or use more of some pool together than
 -- there is, or what they need never holds together.
-pub record NeverOverlap (J : Job) (i j : ℕ) : Type 0 where
+pub record NeverOverlap (J : Job) (b : ℕ) (K : List Step) (i j : ℕ) : Type 0 where
   pub different : i ≡ j → ⊥
   pub why : (clashes J i j ≡ true)
       ⊎ (((pool : ℕ) × (pool < length (J .pools))
       × (getD (J .pools) pool 0 < getD (actionOf J i .pools) pool 0 + getD (actionOf J j .pools) pool 0))
-      ⊎ NeverHolds J (union (actionOf J i .needs) (actionOf J j .needs)))
+      ⊎ NeverHolds J b K (union (actionOf J i .needs) (actionOf J j .needs)))
 
 -- For each fact below n, facts whose adders never overlap its own, and minutes that each of its adders takes.
-pub record Cliques (J : Job) (n : ℕ) (apart least : ℕ → ℕ) : Type 0 where
+pub record Cliques (J : Job) (b : ℕ) (K : List Step) (n : ℕ) (apart least : ℕ → ℕ) : Type 0 where
   pub exclusive : (q p i j : ℕ) → q < n → has (apart q) p ≡ true → i < length (J .actions) → j < length (J .actions)
-      → has (actionOf J i .adds) q ≡ true → has (actionOf J j .adds) p ≡ true → NeverOverlap J i j
+      → has (actionOf J i .adds) q ≡ true → has (actionOf J j .adds) p ≡ true → NeverOverlap J b K i j
   pub shortest : (q i : ℕ) → q < n → i < length (J .actions) → has (actionOf J i .adds) q ≡ true
       → least q ≤ actionOf J i .duration
 

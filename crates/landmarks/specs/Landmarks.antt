@@ -1,6 +1,6 @@
 -- Landmarks: the facts that every plan adds that makes a fact true; and shares, what a fact takes at least.
 -- Assumes nothing.
-use Prim.Native.Nat.{ℕ, zero, suc, _+_, _-_, _<_, _≤_, min}
+use Prim.Native.Nat.{ℕ, zero, suc, _+_, _-_, _<_, _≤_, min, max}
 use mathlib.Core.Path.{_≡_}
 use mathlib.Core.Bool.{true, false, cond}
 use mathlib.Core.Logic.{_⊎_}
@@ -35,6 +35,6 @@ Shares J atHand share n weight =
     (i : ℕ) → i < length (J .actions)
     → sumOver share n (difference (actionOf J i .adds) atHand) ≤ weight (actionOf J i)
 
--- the minutes of a step before t
-abbrev pub minutesBefore : ℕ → Step → ℕ
-minutesBefore t x = min (x .stop) t - x .start
+-- the minutes of a step from m on and before t
+abbrev pub minutesIn : ℕ → ℕ → Step → ℕ
+minutesIn m t x = min (x .stop) t - max (x .start) m

@@ -1,7 +1,7 @@
 -- Openings of pools: a minute for each pool before which no plan uses it.
 -- Assumes nothing.
 use Prim.Native.Nat.{ℕ, _+_, _≤_, _<_}
-use mathlib.Core.List.{List}
+use mathlib.Core.List.{List, _++_}
 use lib.ListN.{getD}
 use Rattle.job.specs.Job.{Job}
 use Rattle.timeline.specs.Step.{Step}
@@ -12,11 +12,12 @@ use Rattle.tables.specs.declared.Frame.{Frame}
 use Rattle.tables.specs.Tables.{needsAt, poolUseAt}
 use Rattle.landmarks.specs.Tables.{KeptBefore}
 
--- in every plan, a step that uses the pool starts at the minute or later
-abbrev pub OpensAt : Job → ℕ → ℕ → Type 0
-OpensAt J pool minute =
-    (T goal : ℕ) (P : List Step) → PlanOf J T goal P
-    → EachStep (λ x. 0 < getD (x .action .pools) pool 0 → minute ≤ x .start) P
+-- in every plan with the steps L, one of the others that starts at b or later and uses the pool starts at the minute or
+-- later
+abbrev pub OpensAt : Job → ℕ → List Step → ℕ → ℕ → Type 0
+OpensAt J b L pool minute =
+    (T goal : ℕ) (E : List Step) → EachStep (λ x. b ≤ x .start) E → PlanOf J T goal (E ++ L)
+    → EachStep (λ x. 0 < getD (x .action .pools) pool 0 → minute ≤ x .start) E
 
 -- ---- in the tables of a job
 

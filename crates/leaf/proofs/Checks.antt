@@ -31,7 +31,7 @@ use Rattle.checker.specs.declared.Checked.the-variants as checked
 use Rattle.tables.specs.declared.Steps.{Steps}
 use Rattle.leaf.specs.declared.Answer.{Answer}
 use Rattle.leaf.specs.Order.{placed, inOrder, WritesPlan}
-use Rattle.leaf.specs.Answer.{noAnswer, answerOf, planOf, Answers, Found}
+use Rattle.leaf.specs.Answer.{noAnswer, answerOf, planOf, Answers, bytesIn, Found}
 
 -- ---- the bytes of the steps stand in front
 pub length-bytes-in-order : (J : Job) (steps : Steps) → length (planBytes (inOrder J steps)) ≡ 3 * steps .count
@@ -134,6 +134,19 @@ module _ (J : Job) (goal T : ℕ) (steps : Steps) where
       by-checks : (c : Checked) → checks ≡ c → r ≡ answerTo c → Found J goal T r
       by-checks (checked.Ends e) c q = by-end e (ltb T e) refl c q
       by-checks (checked.Refused why) c q = not-both h (ap (λ (x : Answer). x .found) q)
+
+  -- its bytes are those of the steps
+  pub answer-bytes : (r : Answer) → Answers J goal T steps r → r .found ≡ true → bytesIn r ≡ planBytes (inOrder J steps)
+  answer-bytes r a h = by-checks checks a
+    where
+      by-end : (e : ℕ) (b : Bool) → r ≡ cond b noAnswer (asPlan e (planOf J steps))
+          → bytesIn r ≡ planBytes (inOrder J steps)
+      by-end e true q = not-both h (ap (λ (x : Answer). x .found) q)
+      by-end e false q = ap bytesIn q ∙ plan-in-front J steps (3 * steps .count) refl
+
+      by-checks : (c : Checked) → r ≡ answerTo c → bytesIn r ≡ planBytes (inOrder J steps)
+      by-checks (checked.Ends e) q = by-end e (ltb T e) q
+      by-checks (checked.Refused why) q = not-both h (ap (λ (x : Answer). x .found) q)
 
   -- where nothing is found, the steps as they stand are no accepted plan that ends by T
   pub answer-not-found : (r : Answer) → Answers J goal T steps r → r .found ≡ false → (e : ℕ) → checks ≡ checked.Ends e

@@ -1,11 +1,11 @@
 -- The end of the search at the first minute: a plan that is found is accepted, and otherwise the steps are a dead end.
 -- Assumes nothing.
 use Prim.Native.Nat.{ℕ, _≤_, _<_}
-use mathlib.Core.Path.{_≡_, ap, subst, _∙_}
+use mathlib.Core.Path.{_≡_, sym, ap, subst, _∙_}
 use mathlib.Core.Bool.{Bool, true, false}
 use mathlib.Core.List.{List}
 use native.Mathlib.Omega.{arith}
-use lib.ListN.{length}
+use lib.ListN.{length, getD}
 use Rattle.lists.proofs.Tabulate.{length-tabulate}
 use Rattle.job.specs.declared.refusal.Refusal.{Refusal}
 use Rattle.job.specs.declared.refusal.Verdict.{Verdict}
@@ -17,23 +17,23 @@ use Rattle.job.proofs.Passed.{passed}
 use Rattle.jobfile.specs.declared.Reading.{Reading}
 use Rattle.jobfile.specs.Answers.{readFile}
 use Rattle.jobfile.proofs.RoundTrips.{read-job-passes}
-use Rattle.timeline.specs.Step.{stepsIn, planBytes}
+use Rattle.timeline.specs.Step.{Step, stepsIn, planBytes}
 use Rattle.timeline.specs.Timeline.{end}
 use Rattle.timeline.specs.Accepted.{stepRows}
 use Rattle.timeline.proofs.Tests.{not-both}
 use Rattle.timeline.proofs.Places.{EachStep}
 use Rattle.timeline.proofs.Permutations.{Permutation, permutation-trans, permutation-each}
-use Rattle.timeline.proofs.PlanBytes.{accepted-bytes-of-steps}
+use Rattle.timeline.proofs.PlanBytes.{accepted-bytes-of-steps, bytes-of-steps}
 use Rattle.regression.specs.DeadEnd.{Until, Dead}
 use Rattle.regression.proofs.NoPlan.{dead-when-refused}
-use Rattle.tables.specs.Tables.{chosen}
+use Rattle.tables.specs.Tables.{chosen, Known}
 use Rattle.tables.specs.declared.Frame.{Frame}
 use Rattle.tables.specs.declared.Steps.{Steps}
 use Rattle.leaf.specs.declared.Answer.{Answer}
 use Rattle.leaf.specs.Order.{placed, inOrder, Reordered, Ordered}
-use Rattle.leaf.specs.Answer.{Answers, FileOf, Asked, Finishes}
+use Rattle.leaf.specs.Answer.{Answers, FileOf, Asked, Finishes, bytesIn}
 use Rattle.leaf.proofs.InOrder.{in-order-permutes, in-order-own, in-order-rising, each-chosen, permutation-apart}
-use Rattle.leaf.proofs.Checks.{accepted-ends, answer-found, answer-not-found}
+use Rattle.leaf.proofs.Checks.{accepted-ends, answer-found, answer-bytes, answer-not-found}
 
 abbrev passes : Verdict → Bool
 passes Pass = true
@@ -45,6 +45,7 @@ pub finishes-unread : (file : List ℕ) (frame : Frame) (steps : Steps) (reading
 finishes-unread file frame steps reading why r e h =
     record {
       found = λ f J have. unread (ap (λ (x : Reading). x .verdict) (e ∙ have .1));
+      same = λ f J have known starts. unread (ap (λ (x : Reading). x .verdict) (e ∙ have .1));
       dead = λ f J have asked b t l. unread (ap (λ (x : Reading). x .verdict) (e ∙ have .1));
     }
   where
@@ -55,6 +56,20 @@ finishes-unread file frame steps reading why r e h =
 module _ (J : Job) (frame : Frame) (steps s : Steps) (same : Reordered steps s) (ordered : Ordered s (s .count)) where
   order : Permutation (inOrder J s) (chosen J steps)
   order = permutation-trans (in-order-permutes J s) (same .order J)
+
+  found-steps : first (jobRows J) ≡ Pass → Known (length (J .actions)) steps
+      → ((k : ℕ) → k < steps .count → getD (steps .starts) k 0 < 65536) → (r : Answer)
+      → Answers J (frame .goal) (frame .horizon) s r → r .found ≡ true
+      → Permutation (stepsIn J (bytesIn r)) (chosen J steps)
+  found-steps pass known starts r a h =
+      let few = passed J pass .fewActions in
+      let number = permutation-each (λ x. x .number < 256) order
+      (each-chosen (λ x. x .number < 256) J steps (steps .count) (λ k l. let m = known .known k l in omega arith)) in
+      let start = permutation-each (λ x. x .start < 65536) order
+      (each-chosen (λ x. x .start < 65536) J steps (steps .count) starts) in
+      let e = ap (stepsIn J) (answer-bytes J (frame .goal) (frame .horizon) s r a h)
+      ∙ bytes-of-steps J (inOrder J s) (in-order-own J s) number start in
+      subst (λ (P : List Step). Permutation P (chosen J steps)) (sym e) order
 
   dead : first (jobRows J) ≡ Pass → Asked J frame steps → (r : Answer)
       → Answers J (frame .goal) (frame .horizon) s r → r .found ≡ false → (b t : ℕ) → t ≤ b
@@ -96,12 +111,15 @@ finishes-read file frame steps s reading r e few same ordered a =
       found = λ f J have.
           let n = same .count in
           answer-found J (frame .goal) (frame .horizon) s (omega arith) r (answers J have) f;
+      same = λ f J have known starts.
+          found-steps J frame steps s same ordered (pass J have) known starts r (answers J have) f;
       dead = λ f J have asked b t l.
-          let pass : first (jobRows J) ≡ Pass
-          = subst (λ (K : Job). first (jobRows K) ≡ Pass) (have .2) (read-job-passes file (have .0) (have .1)) in
-          dead J frame steps s same ordered pass asked r (answers J have) f b t l;
+          dead J frame steps s same ordered (pass J have) asked r (answers J have) f b t l;
     }
   where
+    pass : (J : Job) → FileOf J file → first (jobRows J) ≡ Pass
+    pass J have = subst (λ (K : Job). first (jobRows K) ≡ Pass) (have .2) (read-job-passes file (have .0) (have .1))
+
     answers : (J : Job) → FileOf J file → Answers J (frame .goal) (frame .horizon) s r
     answers J have =
         let q : jobIn (reading .job) ≡ J = ap (λ (x : Reading). jobIn (x .job)) (e ∙ have .1) ∙ have .2 in

@@ -1,5 +1,5 @@
 mod Exchanges
 mod Writing
-mod InOrder
+pub mod InOrder
 mod Checks
 mod Finishing

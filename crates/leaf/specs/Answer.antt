@@ -1,11 +1,11 @@
 -- What the search answers at the first minute: a plan that is accepted, or nothing, and then a dead end.
 -- Assumes nothing.
-use Prim.Native.Nat.{ℕ, _*_, _≤_}
+use Prim.Native.Nat.{ℕ, _*_, _≤_, _<_}
 use mathlib.Core.Path.{_≡_}
 use mathlib.Core.Bool.{true, false, cond}
 use mathlib.Core.List.{List}
 use lib.Dec.{ltb}
-use lib.ListN.{length, take, replicate}
+use lib.ListN.{length, getD, take, replicate}
 use Rattle.encoding.specs.Bytes.{overwrite}
 use Rattle.facts.specs.FactSet.{foreign}
 use Rattle.job.specs.declared.Job as held
@@ -15,6 +15,7 @@ use Rattle.jobfile.specs.Answers.{readFile}
 use Rattle.timeline.specs.Step.{stepsIn, planBytes}
 use Rattle.timeline.specs.Timeline.{end}
 use Rattle.timeline.specs.Accepted.{Accepted}
+use Rattle.timeline.proofs.Permutations.{Permutation}
 use Rattle.checker.specs.Check.{checkFor}
 use Rattle.checker.specs.declared.Checked.{Checked}
 use Rattle.checker.specs.declared.Checked.the-variants as checked
@@ -66,8 +67,11 @@ pub record Asked (J : Job) (frame : Frame) (steps : Steps) : Type 0 where
   pub inTime : frame .horizon ≤ J .deadline
   pub known : Known (length (J .actions)) steps
 
--- a plan that is found is accepted; where none is, the chosen steps are a dead end
+-- a plan that is found is accepted and has the chosen steps; where none is, they are a dead end
 pub record Finishes (file : List ℕ) (frame : Frame) (steps : Steps) (r : Answer) : Type 0 where
   pub found : r .found ≡ true → (J : Job) → FileOf J file → Found J (frame .goal) (frame .horizon) r
+  pub same : r .found ≡ true → (J : Job) → FileOf J file → Known (length (J .actions)) steps
+      → ((k : ℕ) → k < steps .count → getD (steps .starts) k 0 < 65536)
+      → Permutation (stepsIn J (bytesIn r)) (chosen J steps)
   pub dead : r .found ≡ false → (J : Job) → FileOf J file → Asked J frame steps → (b t : ℕ) → t ≤ b
       → Dead J b (frame .goal) (frame .horizon) (Until b t) (chosen J steps)

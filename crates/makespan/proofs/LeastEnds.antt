@@ -4,20 +4,22 @@ use Prim.Native.Nat.{ℕ, zero, suc, _<_, _≤_}
 use mathlib.Core.Path.{_≡_, refl, ap, _∙_, subst}
 use mathlib.Core.Bool.{Bool, true, false}
 use mathlib.Core.Logic.{⊎-elim}
-use mathlib.Core.List.{List}
+use mathlib.Core.List.{List, []}
 use native.Mathlib.Nat.{eq-or-lt-of-le}
 use native.Mathlib.Omega.{arith}
+use lib.ListN.{length}
 use Rattle.job.specs.Job.{Job}
 use Rattle.job.proofs.Passed.{Passed}
-use Rattle.timeline.specs.Step.{stepsIn}
+use Rattle.timeline.specs.Step.{Step, stepsIn}
 use Rattle.timeline.specs.Timeline.{end}
 use Rattle.timeline.specs.Accepted.{Accepted}
 use Rattle.timeline.proofs.Tests.{not-both, le-or-lt}
-use Rattle.timeline.proofs.Places.{largest-at-most}
+use Rattle.timeline.proofs.Places.{EachStep, each-step, largest-at-most}
 use Rattle.timeline.proofs.AcceptedSteps.{accepted-steps}
-use Rattle.timeline.proofs.JobSteps.{steps-of-accepted}
-use Rattle.makespan.specs.Makespan.{Makespan, endsAt, noPlan, LeastEnd, solvable, leastBelow, makespan}
-use Rattle.makespan.proofs.Search.{solvable-of-accepted, accepted-of-solvable}
+use Rattle.timeline.proofs.JobSteps.{OfJob, steps-of-accepted}
+use Rattle.makespan.specs.Makespan.{Makespan, endsAt, noPlan, Counts, LeastEnd, solvable, leastBelow}
+use Rattle.makespan.specs.Makespan.{makespanFrom}
+use Rattle.makespan.proofs.Search.{none-begun, solvable-of-accepted, accepted-of-solvable}
 
 -- ---- the least number below n that passes a test
 -- what is so of it, or that there is none
@@ -37,13 +39,14 @@ least-below (suc n) test = go (leastBelow n test) (least-below n test) (test n) 
     go noPlan none false q = λ k l.
         ⊎-elim (λ e. let z : k ≡ n = omega arith in rw z q) (λ m. none k (omega arith)) (eq-or-lt-of-le l)
 
-least-of-makespan : (J : Job) (goal : ℕ) (m : Makespan) → makespan J goal ≡ m
-    → LeastBelow (suc (J .deadline)) (solvable J goal) m
-unfolding makespan
-least-of-makespan J goal m h =
-    subst (LeastBelow (suc (J .deadline)) (solvable J goal)) h (least-below (suc (J .deadline)) (solvable J goal))
+module _ (J : Job) (goal minute : ℕ) (K : List Step) where
+  least-of-makespan : (m : Makespan) → makespanFrom J goal minute K ≡ m
+      → LeastBelow (suc (J .deadline)) (solvable J goal minute K) m
+  unfolding makespanFrom
+  least-of-makespan m h =
+      subst (LeastBelow (suc (J .deadline)) (solvable J goal minute K)) h
+      (least-below (suc (J .deadline)) (solvable J goal minute K))
 
--- ---- what the makespan says
 -- an accepted plan ends by the deadline
 pub ends-by-deadline : (J : Job) (goal : ℕ) (bytes : List ℕ) → Accepted J goal bytes
     → end (stepsIn J bytes) ≤ J .deadline
@@ -51,51 +54,73 @@ ends-by-deadline J goal bytes accepted =
     largest-at-most (λ x. x .stop) (J .deadline) (stepsIn J bytes)
     (accepted-steps J goal (stepsIn J bytes) (steps-of-accepted J goal bytes accepted) .beforeDeadline)
 
--- a makespan is the end of an accepted plan, and no accepted plan ends earlier
-pub least-end-of-makespan : (J : Job) (goal e : ℕ) → Passed J → makespan J goal ≡ endsAt e → LeastEnd J goal e
-least-end-of-makespan J goal e passed h =
-    let l = least-of-makespan J goal (endsAt e) h in
-    let found = accepted-of-solvable J goal e passed (l .0) in
-    let by = found .2 in
-    let least : (bytes : List ℕ) → Accepted J goal bytes → e ≤ end (stepsIn J bytes) = λ bytes accepted.
-    let d = end (stepsIn J bytes) in
-    ⊎-elim (λ a. a)
-    (λ early. not-both (solvable-of-accepted J goal d bytes passed accepted (omega arith)) (l .2 d early))
-    (le-or-lt e d) in
-    let a = least (found .0) (found .1) in
-    record { plan = (found .0, found .1, omega arith); least = least }
+-- K are begun steps: at most 32 steps of the job that start before the minute
+pub record BegunSteps (J : Job) (minute : ℕ) (K : List Step) : Type 0 where
+  pub own : EachStep (OfJob J) K
+  pub early : EachStep (λ x. x .start < minute) K
+  pub few : length K ≤ 32
 
--- where the makespan says that there is no plan, none is accepted
-pub none-accepted-when-no-plan : (J : Job) (goal : ℕ) → Passed J → makespan J goal ≡ noPlan
-    → (bytes : List ℕ) → Accepted J goal bytes → ⊥
-none-accepted-when-no-plan J goal passed h bytes accepted =
-    not-both
-    (solvable-of-accepted J goal (J .deadline) bytes passed accepted (ends-by-deadline J goal bytes accepted))
-    (least-of-makespan J goal noPlan h (J .deadline) (omega arith))
+module _ (J : Job) (goal minute : ℕ) (K : List Step) (passed : Passed J) where
+  -- where the makespan says that there is no plan, no plan that counts is accepted
+  pub none-accepted-when-no-plan : makespanFrom J goal minute K ≡ noPlan
+      → (bytes : List ℕ) → Accepted J goal bytes → Counts J minute K bytes → ⊥
+  none-accepted-when-no-plan h bytes accepted counts =
+      not-both
+      (solvable-of-accepted J goal minute (J .deadline) K bytes passed accepted counts
+      (ends-by-deadline J goal bytes accepted))
+      (least-of-makespan J goal minute K noPlan h (J .deadline) (omega arith))
 
--- ---- and back
--- the least end of the accepted plans is the makespan
-pub makespan-of-least-end : (J : Job) (goal e : ℕ) → Passed J → LeastEnd J goal e → makespan J goal ≡ endsAt e
-makespan-of-least-end J goal e passed least = go (makespan J goal) refl
-  where
-    go : (m : Makespan) → makespan J goal ≡ m → makespan J goal ≡ endsAt e
-    go (endsAt d) h =
-        let other = least-end-of-makespan J goal d passed h in
-        let a = other .least (least .plan .0) (least .plan .1) in
-        let b = least .least (other .plan .0) (other .plan .1) in
-        let p = least .plan .2 in
-        let q = other .plan .2 in
-        let same : d ≡ e = omega arith in
-        h ∙ ap endsAt same
-    go noPlan h = absurd (none-accepted-when-no-plan J goal passed h (least .plan .0) (least .plan .1))
+  module _ (kept : BegunSteps J minute K) where
+    -- a makespan is the end of an accepted plan that counts, and no other ends earlier
+    pub least-end-of-makespan : (e : ℕ) → makespanFrom J goal minute K ≡ endsAt e → LeastEnd J goal minute K e
+    least-end-of-makespan e h =
+        let l = least-of-makespan J goal minute K (endsAt e) h in
+        let found = accepted-of-solvable J goal minute e K passed (kept .own) (kept .early) (kept .few) (l .0) in
+        let by = found .3 in
+        let least : (bytes : List ℕ) → Accepted J goal bytes → Counts J minute K bytes → e ≤ end (stepsIn J bytes) =
+        λ bytes accepted counts.
+        ⊎-elim (λ r. r)
+        (λ r.
+        not-both
+        (solvable-of-accepted J goal minute (end (stepsIn J bytes)) K bytes passed accepted counts (omega arith))
+        (l .2 (end (stepsIn J bytes)) r))
+        (le-or-lt e (end (stepsIn J bytes))) in
+        let a = least (found .0) (found .1) (found .2) in
+        record { plan = (found .0, found .1, found .2, omega arith); least = least }
 
--- where no plan is accepted, the makespan says so
-pub makespan-when-none-accepted : (J : Job) (goal : ℕ) → Passed J → ((bytes : List ℕ) → Accepted J goal bytes → ⊥)
-    → makespan J goal ≡ noPlan
-makespan-when-none-accepted J goal passed none = go (makespan J goal) refl
-  where
-    go : (m : Makespan) → makespan J goal ≡ m → makespan J goal ≡ noPlan
-    go (endsAt d) h =
-        let plan = least-end-of-makespan J goal d passed h .plan in
-        absurd (none (plan .0) (plan .1))
-    go noPlan h = h
+    -- the least end of the accepted plans that count is the makespan
+    pub makespan-of-least-end : (e : ℕ) → LeastEnd J goal minute K e → makespanFrom J goal minute K ≡ endsAt e
+    makespan-of-least-end e least = go (makespanFrom J goal minute K) refl
+      where
+        go : (m : Makespan) → makespanFrom J goal minute K ≡ m → makespanFrom J goal minute K ≡ endsAt e
+        go (endsAt d) h =
+            let other = least-end-of-makespan d h in
+            let a = other .least (least .plan .0) (least .plan .1) (least .plan .2) in
+            let b = least .least (other .plan .0) (other .plan .1) (other .plan .2) in
+            let p = least .plan .3 in
+            let q = other .plan .3 in
+            let same : d ≡ e = omega arith in
+            h ∙ ap endsAt same
+        go noPlan h = absurd (none-accepted-when-no-plan h (least .plan .0) (least .plan .1) (least .plan .2))
+
+    -- where no plan that counts is accepted, the makespan says so
+    pub makespan-when-none-accepted : ((bytes : List ℕ) → Accepted J goal bytes → Counts J minute K bytes → ⊥)
+        → makespanFrom J goal minute K ≡ noPlan
+    makespan-when-none-accepted none = go (makespanFrom J goal minute K) refl
+      where
+        go : (m : Makespan) → makespanFrom J goal minute K ≡ m → makespanFrom J goal minute K ≡ noPlan
+        go (endsAt d) h =
+            let plan = least-end-of-makespan d h .plan in absurd (none (plan .0) (plan .1) (plan .2))
+        go noPlan h = h
+
+-- ---- a whole day: "every plan counts"
+pub every-plan-counts : (J : Job) (bytes : List ℕ) → Counts J 0 [] bytes
+every-plan-counts J bytes = none-begun 0 (stepsIn J bytes) (λ x Q i. omega arith)
+
+pub nothing-begun : (J : Job) → BegunSteps J 0 []
+nothing-begun J =
+    record {
+      own = each-step (OfJob J) [] tt;
+      early = each-step (λ x. x .start < 0) [] tt;
+      few = omega arith;
+    }

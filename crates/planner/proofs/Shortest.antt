@@ -2,7 +2,7 @@
 -- Assumes nothing.
 use Prim.Native.Nat.{ℕ, _/_, _≤_}
 use mathlib.Core.Path.{_≡_, refl, sym, ap, _∙_, subst}
-use mathlib.Core.List.{List}
+use mathlib.Core.List.{List, []}
 use native.Mathlib.Omega.{arith}
 use lib.ListN.{length}
 use Rattle.lists.proofs.Tabulate.{length-tabulate}
@@ -20,6 +20,7 @@ use Rattle.timeline.specs.Accepted.{Accepted}
 use Rattle.timeline.proofs.PlanBytes.{few-steps-of-accepted}
 use Rattle.makespan.specs.Makespan.{Makespan, endsAt, noPlan, LeastEnd, makespan}
 use Rattle.makespan.proofs.LeastEnds.{least-end-of-makespan, none-accepted-when-no-plan}
+use Rattle.makespan.proofs.LeastEnds.{every-plan-counts, nothing-begun}
 use Rattle.planner.specs.declared.Planned.{Planned}
 use Rattle.planner.specs.declared.Planned.the-variants as planned
 use Rattle.planner.specs.Plan.{planRefusals, HandsOut, PlansFor, PlansBy, Plans}
@@ -44,7 +45,7 @@ few-handed-out J slice e answer after h =
 module _ (J : Job) (slice : List ℕ) (answer : Planned) (after : List ℕ) where
   -- an end is the least one of all accepted plans; the slice has such a plan, of that many steps and at most 32
   abbrev pub Shortest : ℕ → ℕ → Type 0
-  Shortest e n = LeastEnd J (J .goal) e × (n ≤ 32) × HandsOut J slice e (planned.Ends e n) after
+  Shortest e n = LeastEnd J (J .goal) 0 [] e × (n ≤ 32) × HandsOut J slice e (planned.Ends e n) after
 
   shortest-by-makespan : (e n : ℕ) → answer ≡ planned.Ends e n → Passed J → (m : Makespan) → makespan J (J .goal) ≡ m
       → PlansFor m J slice answer after → Shortest e n
@@ -53,7 +54,7 @@ module _ (J : Job) (slice : List ℕ) (answer : Planned) (after : List ℕ) wher
       let few = few-handed-out J slice d answer after p in
       let at : makespan J (J .goal) ≡ endsAt e = q ∙ ap endsAt (sym (told .0)) in
       let number = told .1 in (
-        least-end-of-makespan J (J .goal) e within at,
+        least-end-of-makespan J (J .goal) 0 [] within (nothing-begun J) e at,
         omega arith,
         subst (λ (a : Planned). HandsOut J slice e a after) same
             (subst (λ (k : ℕ). HandsOut J slice k answer after) (sym (told .0)) p),
@@ -74,7 +75,7 @@ module _ (J : Job) (slice : List ℕ) (answer : Planned) (after : List ℕ) wher
   none-by-makespan within (endsAt e) q p refused bytes accepted =
       no-ends-when-refused (sym (p .answers) ∙ refused)
   none-by-makespan within noPlan q p refused bytes accepted =
-      none-accepted-when-no-plan J (J .goal) within q bytes accepted
+      none-accepted-when-no-plan J (J .goal) 0 [] within q bytes accepted (every-plan-counts J bytes)
 
   -- where none of 3 to 11 and 21 holds, 22 means that no plan is accepted
   pub no-plan-when-refused : Plans J slice answer after → first (planRefusals J slice) ≡ Pass

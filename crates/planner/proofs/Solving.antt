@@ -21,6 +21,7 @@ use Rattle.timeline.specs.Timeline.{end}
 use Rattle.timeline.specs.Accepted.{Accepted}
 use Rattle.makespan.specs.Makespan.{Makespan, endsAt, noPlan, LeastEnd, makespan}
 use Rattle.makespan.proofs.LeastEnds.{ends-by-deadline, makespan-of-least-end, makespan-when-none-accepted}
+use Rattle.makespan.proofs.LeastEnds.{every-plan-counts, nothing-begun}
 use Rattle.leaf.specs.declared.Answer.{Answer}
 use Rattle.leaf.specs.Answer.{bytesIn, Found}
 use Rattle.planner.specs.declared.Planned.{Planned}
@@ -45,15 +46,15 @@ module _ (J : Job) (r : Answer) where
       record {
         found = λ e.
             let f = found e .0 in
-            let least : LeastEnd J (J .goal) (r .end) =
+            let least : LeastEnd J (J .goal) 0 [] (r .end) =
             record {
-              plan = (bytesIn r, f .accepted, f .end);
-              least = λ bytes a. found e .1 bytes a (ends-by-deadline J (J .goal) bytes a);
+              plan = (bytesIn r, f .accepted, every-plan-counts J (bytesIn r), f .end);
+              least = λ bytes a counts. found e .1 bytes a (ends-by-deadline J (J .goal) bytes a);
             } in
-            (f, makespan-of-least-end J (J .goal) (r .end) within least);
+            (f, makespan-of-least-end J (J .goal) 0 [] within (nothing-begun J) (r .end) least);
         none = λ e.
-            makespan-when-none-accepted J (J .goal) within
-            (λ bytes a. none e bytes a (ends-by-deadline J (J .goal) bytes a));
+            makespan-when-none-accepted J (J .goal) 0 [] within (nothing-begun J)
+            (λ bytes a counts. none e bytes a (ends-by-deadline J (J .goal) bytes a));
       }
 
   -- the search was for the job's goal, up to its deadline

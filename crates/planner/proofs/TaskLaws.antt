@@ -2,8 +2,9 @@
 -- Assumes nothing.
 use Prim.Native.Nat.{ℕ, _+_, _*_}
 use mathlib.Core.Path.{_≡_, refl, sym, ap, _∙_, subst}
-use mathlib.Core.List.{List}
+use mathlib.Core.List.{List, []}
 use native.Mathlib.Omega.{arith}
+use Rattle.lists.specs.Lists.{tabulate}
 use Rattle.facts.specs.FactSet.{has}
 use Rattle.job.specs.declared.Job as held
 use Rattle.job.specs.declared.refusal.Verdict.the-variants.{Pass}
@@ -14,18 +15,22 @@ use Rattle.job.proofs.Passed.{passed}
 use Rattle.job.proofs.Rows.{fits-of-pass}
 use Rattle.tables.specs.declared.Frame.{Frame}
 use Rattle.tables.specs.Filled.{Filled, frameOf}
-use Rattle.tables.specs.Tables.{Numbers, Lent, Describes}
+use Rattle.tables.specs.Tables.{Numbers, Lent, Describes, noSteps, keptOf}
 use Rattle.tables.proofs.Describing.{describes}
-use Rattle.landmarks.specs.Tables.{KeptBefore}
+use Rattle.landmarks.specs.Tables.{KeptBefore, markAt}
 use Rattle.landmarks.specs.Cliques.{WithinLimits}
 use Rattle.landmarks.specs.Marked.{MarkedTables}
 use Rattle.landmarks.proofs.TableLaws.{landmarks-when-closed}
 use Rattle.landmarks.proofs.ShareLaws.{stores-when-within, pools-when-within}
 use Rattle.landmarks.proofs.OpeningLaws.{opens-of-tables}
 use Rattle.landmarks.proofs.CliqueTables.{cliques-of-tables}
+use Rattle.landmarks.specs.Bounds.{TimesBound}
+use Rattle.landmarks.proofs.TimeBounds.{whole-day-bounds}
+use Rattle.landmarks.proofs.AddedByNew.{added-by-new-whole}
 use Rattle.earliest.specs.Sweep as earliest
 use Rattle.leaf.specs.Answer.{FileOf}
-use Rattle.search.specs.Search.{TaskOf}
+use Rattle.makespan.proofs.LeastEnds.{every-plan-counts}
+use Rattle.search.specs.Search.{TaskOf, CountsFor}
 use Rattle.search.specs.Horizons.{Whole}
 
 -- the numbers of the actions, with durations of one byte
@@ -43,7 +48,7 @@ numbers-of-job job sets numbers passes filled =
     }
 
 pub numbers-of-frame : (job : held.Job) (sets numbers : List ℕ) (frame : Frame) → first (jobRows (jobIn job)) ≡ Pass
-    → Filled job sets numbers → frame ≡ frameOf job (job .goal) 0 (job .deadline) → Numbers numbers (frame .actions)
+    → Filled job sets numbers → frame ≡ frameOf job (job .goal) 0 (job .deadline) noSteps 0 → Numbers numbers (frame .actions)
 numbers-of-frame job sets numbers frame passes filled same =
     subst (λ (f : Frame). Numbers numbers (f .actions)) (sym same) (numbers-of-job job sets numbers passes filled)
 
@@ -81,7 +86,7 @@ filled-still job sets numbers sets′ numbers′ passes filled keptSets keptNumb
 
 -- what the landmarks are filled for
 pub limits-of-job : (job : held.Job) (times : List ℕ) (frame : Frame) → first (jobRows (jobIn job)) ≡ Pass
-    → earliest.Filled (jobIn job) times → frame ≡ frameOf job (job .goal) 0 (job .deadline) → WithinLimits times frame
+    → earliest.Filled (jobIn job) times → frame ≡ frameOf job (job .goal) 0 (job .deadline) noSteps 0 → WithinLimits times frame
 limits-of-job job times frame passes timed same =
     let fits = fits-of-pass job passes in
     subst (WithinLimits times) (sym same)
@@ -92,9 +97,16 @@ limits-of-job job times frame passes timed same =
       pools = fits .0;
     })
 
+-- "Every plan counts"
+pub every-plan-counts-for : (job : held.Job) (frame : Frame) → frame ≡ frameOf job (job .goal) 0 (job .deadline) noSteps 0
+    → (bytes : List ℕ) → CountsFor (jobIn job) frame bytes
+unfolding tabulate
+every-plan-counts-for job frame same bytes =
+    subst (λ (f : Frame). CountsFor (jobIn job) f bytes) (sym same) (every-plan-counts (jobIn job) bytes)
+
 module _ (job : held.Job) (sets numbers times : List ℕ) (passes : first (jobRows (jobIn job)) ≡ Pass)
     (filled : Filled job sets numbers) (timed : earliest.Filled (jobIn job) times) (frame : Frame)
-    (same : frame ≡ frameOf job (job .goal) 0 (job .deadline)) where
+    (same : frame ≡ frameOf job (job .goal) 0 (job .deadline) noSteps 0) where
   pub task-of-job : MarkedTables sets numbers times frame (job .start) → (file : List ℕ) → FileOf (jobIn job) file
       → TaskOf (jobIn job) file sets numbers times frame
   task-of-job marked file inFile =
@@ -102,27 +114,32 @@ module _ (job : held.Job) (sets numbers times : List ℕ) (passes : first (jobRo
       (record {
         inFile = inFile;
         described = described;
-        filled = timed;
+        timely = timely;
         goal = passed (jobIn job) passes .goal .within;
+        late = λ bytes accepted counts. omega arith;
         marked = record {
-          first = refl;
-          landmarks = landmarks-when-closed (jobIn job) sets numbers _ (job .start) (described .actions)
-              (described .each) (tables .closed);
+          hand = job .start;
+          landmarks = added-by-new-whole (jobIn job) 0 [] 64 (markAt sets)
+              (landmarks-when-closed (jobIn job) sets numbers _ (job .start) (described .actions)
+              (described .each) (tables .closed));
           stores = stores-when-within (jobIn job) sets numbers _ (job .start) (described .actions) (described .each)
               (tables .within);
           pools = pools-when-within (jobIn job) sets numbers _ (job .start) (described .actions) (described .each)
               (tables .within);
           opens = λ pool few inside.
-              opens-of-tables (jobIn job) sets numbers times _ described timed pool _ inside
+              opens-of-tables (jobIn job) sets numbers times _ described 0 [] 0 timely pool _ inside
               (tables .openings pool few);
-          cliques = cliques-of-tables (jobIn job) sets numbers times _ described timed (tables .cliques);
+          cliques = cliques-of-tables (jobIn job) sets numbers times _ described 0 [] 0 timely (tables .cliques);
         };
       })
     where
-      described : Describes (jobIn job) sets numbers (frameOf job (job .goal) 0 (job .deadline))
-      described = describes job sets numbers filled passes (job .goal) 0 (job .deadline) (omega arith)
+      described : Describes (jobIn job) sets numbers (frameOf job (job .goal) 0 (job .deadline) noSteps 0)
+      described = describes job sets numbers filled passes (job .goal) 0 (job .deadline) noSteps 0 (omega arith)
 
-      tables : MarkedTables sets numbers times (frameOf job (job .goal) 0 (job .deadline)) (job .start)
+      timely : TimesBound (jobIn job) 0 [] 0 times
+      timely = whole-day-bounds (jobIn job) times timed 0 []
+
+      tables : MarkedTables sets numbers times (frameOf job (job .goal) 0 (job .deadline) noSteps 0) (job .start)
       tables = subst (λ (f : Frame). MarkedTables sets numbers times f (job .start)) same marked
 
   lent : Lent sets numbers (job .counts .actions)
@@ -141,5 +158,7 @@ module _ (job : held.Job) (sets numbers times : List ℕ) (passes : first (jobRo
         pools = fits .0;
         stores = fits .1;
         horizon = within .deadline;
-        first = refl;
+        kept = record { few = omega arith; numbers = refl; starts = refl; known = λ k l. absurd (omega arith) };
+        starts = λ k l. absurd (omega arith);
+        origin = omega arith;
       })

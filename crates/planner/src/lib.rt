@@ -21,6 +21,7 @@ use leaf::Answer;
 use pairs::Pair;
 use search::horizons;
 use tables::Frame;
+use tables::Steps;
 use timeline::Plan;
 
 // What the planner answers: the plan's end and its number of steps, or why there is none.
@@ -52,7 +53,7 @@ fn solve(job: Job) -> Answer
     tables::fill::fill(&mut sets, &mut numbers, job);
     let mut times = [set_time::NONE; Pair::COUNT];
     earliest::sweep::fill(&mut times, job);
-    let frame = Frame::of(job, job.goal, 0, job.deadline);
+    let frame = Frame::of(job, job.goal, 0, job.deadline, Steps::none(), 0);
     landmarks::fill(&mut sets, &mut numbers, &times, frame, job.start);
     let mut file = [0u8; Layout::FILE];
     let written = writer::write(job, &mut file);

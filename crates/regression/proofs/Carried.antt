@@ -34,10 +34,10 @@ pub record EventBefore (J : Job) (b t s : ℕ) (done : ℕ → Bool) (L : List S
   pub noStart : EachStep (λ x. s < x .start → x .start < t → ⊥) L
   pub openStarts : (a : ℕ) → a < length (J .actions) → done a ≡ false → t ≤ s + actionOf J a .duration
 
--- fact n is wanted at t, and added then neither by the tail nor by an action that may still stop
-pub record WantedBefore (J : Job) (goal T t : ℕ) (done : ℕ → Bool) (L : List Step) (n : ℕ) : Type 0 where
+-- fact n is wanted at t, and added after s and by t neither by the tail nor by an action that may still stop
+pub record WantedBefore (J : Job) (goal T t s : ℕ) (done : ℕ → Bool) (L : List Step) (n : ℕ) : Type 0 where
   pub wanted : has (wantedAt goal L T t) n ≡ true
-  pub tail : EachStep (λ x. x .stop ≤ t → has (x .action .adds) n ≡ false) L
+  pub tail : EachStep (λ x. s < x .stop → x .stop ≤ t → has (x .action .adds) n ≡ false) L
   pub others : (a : ℕ) → a < length (J .actions) → done a ≡ false → has (actionOf J a .adds) n ≡ false
 
 -- a step of the tail that runs in the minute before t needs fact n
@@ -45,8 +45,8 @@ abbrev pub NeededBefore : ℕ → List Step → ℕ → Type 0
 NeededBefore t L n =
     (x : Step) × (Q : List Step) × Place x Q L × (x .start < t) × (t ≤ x .stop) × (has (x .action .needs) n ≡ true)
 
-abbrev pub Carried : Job → ℕ → ℕ → ℕ → (ℕ → Bool) → List Step → ℕ → Type 0
-Carried J goal T t done L n = WantedBefore J goal T t done L n ⊎ NeededBefore t L n
+abbrev pub Carried : Job → ℕ → ℕ → ℕ → ℕ → (ℕ → Bool) → List Step → ℕ → Type 0
+Carried J goal T t s done L n = WantedBefore J goal T t s done L n ⊎ NeededBefore t L n
 
 module _ (J : Job) (b goal T t s : ℕ) (inTime : t ≤ T) (done : ℕ → Bool) (E L : List Step)
     (left : EachStep (Open b t done) E) (p : NormalPlan J b goal T (E ++ L)) (event : EventBefore J b t s done L) where
@@ -87,7 +87,7 @@ module _ (J : Job) (b goal T t s : ℕ) (inTime : t ≤ T) (done : ℕ → Bool)
       (decided (any (touchesAt J (x .stop)) (E ++ L)))
 
   -- what is wanted at t and not added then held at s
-  wanted-held : (n : ℕ) → WantedBefore J goal T t done L n → has (held (J .start) (E ++ L) s) n ≡ true
+  wanted-held : (n : ℕ) → WantedBefore J goal T t s done L n → has (held (J .start) (E ++ L) s) n ≡ true
   wanted-held n w =
       let keeps = p .plan .keeps in
       let earlier = event .earlier in
@@ -109,7 +109,7 @@ module _ (J : Job) (b goal T t s : ℕ) (inTime : t ≤ T) (done : ℕ → Bool)
       let own = own-action J T goal (E ++ L) (p .plan) inPlan in
       not-both (rw own at (a .adds)) (w .others (x .number) (p .plan .known x _ inPlan) (at .1)))
       (left x (r .0) (r .1) .2))
-      (λ r. not-both (a .adds) (w .tail x (r .0) (r .1) until))
+      (λ r. not-both (a .adds) (w .tail x (r .0) (r .1) after until))
       (append-cases E L (a .place))))
 
   needed-held : (n : ℕ) → NeededBefore t L n → has (held (J .start) (E ++ L) s) n ≡ true
@@ -122,14 +122,14 @@ module _ (J : Job) (b goal T t s : ℕ) (inTime : t ≤ T) (done : ℕ → Bool)
       ⊎-elim (λ l. l) (λ l. absurd (event .noStart x (w .1) (w .2) l starts)) (le-or-lt (x .start) s) in
       keeps-needs-hold J T goal (E ++ L) (p .plan .keeps) x _ (place-after E (w .2)) s by (omega arith) n (w .5)
 
-  pub carried-held : (set : ℕ) → ((n : ℕ) → has set n ≡ true → Carried J goal T t done L n)
+  pub carried-held : (set : ℕ) → ((n : ℕ) → has set n ≡ true → Carried J goal T t s done L n)
       → Subset set (held (J .start) (E ++ L) s)
   carried-held set carried n h = ⊎-elim (wanted-held n) (needed-held n) (carried n h)
 
 -- a set of carried facts that cannot hold together by the event minute makes a dead end
 pub dead-when-carried-late : (J : Job) (b goal T t s : ℕ) → t ≤ T → (done : ℕ → Bool) (L : List Step)
-    → EventBefore J b t s done L → (bound : ℕ → ℕ → Type 0) → Bounds J b goal T bound
-    → (set : ℕ) → ((n : ℕ) → has set n ≡ true → Carried J goal T t done L n) → (bound set s → ⊥)
+    → b ≤ s → EventBefore J b t s done L → (bound : ℕ → ℕ → Type 0) → Bounds J b goal T L bound
+    → (set : ℕ) → ((n : ℕ) → has set n ≡ true → Carried J goal T t s done L n) → (bound set s → ⊥)
     → Dead J b goal T (Open b t done) L
-dead-when-carried-late J b goal T t s inTime done L event bound bounds set carried late E h p =
-    late (bounds (E ++ L) p set s (carried-held J b goal T t s inTime done E L h p event set carried))
+dead-when-carried-late J b goal T t s inTime done L after event bound bounds set carried late E h p =
+    late (bounds E (λ x Q i. h x Q i .0) p set s after (carried-held J b goal T t s inTime done E L h p event set carried))

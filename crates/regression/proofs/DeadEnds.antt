@@ -82,17 +82,21 @@ module _ (J : Job) (b goal T : ℕ) where
         (deletes-nothing-wanted J goal T E L (p .plan .keeps) t (until-stops t E h) inPlan after
         (p .effects x _ inPlan))
 
-  -- ---- of what must hold: by a bound on the minutes at which the facts of a set can hold together in a normal plan
-  abbrev pub Bounds : (ℕ → ℕ → Type 0) → Type 0
-  Bounds bound =
-      (P : List Step) → NormalPlan J b goal T P → (set m : ℕ) → Subset set (held (J .start) P m) → bound set m
+  -- ---- of what must hold: by a bound on the minutes, from b on, at which the facts of a set can hold together in a
+  -- normal plan with the steps L and else new ones
+  abbrev pub Bounds : List Step → (ℕ → ℕ → Type 0) → Type 0
+  Bounds L bound =
+      (E : List Step) → EachStep (λ x. b ≤ x .start) E → NormalPlan J b goal T (E ++ L) → (set m : ℕ) → b ≤ m
+      → Subset set (held (J .start) (E ++ L) m) → bound set m
 
   -- the earliest times are one
-  pub times-bound : (times : Table) → Solves J times → Bounds (λ set m. By (timeOf J times set) m)
-  times-bound times solves P p = held-set-not-before-its-time J times solves T goal P (p .plan)
+  pub times-bound : (times : Table) → Solves J times → (L : List Step) → Bounds L (λ set m. By (timeOf J times set) m)
+  times-bound times solves L E new p set m after =
+      held-set-not-before-its-time J times solves T goal (E ++ L) (p .plan) set m
 
-  module _ (bound : ℕ → ℕ → Type 0) (bounds : Bounds bound) (L : List Step) where
-    pub dead-when-running-too-early : (X : Step → Type 0) (m : ℕ) → (bound (runningNeeds m L) m → ⊥)
-        → Dead J b goal T X L
-    dead-when-running-too-early X m early E h p =
-        early (bounds (E ++ L) p (runningNeeds m L) m (running-needs-hold J goal T E L (p .plan .keeps) m))
+  module _ (L : List Step) (bound : ℕ → ℕ → Type 0) (bounds : Bounds L bound) where
+    pub dead-when-running-too-early : (t m : ℕ) → b ≤ m → (bound (runningNeeds m L) m → ⊥)
+        → Dead J b goal T (Until b t) L
+    dead-when-running-too-early t m after early E h p =
+        early (bounds E (λ x Q i. h x Q i .0) p (runningNeeds m L) m after
+        (running-needs-hold J goal T E L (p .plan .keeps) m))

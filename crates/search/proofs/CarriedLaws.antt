@@ -1,33 +1,35 @@
 -- What a state carries back from its minute, read off its sets.
 -- Assumes nothing.
-use Prim.Native.Nat.{ℕ, _≤_}
-use mathlib.Core.Path.{_≡_, sym, ap, _∙_}
-use mathlib.Core.Bool.{Bool, true, false, cond, not}
+use Prim.Native.Nat.{ℕ, _≤_, _<_}
+use mathlib.Core.Path.{_≡_, sym, ap, ap₂, subst, _∙_}
+use mathlib.Core.Bool.{Bool, true, false, cond, not, _&&_}
 use mathlib.Core.Logic.{inl, inr, ⊎-elim}
 use mathlib.Core.List.{List}
 use native.Mathlib.Omega.{arith}
-use lib.Dec.{eqb, ltb}
-use borrow.Author.Tests.{eq-eqb, ltb-true, leb-true, not-false}
+use lib.Dec.{eqb, leb, ltb}
+use borrow.Author.Tests.{eq-eqb, ltb-true, leb-true, lt-ltb, le-leb, not-false}
 use Rattle.lists.proofs.Bools.{and-left, and-right}
 use Rattle.facts.specs.FactSet.{has, union, difference}
 use Rattle.facts.proofs.SetLaws.{in-union-left, in-union-right, in-union-cases, in-difference-parts}
 use Rattle.job.specs.Job.{Job}
-use Rattle.timeline.specs.Step.{Step}
-use Rattle.timeline.proofs.Tests.{not-both, false-unless, le-or-lt}
-use Rattle.timeline.proofs.Places.{EachStep}
+use Rattle.timeline.specs.Step.{Step, stepOf}
+use Rattle.regression.specs.Wanted.{addedBetween}
+use Rattle.timeline.proofs.Tests.{not-both, false-unless, and-both, le-or-lt}
+use Rattle.timeline.proofs.Places.{Place, EachStep}
 use Rattle.regression.proofs.Gathered.{in-cond, in-cond-parts, in-unionOf, in-unionOf-from}
 use Rattle.regression.proofs.Carried.{EventBefore, NeededBefore, Carried}
-use Rattle.tables.specs.Tables.{Describes, chosen}
+use Rattle.tables.specs.Tables.{Describes, chosen, keptOf, KeepsKept}
 use Rattle.tables.specs.declared.Frame.{Frame}
 use Rattle.search.specs.declared.state.State.{State}
 use Rattle.search.specs.Minutes.{runsInto}
 use Rattle.search.specs.States.{Stands}
 use Rattle.search.specs.Moves.{NoStartBetween}
 use Rattle.search.specs.Carried.{AddsOf, LatestStart}
-use Rattle.search.proofs.Chosen.{place-of-chosen}
+use Rattle.search.proofs.Chosen.{stepAt, place-of-chosen, chosen-at-place}
 
 module _ (J : Job) (sets numbers : List ℕ) (frame : Frame) (described : Describes J sets numbers frame)
-    (few : frame .actions ≤ 64) (st : State) (stands : Stands J frame st) (left : ℕ) where
+    (few : frame .actions ≤ 64) (st : State) (stands : Stands J frame st) (keeps : KeepsKept frame (st .steps))
+    (left : ℕ) where
   abbrev L : List Step
   L = chosen J (st .steps)
 
@@ -59,25 +61,42 @@ module _ (J : Job) (sets numbers : List ℕ) (frame : Frame) (described : Descri
       }
 
   -- ---- the facts
-  stops-not-before : EachStep (λ x. t ≤ x .stop) L
-  stops-not-before x Q p =
-      let k = place-of-chosen J (st .steps) (st .steps .count) p in
-      rw (k .2)
-      (⊎-elim (λ after. let e = stands .enders (k .0) after (k .1) .1 in omega arith)
-      (λ before. let e = stands .later (k .0) before in omega arith)
-      (le-or-lt (st .since) (k .0)))
+  stops-not-before : (k : ℕ) → frame .kept .count ≤ k → k < st .steps .count → t ≤ stepAt J (st .steps) k .stop
+  stops-not-before k new inside =
+      ⊎-elim (λ after. let e = stands .enders k after inside .1 in omega arith)
+      (λ before. let e = stands .later k new before in omega arith)
+      (le-or-lt (st .since) k)
 
-  not-added : (n : ℕ) → has (st .at .added) n ≡ false → EachStep (λ x. x .stop ≤ t → has (x .action .adds) n ≡ false) L
-  not-added n none x Q p early =
-      let late = stops-not-before x Q p in
-      let stop : x .stop ≡ t = omega arith in
+  -- neither a chosen step that stops now adds fact n, nor a kept step that stops after s and by now
+  not-added : (s n given : ℕ) → given ≡ addedBetween s t (keptOf J frame) → has given n ≡ false
+      → has (st .at .added) n ≡ false
+      → EachStep (λ x. s < x .stop → x .stop ≤ t → has (x .action .adds) n ≡ false) L
+  not-added s n given is nothing none x Q p after early =
+      let k = place-of-chosen J (st .steps) (st .steps .count) p in
       false-unless (has (x .action .adds) n)
       (λ h.
+      ⊎-elim
+      (λ new.
+      let late = stops-not-before (k .0) new (k .1) in
+      let where-it-stops = ap (λ (y : Step). y .stop) (k .2) in
+      let stop : x .stop ≡ t = omega arith in
       not-both
       (ap (λ (set : ℕ). has set n) (stands .at .added)
       ∙ in-unionOf (λ y. cond (eqb (y .stop) t) (y .action .adds) 0) n p
       (in-cond (eqb (x .stop) t) (x .action .adds) n (eq-eqb (x .stop) t stop) h))
       none)
+      (λ old.
+      let same : x ≡ stepAt J (frame .kept) (k .0) =
+      k .2 ∙ ap₂ (stepOf J) (keeps .numbers (k .0) old) (keeps .starts (k .0) old) in
+      let m = chosen-at-place J (frame .kept) (frame .kept .count) (k .0) old in
+      let inKept : Place x (m .0) (keptOf J frame) = subst (λ (y : Step). Place y (m .0) (keptOf J frame)) (sym same) (m .1) in
+      not-both
+      (ap (λ (set : ℕ). has set n) is
+      ∙ in-unionOf (λ y. cond (ltb s (y .stop) && leb (y .stop) t) (y .action .adds) 0) n inKept
+      (in-cond (ltb s (x .stop) && leb (x .stop) t) (x .action .adds) n
+      (and-both (lt-ltb s (x .stop) after) (le-leb (x .stop) t early)) h))
+      nothing)
+      (le-or-lt (frame .kept .count) (k .0)))
 
   needed-before : (n : ℕ) → has (st .at .held) n ≡ true → NeededBefore t L n
   needed-before n h =
@@ -93,18 +112,22 @@ module _ (J : Job) (sets numbers : List ℕ) (frame : Frame) (described : Descri
         c .1,
       )
 
-  pub carried-from : (adds set : ℕ) → AddsOf sets left 64 adds
-      → set ≡ union (difference (st .wanted) (union (st .at .added) adds)) (st .at .held)
-      → (n : ℕ) → has set n ≡ true → Carried J (frame .goal) (frame .horizon) t done L n
-  carried-from adds set all e n h =
+  pub carried-from : (s adds given set : ℕ) → AddsOf sets left 64 adds → given ≡ addedBetween s t (keptOf J frame)
+      → set ≡ union (difference (st .wanted) (union (union (st .at .added) adds) given)) (st .at .held)
+      → (n : ℕ) → has set n ≡ true → Carried J (frame .goal) (frame .horizon) t s done L n
+  carried-from s adds given set all is e n h =
       ⊎-elim
       (λ w.
-      let parts = in-difference-parts (st .wanted) (union (st .at .added) adds) n w in
+      let both = union (st .at .added) adds in
+      let parts = in-difference-parts (st .wanted) (union both given) n w in
       let count = described .actions in
+      let neither = false-unless _ (λ a. not-both (in-union-left both given n a) (parts .1)) in
+      let nothing = false-unless _ (λ a. not-both (in-union-right both given n a) (parts .1)) in
       inl
       (record {
         wanted = ap (λ (set : ℕ). has set n) (sym (stands .wants)) ∙ parts .0;
-        tail = not-added n (false-unless _ (λ a. not-both (in-union-left (st .at .added) adds n a) (parts .1)));
+        tail = not-added s n given is nothing
+            (false-unless _ (λ a. not-both (in-union-left (st .at .added) adds n a) neither));
         others = λ a known undecided.
             let d = described .each a (omega arith) in
             false-unless _
@@ -112,7 +135,7 @@ module _ (J : Job) (sets numbers : List ℕ) (frame : Frame) (described : Descri
             not-both
             (in-union-right (st .at .added) adds n
             (all a n (omega arith) (not-false (has left a) undecided) (ap (λ (set : ℕ). has set n) (d .adds) ∙ h)))
-            (parts .1));
+            neither);
       }))
       (λ w. inr (needed-before n w))
-      (in-union-cases (difference (st .wanted) (union (st .at .added) adds)) (st .at .held) n (rw e at h))
+      (in-union-cases (difference (st .wanted) (union (union (st .at .added) adds) given)) (st .at .held) n (rw e at h))

@@ -1,24 +1,24 @@
--- The search for one horizon begins with the goal and no steps; from horizon to horizon the bounds close in.
+-- The search for one horizon begins with the goal and the kept steps; from horizon to horizon the bounds close in.
 -- Assumes nothing.
 use Prim.Native.Nat.{ℕ, _≤_, _<_}
-use mathlib.Core.Path.{_≡_, refl, sym, ap, _∙_}
+use mathlib.Core.Path.{_≡_, refl, sym, ap, subst, _∙_}
 use mathlib.Core.Bool.{true≢false}
 use mathlib.Core.Logic.{⊎-elim}
-use mathlib.Core.List.{List, []}
+use mathlib.Core.List.{List}
 use native.Mathlib.Omega.{arith}
-use lib.ListN.{length-replicate}
 use Rattle.facts.specs.FactSet.{has}
 use Rattle.facts.proofs.Membership.{has-zero}
 use Rattle.job.specs.Job.{Job}
 use Rattle.job.proofs.Passed.{Passed}
 use Rattle.timeline.specs.Step.{stepsIn}
 use Rattle.timeline.specs.Timeline.{end}
-use Rattle.timeline.specs.Accepted.{Accepted}
 use Rattle.timeline.proofs.Tests.{le-or-lt}
 use Rattle.regression.specs.DeadEnd.{Until}
 use Rattle.regression.proofs.WantedFacts.{wanted-at-horizon}
-use Rattle.regression.proofs.NoPlan.{no-accepted-plan-when-dead}
-use Rattle.tables.specs.Tables.{Describes, Known, noSteps, chosen}
+use Rattle.regression.proofs.NoPlan.{no-plan-when-dead}
+use Rattle.timeline.proofs.JobSteps.{steps-in-bytes, steps-of-accepted}
+use Rattle.timeline.proofs.PlanBytes.{few-steps-of-accepted}
+use Rattle.tables.specs.Tables.{Describes, Known, chosen, keptOf, KeepsKept}
 use Rattle.tables.specs.declared.Frame.{Frame}
 use Rattle.tables.specs.declared.Steps.{Steps}
 use Rattle.leaf.specs.declared.Answer.{Answer}
@@ -31,52 +31,55 @@ use Rattle.search.specs.Amounts.{LooksUses}
 use Rattle.search.specs.States.{Stands, DeadFor}
 use Rattle.search.specs.Missing.{Fresh}
 use Rattle.search.specs.Search.{Ready, Answered, NoneFrom}
-use Rattle.search.specs.Horizons.{Whole, Solves}
+use Rattle.search.specs.Horizons.{Whole, Solves, NoneBy}
+use Rattle.search.proofs.Counted.{split-of-counted, found-when-finished}
 
 -- ---- the first state
 
--- the state at the horizon, with the goal wanted and no steps
+-- the state at the horizon, with the goal wanted and the kept steps
 pub record Begins (sets numbers : List ℕ) (frame : Frame) (st : State) : Type 0 where
-  pub steps : st .steps ≡ noSteps
+  pub steps : st .steps ≡ frame .kept
   pub minute : st .minute ≡ frame .horizon
   pub wanted : st .wanted ≡ frame .goal
   pub at : LooksAt sets numbers (frame .actions) (st .steps) (frame .horizon) (st .at)
   pub uses : LooksUses numbers (frame .actions) (st .steps) (frame .horizon) (st .uses)
   pub twice : st .twice ≡ 0
-  pub since : st .since ≡ 0
+  pub since : st .since ≡ frame .kept .count
 
-pub known-none : (actions : ℕ) → Known actions noSteps
-known-none actions =
+keeps-kept : (frame : Frame) → KeepsKept frame (frame .kept)
+keeps-kept frame =
     record {
-      few = omega arith;
-      numbers = length-replicate {A = ℕ} 32 0;
-      starts = length-replicate {A = ℕ} 32 0;
-      known = λ k l. absurd (omega arith);
+      count = omega arith;
+      numbers = λ k l. refl;
+      starts = λ k l. refl;
+      new = λ k a b. absurd (omega arith);
     }
 
--- no accepted plan ends by the horizon
-abbrev NoneBy : Job → Frame → Type 0
-NoneBy J frame = (bytes : List ℕ) → Accepted J (frame .goal) bytes → frame .horizon < end (stepsIn J bytes)
-
-none-when-dead : (J : Job) (frame : Frame) → frame .first ≡ 0 → Passed J
-    → DeadFor J frame (Until (frame .first) (frame .horizon)) [] → NoneBy J frame
-none-when-dead J frame first passed dead bytes accepted =
+none-when-dead : (J : Job) (frame : Frame) → Passed J
+    → DeadFor J frame (Until (frame .first) (frame .horizon)) (keptOf J frame) → NoneBy J frame
+none-when-dead J frame passed dead bytes accepted counts =
+    let split = split-of-counted J frame bytes accepted counts in
     ⊎-elim
     (λ l.
-    absurd (no-accepted-plan-when-dead J (frame .goal) (frame .horizon) passed (rw first at dead) bytes accepted l))
+    absurd
+    (no-plan-when-dead J (frame .first) (frame .goal) (frame .horizon) passed (split .new) (keptOf J frame)
+    (stepsIn J bytes) (split .same) (steps-in-bytes J bytes) (split .after) (split .early)
+    (few-steps-of-accepted J (frame .goal) bytes accepted) (steps-of-accepted J (frame .goal) bytes accepted) l dead))
     (λ l. l)
     (le-or-lt (end (stepsIn J bytes)) (frame .horizon))
 
-module _ (sets numbers times : List ℕ) (frame : Frame) (whole : Whole sets numbers times frame) (st : State)
-    (begins : Begins sets numbers frame st) where
+module _ (sets numbers times : List ℕ) (frame : Frame) (whole : Whole sets numbers times frame)
+    (later : frame .first < frame .horizon) (st : State) (begins : Begins sets numbers frame st) where
   pub ready-at-first : Ready sets numbers times frame st
   ready-at-first =
       let since = begins .since in
-      let first = whole .first in
+      let minute = begins .minute in
+      let count = ap (λ (s : Steps). s .count) (begins .steps) in
+      let horizon = whole .horizon in
       record {
         safe = record {
           lent = whole .lent;
-          known = rw (begins .steps) (known-none (frame .actions));
+          known = rw (begins .steps) (whole .kept);
           pools = whole .pools;
           stores = whole .stores;
           since = omega arith;
@@ -85,6 +88,11 @@ module _ (sets numbers times : List ℕ) (frame : Frame) (whole : Whole sets num
         timeCount = whole .timeCount;
         facts = whole .facts;
         notBefore = omega arith;
+        minute = omega arith;
+        starts = rw (begins .steps) (whole .starts);
+        kept = rw (begins .steps) (keeps-kept frame);
+        keptKnown = whole .kept;
+        origin = whole .origin;
       }
 
   pub fresh-at-first : Fresh st
@@ -92,25 +100,23 @@ module _ (sets numbers times : List ℕ) (frame : Frame) (whole : Whole sets num
 
   pub stands-at-first : (J : Job) → Describes J sets numbers frame → Stands J frame st
   stands-at-first J described =
-      let no-steps : chosen J (st .steps) ≡ [] = ap (chosen J) (begins .steps) in
       let minute = begins .minute in
       record {
         inTime = omega arith;
-        wants = rw (begins .wanted, begins .minute, no-steps)
-            (sym (wanted-at-horizon (frame .goal) [] (frame .horizon)));
+        wants = rw (begins .wanted, begins .minute)
+            (sym (wanted-at-horizon (frame .goal) (chosen J (st .steps)) (frame .horizon)));
         at = rw (begins .minute) (begins .at J (described .each));
         uses = rw (begins .minute) (begins .uses .looks J sets (described .each));
         twice = λ n h. absurd (true≢false (sym h ∙ ap (λ (set : ℕ). has set n) (begins .twice) ∙ has-zero n));
-        enders = λ k a b. let c = ap (λ s. s .count) (begins .steps) in absurd (omega arith);
-        later = λ k l. let c = begins .since in absurd (omega arith);
+        enders = λ k a b.
+            let c = ap (λ (s : Steps). s .count) (begins .steps) in let d = begins .since in absurd (omega arith);
+        later = λ k a l. let c = begins .since in absurd (omega arith);
       }
 
   -- a dead end there: no plan ends by the horizon
   none-by-horizon : (J : Job) → Passed J → DeadFor J frame (Until (frame .first) (st .minute)) (chosen J (st .steps))
       → NoneBy J frame
-  none-by-horizon J passed dead =
-      let no-steps : chosen J (st .steps) ≡ [] = ap (chosen J) (begins .steps) in
-      none-when-dead J frame (whole .first) passed (rw (begins .minute, no-steps) at dead)
+  none-by-horizon J passed dead = none-when-dead J frame passed (rw (begins .minute, begins .steps) at dead)
 
   -- the answer from there is the answer for the horizon
   pub solved-by-regress : (file : List ℕ) (r : Answer)
@@ -125,35 +131,40 @@ module _ (sets numbers times : List ℕ) (frame : Frame) (whole : Whole sets num
       }
 
 -- ---- no minute left
-pub solved-by-finish : (file sets numbers times : List ℕ) (frame : Frame) (steps : Steps) (r : Answer)
-    → Whole sets numbers times frame → steps ≡ noSteps → frame .horizon ≤ frame .first → Finishes file frame steps r
+pub solved-by-finish : (file sets numbers times : List ℕ) (frame : Frame) (r : Answer)
+    → Whole sets numbers times frame → frame .horizon ≤ frame .first → Finishes file frame (frame .kept) r
     → Solves file sets numbers times frame r
-solved-by-finish file sets numbers times frame steps r whole e early finishes =
+solved-by-finish file sets numbers times frame r whole early finishes =
     record {
-      found = finishes .found;
+      found = λ e J have count.
+          found-when-finished J file frame (frame .kept) r (keeps-kept frame) (whole .kept) (whole .starts) finishes e have
+          count;
       none = λ n J task passed.
-          none-when-dead J frame (whole .first) passed
-          (rw e at
+          none-when-dead J frame passed
           (finishes .dead n J (task .inFile)
-          (record { goal = task .goal; inTime = task .described .inTime; known = rw e (known-none _) })
-          (frame .first) (frame .horizon) early));
+          (record {
+            goal = task .goal;
+            inTime = task .described .inTime;
+            known = subst (λ (n : ℕ). Known n (frame .kept)) (sym (task .described .actions)) (whole .kept);
+          })
+          (frame .first) (frame .horizon) early);
     }
 
-pub begins-with-goal : (sets numbers : List ℕ) (frame : Frame) (steps : Steps) (t : ℕ) (at : Minute) (uses : Uses)
-    → steps ≡ noSteps → t ≡ frame .horizon → LooksAt sets numbers (frame .actions) steps t at
-    → LooksUses numbers (frame .actions) steps t uses
+pub begins-with-goal : (sets numbers : List ℕ) (frame : Frame) (t : ℕ) (at : Minute) (uses : Uses)
+    → t ≡ frame .horizon → LooksAt sets numbers (frame .actions) (frame .kept) t at
+    → LooksUses numbers (frame .actions) (frame .kept) t uses
     → Begins sets numbers frame (record {
-      steps = steps;
+      steps = frame .kept;
       minute = frame .horizon;
       wanted = frame .goal;
       at = at;
       uses = uses;
       twice = 0;
-      since = 0;
+      since = frame .kept .count;
     })
-begins-with-goal sets numbers frame steps t at uses e f looks looksUses =
+begins-with-goal sets numbers frame t at uses f looks looksUses =
     record {
-      steps = e;
+      steps = refl;
       minute = refl;
       wanted = refl;
       at = rw (← f) looks;

@@ -9,5 +9,6 @@ mod CarriedLaws
 mod CandidateLaws
 mod Completeness
 mod Steps
+mod Counted
 mod HorizonLaws
 mod Bounds

@@ -69,13 +69,13 @@ enders-as : (J : Job) (frame : Frame) {steps steps′ : Steps} {t t′ since sin
 enders-as J frame e f g h = rw (← e, ← f, ← g) h
 
 -- the steps before `since` stop after the minute
-abbrev Later : Job → Steps → ℕ → ℕ → Type 0
-Later J steps t since =
-    (k : ℕ) → k < since → t < getD (steps .starts) k 0 + actionOf J (getD (steps .numbers) k 0) .duration
+abbrev Later : Job → ℕ → Steps → ℕ → ℕ → Type 0
+Later J kept steps t since =
+    (k : ℕ) → kept ≤ k → k < since → t < getD (steps .starts) k 0 + actionOf J (getD (steps .numbers) k 0) .duration
 
-later-as : (J : Job) {steps steps′ : Steps} {t t′ since since′ : ℕ} → steps ≡ steps′ → t ≡ t′ → since ≡ since′
-    → Later J steps t since → Later J steps′ t′ since′
-later-as J e f g h = rw (← e, ← f, ← g) h
+later-as : (J : Job) (kept : ℕ) {steps steps′ : Steps} {t t′ since since′ : ℕ} → steps ≡ steps′ → t ≡ t′ → since ≡ since′
+    → Later J kept steps t since → Later J kept steps′ t′ since′
+later-as J kept e f g h = rw (← e, ← f, ← g) h
 
 twice-as : {t t′ : ℕ} {L L′ : List Step} → t ≡ t′ → L ≡ L′ → (n : ℕ) → AddedTwice t n L → AddedTwice t′ n L′
 twice-as e f n h = rw (← e, ← f) h
@@ -167,14 +167,14 @@ module _ (J : Job) (sets numbers : List ℕ) (frame : Frame) (described : Descri
         (stands .enders k a (omega arith)))
         (eq-or-lt-of-le b)
 
-    later-now : Later J (pushed (st .steps) i (startOf numbers st i)) (st .minute) (st .since)
-    later-now k l =
+    later-now : Later J (frame .kept .count) (pushed (st .steps) i (startOf numbers st i)) (st .minute) (st .since)
+    later-now k new l =
         let other : k ≡ st .steps .count → ⊥ = λ e. omega arith in
         rw (
           getD-set-other (st .steps .numbers) (st .steps .count) k i 0 other,
           getD-set-other (st .steps .starts) (st .steps .count) k (startOf numbers st i) 0 other,
         )
-        (stands .later k l)
+        (stands .later k new l)
 
     pub taken-stands : Stands J frame r
     taken-stands =
@@ -193,7 +193,7 @@ module _ (J : Job) (sets numbers : List ℕ) (frame : Frame) (described : Descri
               (taken .uses .joins J sets (described .each i known) L (stands .uses));
           twice = λ n h. twice-as (sym (taken .minute)) (sym chosen-taken) n (twice-now n h);
           enders = enders-as J frame (sym (taken .steps)) (sym (taken .minute)) (sym (taken .since)) enders-now;
-          later = later-as J (sym (taken .steps)) (sym (taken .minute)) (sym (taken .since)) later-now;
+          later = later-as J (frame .kept .count) (sym (taken .steps)) (sym (taken .minute)) (sym (taken .since)) later-now;
         }
 
 -- ---- back to an event minute
@@ -208,10 +208,10 @@ module _ (J : Job) (sets numbers : List ℕ) (frame : Frame) (described : Descri
   chosen-back = ap (chosen J) (back .steps)
 
   -- the steps that stopped at the minute left are later too
-  later-left : Later J (st .steps) s (st .steps .count)
-  later-left k l =
+  later-left : Later J (frame .kept .count) (st .steps) s (st .steps .count)
+  later-left k new l =
       ⊎-elim (λ after. let e = stands .enders k after l in let stop = e .1 in omega arith)
-      (λ before. let e = stands .later k before in omega arith)
+      (λ before. let e = stands .later k new before in omega arith)
       (le-or-lt (st .since) k)
 
   pub back-stands : Stands J frame r
@@ -233,5 +233,5 @@ module _ (J : Job) (sets numbers : List ℕ) (frame : Frame) (described : Descri
         twice = λ n h. absurd (true≢false (sym h ∙ ap (λ (set : ℕ). has set n) (back .twice) ∙ has-zero n));
         enders = λ k a b.
             let c = ap (λ (steps : Steps). steps .count) (back .steps) in let d = back .since in absurd (omega arith);
-        later = later-as J (sym (back .steps)) (sym (back .minute)) (sym (back .since)) later-left;
+        later = later-as J (frame .kept .count) (sym (back .steps)) (sym (back .minute)) (sym (back .since)) later-left;
       }

@@ -1,42 +1,41 @@
 -- Why a state that fails a test is a dead end.
 -- Assumes nothing.
-use Prim.Native.Nat.{ℕ, _≤_, _<_}
-use mathlib.Core.Path.{_≡_, sym, ap, _∙_}
+use Prim.Native.Nat.{ℕ, _+_, _≤_, _<_}
+use mathlib.Core.Path.{_≡_, sym, ap, subst, _∙_}
 use mathlib.Core.Bool.{Bool, true, false, not, cond, _&&_, true≢false}
 use mathlib.Core.Logic.{⊎-elim}
-use mathlib.Core.List.{List}
+use mathlib.Core.List.{List, _++_, append-assoc}
 use native.Mathlib.Omega.{arith}
 use lib.Dec.{eqb, leb, ltb}
 use lib.ListN.{getD}
 use borrow.Author.Tests.{eq-eqb, ne-eqb, eqb-true, eqb-false}
-use Rattle.facts.specs.FactSet.{has, union, difference, meets}
+use Rattle.facts.specs.FactSet.{has, union, difference, meets, Subset}
 use Rattle.facts.proofs.SetLaws.{in-union-left, in-union-right, in-union-cases, in-difference, in-difference-parts}
 use Rattle.facts.proofs.SetLaws.{not-in-both, no-common-member}
 use Rattle.job.specs.Job.{Job}
 use Rattle.timeline.specs.Step.{Step, unionOf}
+use Rattle.timeline.specs.Timeline.{held}
 use Rattle.timeline.proofs.Tests.{and-both, decided}
-use Rattle.timeline.proofs.Places.{Member}
-use Rattle.times.specs.Earliest.{timeOf}
-use Rattle.times.specs.Numbers.{tableIn}
-use Rattle.times.proofs.Times.{By}
+use Rattle.timeline.proofs.Places.{Member, append-cases}
+use Rattle.times.proofs.PlanSteps.{PlanOf}
 use Rattle.earliest.specs.Numbers.{setNumber}
-use Rattle.earliest.specs.Sweep.{Filled}
-use Rattle.earliest.proofs.SetTimes.{number-by-set}
+use Rattle.landmarks.specs.Bounds.{TimesBound}
 use Rattle.regression.specs.Wanted.{wantedAt}
 use Rattle.regression.specs.Normal.{addedBeside}
 use Rattle.regression.specs.Tests.{provided, solelyProvides, runningNeeds}
 use Rattle.regression.specs.DeadEnd.{Until}
 use Rattle.regression.proofs.Gathered.{in-unionOf, in-unionOf-from}
 use Rattle.regression.proofs.DeadEnds.{dead-when-not-sole-provider, dead-when-running-too-early}
-use Rattle.regression.proofs.DeadEnds.{times-bound}
+use Rattle.regression.proofs.DeadEnds.{Bounds}
 use Rattle.regression.proofs.Carried.{EventBefore, Carried, dead-when-carried-late}
-use Rattle.tables.specs.Tables.{Describes, Known, chosen, addsAt}
+use Rattle.tables.specs.Tables.{Describes, Known, chosen, addsAt, keptOf, KeepsKept}
+use Rattle.tables.specs.declared.Steps.{Steps}
 use Rattle.tables.specs.declared.Frame.{Frame}
 use Rattle.search.specs.declared.state.State.{State}
 use Rattle.search.specs.Minutes.{runsInto}
 use Rattle.search.specs.States.{AddedTwice, Stands, DeadFor}
 use Rattle.search.specs.Search.{OpenIn}
-use Rattle.search.proofs.Chosen.{stepAt, chosen-at-place}
+use Rattle.search.proofs.Chosen.{stepAt, chosen-at-place, chosen-splits, since-new}
 
 -- ---- a step that stops now adds nothing alone
 module _ (J : Job) (sets numbers : List ℕ) (frame : Frame) (described : Describes J sets numbers frame) (st : State)
@@ -117,27 +116,39 @@ module _ (J : Job) (sets numbers : List ℕ) (frame : Frame) (described : Descri
       ∙ w)))
 
 -- ---- a set that cannot be there by then
-module _ (J : Job) (frame : Frame) (times : List ℕ) (filled : Filled J times) (facts : J .facts ≡ frame .facts) where
-  not-by : (set m : ℕ) → m < setNumber times set (frame .facts) → By (timeOf J (tableIn times) set) m → ⊥
-  not-by set m late h =
-      let n = number-by-set J times (filled .able) set m h in
-      let f = ap (setNumber times set) facts in
-      omega arith
+module _ (J : Job) (frame : Frame) (times : List ℕ)
+    (timely : TimesBound J (frame .first) (keptOf J frame) (frame .origin) times) (facts : J .facts ≡ frame .facts)
+    (inTime : frame .first ≤ frame .horizon) (steps : Steps) (keeps : KeepsKept frame steps) where
+  -- the bound of the table, with the chosen steps
+  bounds : Bounds J (frame .first) (frame .goal) (frame .horizon) (chosen J steps)
+      (λ set m. setNumber times set (J .facts) + frame .origin ≤ m)
+  bounds E new p set m after holds =
+      let split = chosen-splits J frame steps keeps in
+      let D : List Step = split .0 in
+      let late = since-new J frame steps keeps D (split .2) in
+      let same : E ++ chosen J steps ≡ (E ++ D) ++ keptOf J frame =
+      ap (λ (P : List Step). E ++ P) (split .1) ∙ sym (append-assoc E D (keptOf J frame)) in
+      timely (frame .horizon) (frame .goal) inTime (E ++ D)
+      (λ x Q i. ⊎-elim (λ r. new x (r .0) (r .1)) (λ r. late x (r .0) (r .1)) (append-cases E D i))
+      (subst (PlanOf J (frame .horizon) (frame .goal)) same (p .plan)) set m after
+      (subst (λ (P : List Step). Subset set (held (J .start) P m)) same holds) .0
 
-  pub dead-when-carried : (st : State) → Stands J frame st → (left s set : ℕ)
-      → EventBefore J (frame .first) (st .minute) s (λ a. not (has left a)) (chosen J (st .steps))
+  not-by : (set m : ℕ) → m < setNumber times set (frame .facts) + frame .origin
+      → setNumber times set (J .facts) + frame .origin ≤ m → ⊥
+  not-by set m late h = let f = ap (setNumber times set) facts in omega arith
+
+  pub dead-when-carried : (st : State) → st .steps ≡ steps → Stands J frame st → (left s set : ℕ) → frame .first ≤ s
+      → EventBefore J (frame .first) (st .minute) s (λ a. not (has left a)) (chosen J steps)
       → ((n : ℕ) → has set n ≡ true
-      → Carried J (frame .goal) (frame .horizon) (st .minute) (λ a. not (has left a)) (chosen J (st .steps)) n)
-      → s < setNumber times set (frame .facts) → DeadFor J frame (OpenIn frame st left) (chosen J (st .steps))
-  dead-when-carried st stands left s set event carried late =
+      → Carried J (frame .goal) (frame .horizon) (st .minute) s (λ a. not (has left a)) (chosen J steps) n)
+      → s < setNumber times set (frame .facts) + frame .origin → DeadFor J frame (OpenIn frame st left) (chosen J steps)
+  dead-when-carried st e stands left s set after event carried late =
       dead-when-carried-late J (frame .first) (frame .goal) (frame .horizon) (st .minute) s (stands .inTime)
-      (λ a. not (has left a)) (chosen J (st .steps)) event _
-      (times-bound J (frame .first) (frame .goal) (frame .horizon) (tableIn times) (filled .solves)) set carried
-      (not-by set s late)
+      (λ a. not (has left a)) (chosen J steps) after event _ bounds set carried (not-by set s late)
 
-  pub dead-when-rushed : (L : List Step) (m : ℕ) → m < setNumber times (runningNeeds m L) (frame .facts) → (t : ℕ)
-      → DeadFor J frame (Until (frame .first) t) L
-  dead-when-rushed L m late t =
-      dead-when-running-too-early J (frame .first) (frame .goal) (frame .horizon) _
-      (times-bound J (frame .first) (frame .goal) (frame .horizon) (tableIn times) (filled .solves)) L
-      (Until (frame .first) t) m (not-by (runningNeeds m L) m late)
+  pub dead-when-rushed : (m : ℕ) → frame .first ≤ m
+      → m < setNumber times (runningNeeds m (chosen J steps)) (frame .facts) + frame .origin → (t : ℕ)
+      → DeadFor J frame (Until (frame .first) t) (chosen J steps)
+  dead-when-rushed m after late t =
+      dead-when-running-too-early J (frame .first) (frame .goal) (frame .horizon) (chosen J steps) _ bounds t m after
+      (not-by (runningNeeds m (chosen J steps)) m late)

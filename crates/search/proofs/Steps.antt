@@ -20,7 +20,7 @@ use Rattle.search.specs.States.{Stands, DeadFor, nextStep, MayStop}
 use Rattle.search.specs.Moves.{Taken, Back, NoStartBetween}
 use Rattle.search.specs.Missing.{Fresh}
 use Rattle.search.specs.Search.{TaskOf, Ready, OpenIn}
-use Rattle.search.proofs.Chosen.{known-pushed}
+use Rattle.search.proofs.Chosen.{known-pushed, keeps-pushed, starts-pushed}
 use Rattle.search.proofs.StateLaws.{chosen-taken, taken-stands, back-stands}
 use Rattle.search.proofs.Completeness.{dead-back}
 
@@ -51,6 +51,15 @@ module _ (sets numbers times : List ℕ) (frame : Frame) (st : State) (ready : R
         timeCount = ready .timeCount;
         facts = ready .facts;
         notBefore = omega arith;
+        minute = rw minute (ready .minute);
+        starts = rw (taken .steps)
+            (starts-pushed (st .steps) (frame .actions) i _ (ready .safe .known) (may .room refl) (ready .starts)
+            (let m = ready .minute in omega arith));
+        kept = rw (taken .steps)
+            (keeps-pushed frame (st .steps) (frame .actions) i _ (ready .safe .known) (may .room refl) (ready .kept)
+            (let f = may .fits refl in omega arith));
+        keptKnown = ready .keptKnown;
+        origin = ready .origin;
       }
 
   module _ (J : Job) (file : List ℕ) (task : TaskOf J file sets numbers times frame) (stands : Stands J frame st) where
@@ -99,6 +108,11 @@ module _ (sets numbers times : List ℕ) (frame : Frame) (st : State) (ready : R
         timeCount = ready .timeCount;
         facts = ready .facts;
         notBefore = notBefore;
+        minute = let m = ready .minute in omega arith;
+        starts = rw (back .steps) (ready .starts);
+        kept = rw (back .steps) (ready .kept);
+        keptKnown = ready .keptKnown;
+        origin = ready .origin;
       }
 
   pub fresh-back : Fresh r

@@ -6,8 +6,8 @@ use mathlib.Core.Bool.{Bool, true, false}
 use mathlib.Core.List.{List}
 use Rattle.facts.specs.FactSet.{has}
 use Rattle.job.specs.Job.{Job}
-use Rattle.earliest.specs.Sweep.{Filled}
-use Rattle.tables.specs.Tables.{Describes, addsAt, durationAt, chosen}
+use Rattle.landmarks.specs.Bounds.{TimesBound}
+use Rattle.tables.specs.Tables.{Describes, addsAt, durationAt, chosen, keptOf, KeepsKept}
 use Rattle.tables.specs.declared.Frame.{Frame}
 use Rattle.search.specs.declared.state.State.{State}
 use Rattle.search.specs.States.{Stands, DeadFor}
@@ -27,5 +27,6 @@ pub record LatestStart (numbers : List ℕ) (left t from n m : ℕ) : Type 0 whe
 -- a state with these undecided actions of which the test is false is a dead end
 abbrev pub DeadUnlessCarried : List ℕ → List ℕ → List ℕ → Frame → State → ℕ → Bool → Type 0
 DeadUnlessCarried sets numbers times frame st left test =
-    test ≡ false → (J : Job) → Describes J sets numbers frame → Filled J times → Stands J frame st
+    test ≡ false → (J : Job) → Describes J sets numbers frame
+    → TimesBound J (frame .first) (keptOf J frame) (frame .origin) times → KeepsKept frame (st .steps) → Stands J frame st
     → DeadFor J frame (OpenIn frame st left) (chosen J (st .steps))

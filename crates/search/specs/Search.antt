@@ -1,30 +1,42 @@
 -- What the search promises of a state: the plan that it finds is accepted, and where it finds none there is none.
 -- Assumes nothing.
-use Prim.Native.Nat.{ℕ, _≤_}
+use Prim.Native.Nat.{ℕ, _≤_, _<_}
 use mathlib.Core.Path.{_≡_}
 use mathlib.Core.Bool.{true, false, not}
-use mathlib.Core.List.{List}
-use lib.ListN.{length}
+use mathlib.Core.List.{List, _++_}
+use lib.ListN.{length, getD}
 use Rattle.facts.specs.FactSet.{has, foreign}
 use Rattle.job.specs.Job.{Job}
-use Rattle.timeline.specs.Step.{Step}
-use Rattle.earliest.specs.Sweep.{Filled}
+use Rattle.timeline.specs.Step.{Step, stepsIn}
+use Rattle.timeline.specs.Timeline.{end}
+use Rattle.timeline.specs.Accepted.{Accepted}
+use Rattle.makespan.specs.Makespan.{Counts}
+use Rattle.landmarks.specs.Bounds.{TimesBound}
 use Rattle.regression.specs.DeadEnd.{Open}
-use Rattle.tables.specs.Tables.{Describes}
+use Rattle.tables.specs.Tables.{Describes, Known, keptOf, KeepsKept}
 use Rattle.tables.specs.declared.Frame.{Frame}
 use Rattle.leaf.specs.declared.Answer.{Answer}
-use Rattle.leaf.specs.Answer.{FileOf, Found}
+use Rattle.timeline.proofs.Places.{EachStep}
+use Rattle.timeline.proofs.Permutations.{Permutation}
+use Rattle.leaf.specs.Answer.{FileOf, Found, bytesIn}
+use Rattle.leaf.specs.Order.{inOrder}
 use Rattle.search.specs.declared.state.State.{State}
 use Rattle.search.specs.Missing.{Marked}
 use Rattle.search.specs.States.{Stands, Safe, DeadFor}
 
--- everything that is lent is of this job
+-- the plan counts: its steps before the first free minute are exactly the kept ones
+abbrev pub CountsFor : Job → Frame → List ℕ → Type 0
+CountsFor J frame bytes = Counts J (frame .first) (inOrder J (frame .kept)) bytes
+
+-- everything that is lent is of this job, and no accepted plan that counts ends before the first free minute
 pub record TaskOf (J : Job) (file sets numbers times : List ℕ) (frame : Frame) : Type 0 where
   pub inFile : FileOf J file
   pub described : Describes J sets numbers frame
-  pub filled : Filled J times
+  pub timely : TimesBound J (frame .first) (keptOf J frame) (frame .origin) times
   pub goal : foreign (J .facts) (frame .goal) ≡ false
   pub marked : Marked J sets numbers frame
+  pub late : (bytes : List ℕ) → Accepted J (frame .goal) bytes → CountsFor J frame bytes
+      → frame .first ≤ end (stepsIn J bytes)
 
 -- all that is lent is safe to read, and the state is not before the first minute
 pub record Ready (sets numbers times : List ℕ) (frame : Frame) (st : State) : Type 0 where
@@ -32,14 +44,30 @@ pub record Ready (sets numbers times : List ℕ) (frame : Frame) (st : State) : 
   pub timeCount : length times ≡ 2080
   pub facts : frame .facts ≤ 64
   pub notBefore : frame .first ≤ st .minute
+  pub kept : KeepsKept frame (st .steps)
+  pub minute : st .minute < 65536
+  pub starts : (k : ℕ) → k < st .steps .count → getD (st .steps .starts) k 0 < 65536
+  pub keptKnown : Known (frame .actions) (frame .kept)
+  pub origin : frame .origin ≤ frame .first
 
 -- the actions of the set are not decided at the minute
 abbrev pub OpenIn : Frame → State → ℕ → Step → Type 0
 OpenIn frame st left = Open (frame .first) (st .minute) (λ a. not (has left a))
 
--- the answer of a search: a plan found is accepted; none found makes a dead end
+-- the plan found is accepted, and has the kept steps and else steps from the first free minute on
+pub record FoundFor (J : Job) (frame : Frame) (r : Answer) : Type 0 where
+  pub plan : Found J (frame .goal) (frame .horizon) r
+  pub new : List Step
+  pub same : Permutation (stepsIn J (bytesIn r)) (new ++ keptOf J frame)
+  pub after : EachStep (λ x. frame .first ≤ x .start) new
+
+-- for every job in the file that has the frame's number of actions
+abbrev pub FoundIn : List ℕ → Frame → Answer → Type 0
+FoundIn file frame r = (J : Job) → FileOf J file → length (J .actions) ≡ frame .actions → FoundFor J frame r
+
+-- the answer of a search: a plan found is accepted and has the kept steps; none found makes a dead end
 pub record Answered (file : List ℕ) (frame : Frame) (Dead : Type 0) (r : Answer) : Type 0 where
-  pub found : r .found ≡ true → (J : Job) → FileOf J file → Found J (frame .goal) (frame .horizon) r
+  pub found : r .found ≡ true → FoundIn file frame r
   pub dead : r .found ≡ false → Dead
 
 -- for every job of the task at which the state stands: none of the steps that are X completes these steps

@@ -41,7 +41,7 @@ pub record Stands (J : Job) (frame : Frame) (st : State) : Type 0 where
   pub enders : (k : ℕ) → st .since ≤ k → k < st .steps .count
       → (frame .first ≤ getD (st .steps .starts) k 0)
       × (getD (st .steps .starts) k 0 + actionOf J (getD (st .steps .numbers) k 0) .duration ≡ st .minute)
-  pub later : (k : ℕ) → k < st .since
+  pub later : (k : ℕ) → frame .kept .count ≤ k → k < st .since
       → st .minute < getD (st .steps .starts) k 0 + actionOf J (getD (st .steps .numbers) k 0) .duration
 
 -- no normal plan has the chosen steps and else only steps that are X

@@ -1,13 +1,13 @@
 -- Tests of a state against the earliest times.
 -- Assumes nothing.
-use Prim.Native.Nat.{ℕ}
+use Prim.Native.Nat.{ℕ, _≤_}
 use mathlib.Core.Path.{_≡_}
 use mathlib.Core.Bool.{Bool, false}
 use mathlib.Core.List.{List}
 use Rattle.job.specs.Job.{Job}
-use Rattle.earliest.specs.Sweep.{Filled}
+use Rattle.landmarks.specs.Bounds.{TimesBound}
 use Rattle.regression.specs.DeadEnd.{Until}
-use Rattle.tables.specs.Tables.{Describes, chosen}
+use Rattle.tables.specs.Tables.{Describes, chosen, keptOf, KeepsKept}
 use Rattle.tables.specs.declared.Frame.{Frame}
 use Rattle.tables.specs.declared.Steps.{Steps}
 use Rattle.search.specs.declared.state.State.{State}
@@ -16,11 +16,15 @@ use Rattle.search.specs.States.{Stands, DeadFor}
 -- chosen steps of which the test is false are a dead end at any minute
 abbrev pub DeadUnlessReached : List ℕ → List ℕ → List ℕ → Frame → Steps → Bool → Type 0
 DeadUnlessReached sets numbers times frame steps test =
-    test ≡ false → (J : Job) → Describes J sets numbers frame → Filled J times → (t : ℕ)
+    test ≡ false → (J : Job) → Describes J sets numbers frame
+    → TimesBound J (frame .first) (keptOf J frame) (frame .origin) times → KeepsKept frame steps → (t : ℕ)
+    → frame .first ≤ frame .horizon
     → DeadFor J frame (Until (frame .first) t) (chosen J steps)
 
 -- a state of which the test is false is a dead end
 abbrev pub DeadUnlessTimely : List ℕ → List ℕ → List ℕ → Frame → State → Bool → Type 0
 DeadUnlessTimely sets numbers times frame st test =
-    test ≡ false → (J : Job) → Describes J sets numbers frame → Filled J times → Stands J frame st
+    test ≡ false → (J : Job) → Describes J sets numbers frame
+    → TimesBound J (frame .first) (keptOf J frame) (frame .origin) times → KeepsKept frame (st .steps)
+    → frame .first ≤ frame .horizon → Stands J frame st
     → DeadFor J frame (Until (frame .first) (st .minute)) (chosen J (st .steps))

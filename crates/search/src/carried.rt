@@ -40,8 +40,8 @@ fn latest_start(numbers: &[u32], frame: Frame, st: State, left: u64, from: u16) 
     m
 }
 
-// Whether what is wanted, and added neither now nor by the actions left, and what the steps that run in the minute
-// before need, can hold at the event minute before.
+// Whether what is wanted, and added neither now nor by the actions left nor by kept steps since the event minute before,
+// and what the steps that run in the minute before need, can hold at that event minute.
 pub fn in_time(
     sets: &[u64],
     numbers: &[u32],
@@ -52,14 +52,30 @@ pub fn in_time(
 ) -> bool
     requires { ⌜ Lent (now sets) (now numbers) (frame .actions) × Known (frame .actions) (st .steps)
         × (length (now times) ≡ 2080) × (frame .facts ≤ 64) × FitAll (now numbers) frame st left
-        × (frame .first < st .minute) ⌝ }
+        × (frame .first < st .minute) × Known (frame .actions) (frame .kept) × (frame .origin ≤ frame .first) ⌝ }
     ensures { λ r. ⌜ DeadUnlessCarried (now (sets .entry)) (now (numbers .entry)) (now (times .entry))
         frame st left r ⌝ }
 {
     let steps = st.steps;
     let last = moves::event(steps, frame.first, st.minute);
     let event = latest_start(numbers, frame, st, left, last);
-    let added = facts::union(st.at.added, adds_of(sets, left));
+    let minute = minute::wide(event);
+    let kept = frame.kept;
+    let given = moves::gone(
+        sets,
+        numbers,
+        frame.actions,
+        kept,
+        minute,
+        minute::wide(st.minute),
+    );
+    let now = facts::union(st.at.added, adds_of(sets, left));
+    let added = facts::union(now, given);
     let carried = facts::union(facts::difference(st.wanted, added), st.at.held);
-    set_time::by(times, frame.facts, carried, minute::wide(event))
+    set_time::by(
+        times,
+        frame.facts,
+        carried,
+        minute - minute::wide(frame.origin),
+    )
 }

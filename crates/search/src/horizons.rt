@@ -10,7 +10,6 @@ use crate::state::State;
 use earliest::set_time;
 use leaf::Answer;
 use tables::Frame;
-use tables::Steps;
 
 // The frame for another horizon.
 fn until(frame: Frame, horizon: u16) -> Frame
@@ -21,14 +20,14 @@ fn until(frame: Frame, horizon: u16) -> Frame
     other
 }
 
-// A plan that ends by the frame's horizon. With no minute left there are no steps; this second call of `finish` also
+// A plan that ends by the frame's horizon. With no free minute left there are the kept steps; this second call of `finish` also
 // keeps its large frame out of the recursion, where a function called once would be inlined.
 fn solve(sets: &[u64], numbers: &[u32], times: &[u32], file: &[u8], frame: Frame) -> Answer
     requires { ⌜ Whole (now sets) (now numbers) (now times) frame ⌝ }
     ensures { λ r. ⌜ Solves (now (file .entry)) (now (sets .entry)) (now (numbers .entry)) (now (times .entry))
         frame r ⌝ }
 {
-    let steps = Steps::none();
+    let steps = frame.kept;
     if frame.horizon <= frame.first {
         return leaf::finish(file, frame, steps);
     }
@@ -41,7 +40,7 @@ fn solve(sets: &[u64], numbers: &[u32], times: &[u32], file: &[u8], frame: Frame
         at: at,
         uses: amounts::look(numbers, frame.actions, steps, minute),
         twice: 0,
-        since: 0,
+        since: steps.count,
     };
     regress::regress(sets, numbers, times, file, frame, st)
 }
@@ -171,7 +170,11 @@ pub fn shortest(sets: &[u64], numbers: &[u32], times: &[u32], file: &[u8], frame
     ensures { λ r. ⌜ Shortest (now (file .entry)) (now (sets .entry)) (now (numbers .entry)) (now (times .entry))
         frame r ⌝ }
 {
-    let low = set_time::set_time(times, frame.facts, frame.goal);
+    let time = set_time::set_time(times, frame.facts, frame.goal);
+    if minute::wide(frame.horizon) < time {
+        return leaf::nothing();
+    }
+    let low = set_time::later(time + minute::wide(frame.origin), minute::wide(frame.first));
     if minute::wide(frame.horizon) < low {
         return leaf::nothing();
     }

@@ -25,7 +25,8 @@ fn fits(numbers: &[u32], row: usize, missing: u64, used: u64, most: u64) -> bool
 
 // Whether the stores have enough left for what is missing.
 fn stores_suffice(numbers: &[u32], frame: Frame, st: State, missing: u64) -> bool
-    requires { ⌜ (length (now numbers) ≡ 1156) × (frame .stores ≤ 4) × Sums 32 (st .uses .spent) × Fresh st ⌝ }
+    requires { ⌜ (length (now numbers) ≡ 1156) × (frame .stores ≤ 4) × Sums 32 (st .uses .spent) × Fresh st
+        × (frame .first ≤ st .minute) ⌝ }
     ensures { λ r. ⌜ ((sets : List ℕ) → Missing sets st missing
         → DeadUnlessSuffices sets (now (numbers .entry)) frame st r) ⌝ }
 {
@@ -45,17 +46,18 @@ fn stores_suffice(numbers: &[u32], frame: Frame, st: State, missing: u64) -> boo
 // Whether the pools have minutes enough left for what is missing.
 fn pools_suffice(numbers: &[u32], frame: Frame, st: State, missing: u64) -> bool
     requires { ⌜ Numbers (now numbers) (frame .actions) × Known (frame .actions) (st .steps) × (frame .pools ≤ 4)
-        × Fresh st ⌝ }
+        × Fresh st × (frame .first ≤ st .minute) ⌝ }
     ensures { λ r. ⌜ ((sets : List ℕ) → Missing sets st missing
         → DeadUnlessSuffices sets (now (numbers .entry)) frame st r) ⌝ }
 {
     let steps = st.steps;
     let available = frame.available;
-    let t = minute::wide(st.minute);
+    let t = shares::wide(minute::wide(st.minute));
     let mut k = 0;
     while k < frame.pools {
-        let used = pool_minutes::used(numbers, frame.actions, steps, k, t);
-        let most = pool_minutes::supply(numbers, k, available[k], t);
+        let from = pool_minutes::opening(numbers, k, frame.origin);
+        let used = pool_minutes::used(numbers, frame.actions, steps, k, from, t);
+        let most = pool_minutes::supply(available[k], from, t);
         if !fits(numbers, 4 + k, missing, used, most) {
             return false;
         }

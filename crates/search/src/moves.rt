@@ -80,7 +80,7 @@ fn gone_of(sets: &[u64], numbers: &[u32], i: u8, start: u16, s: u32, t: u32) -> 
 }
 
 // What the chosen steps add that stop after minute s and by minute t.
-fn gone(sets: &[u64], numbers: &[u32], actions: usize, steps: Steps, s: u32, t: u32) -> u64
+pub fn gone(sets: &[u64], numbers: &[u32], actions: usize, steps: Steps, s: u32, t: u32) -> u64
     requires { ⌜ Lent (now sets) (now numbers) actions × Known actions steps ⌝ }
     ensures { λ r. ⌜ Gone (now (sets .entry)) (now (numbers .entry)) actions steps s t r ⌝ }
 {

@@ -81,7 +81,8 @@ fn reached(
     until: u32,
 ) -> bool
     requires { ⌜ Lent (now sets) (now numbers) (frame .actions) × Known (frame .actions) steps
-        × (length (now times) ≡ 2080) × (frame .facts ≤ 64) × (until < 65536) ⌝ }
+        × (length (now times) ≡ 2080) × (frame .facts ≤ 64) × (until < 65536) × (frame .origin ≤ frame .first)
+        × (frame .first ≤ from) ⌝ }
     ensures { λ r. ⌜ DeadUnlessReached (now (sets .entry)) (now (numbers .entry)) (now (times .entry)) frame steps r ⌝ }
 {
     if start < from {
@@ -91,7 +92,12 @@ fn reached(
         return true;
     }
     let needs = needs_at(sets, numbers, frame.actions, steps, start);
-    set_time::by(times, frame.facts, needs, start)
+    set_time::by(
+        times,
+        frame.facts,
+        needs,
+        start - minute::wide(frame.origin),
+    )
 }
 
 // Whether that is so at the start of each chosen step from a minute on.
@@ -104,7 +110,8 @@ pub fn all_reached(
     from: u16,
 ) -> bool
     requires { ⌜ Lent (now sets) (now numbers) (frame .actions) × Known (frame .actions) (st .steps)
-        × (length (now times) ≡ 2080) × (frame .facts ≤ 64) ⌝ }
+        × (length (now times) ≡ 2080) × (frame .facts ≤ 64) × (frame .origin ≤ frame .first)
+        × (frame .first ≤ from) ⌝ }
     ensures { λ r. ⌜ DeadUnlessTimely (now (sets .entry)) (now (numbers .entry)) (now (times .entry)) frame st r ⌝ }
 {
     let steps = st.steps;

@@ -15,6 +15,7 @@ use Rattle.job.proofs.Passed.{PassedAction, passed}
 use Rattle.job.proofs.Rows.{fits-of-pass}
 use Rattle.timeline.specs.Step.{noAction}
 use Rattle.tables.specs.Tables.{Describes, DescribesAction, Sized}
+use Rattle.tables.specs.declared.Steps.{Steps}
 use Rattle.tables.specs.Filled.{Filled, frameOf}
 use Rattle.tables.proofs.FillLaws.{action-of-value}
 
@@ -49,8 +50,8 @@ module _ (job : held.Job) (sets numbers : List ℕ) (filled : Filled job sets nu
           stores = n .stores;
         }
 
-    module _ (goal from horizon : ℕ) (inTime : horizon ≤ job .deadline) where
-      pub describes : Describes (jobIn job) sets numbers (frameOf job goal from horizon)
+    module _ (goal from horizon : ℕ) (kept : Steps) (origin : ℕ) (inTime : horizon ≤ job .deadline) where
+      pub describes : Describes (jobIn job) sets numbers (frameOf job goal from horizon kept origin)
       describes =
           record {
             facts = refl;
@@ -63,7 +64,7 @@ module _ (job : held.Job) (sets numbers : List ℕ) (filled : Filled job sets nu
             each = describes-action;
           }
 
-      pub sized : from ≤ 1440 → Sized sets numbers (frameOf job goal from horizon)
+      pub sized : from ≤ 1440 → Sized sets numbers (frameOf job goal from horizon kept origin)
       sized early =
           let within = passed (jobIn job) passes in
           let counts = fits-of-pass job passes in

@@ -14,6 +14,7 @@ use Rattle.job.specs.Job.{Job, actionIn, jobIn}
 use Rattle.timeline.specs.Timeline.{hinders}
 use Rattle.times.specs.Earliest.{actionOf}
 use Rattle.tables.specs.declared.Frame.{Frame}
+use Rattle.tables.specs.declared.Steps.{Steps}
 use Rattle.tables.specs.Tables.{clashes, needsAt, addsAt, deletesAt, clashesAt, durationAt, poolUseAt, storeUseAt}
 
 -- the four sets of action i are in the table
@@ -43,8 +44,8 @@ pub record Filled (job : held.Job) (sets numbers : List ℕ) : Type 0 where
   pub eachNumbers : EachFilled NumbersFilled job numbers
 
 -- what of the job value is no table
-abbrev pub frameOf : held.Job → ℕ → ℕ → ℕ → Frame
-frameOf job goal first horizon =
+abbrev pub frameOf : held.Job → ℕ → ℕ → ℕ → Steps → ℕ → Frame
+frameOf job goal first horizon kept origin =
     record {
       facts = job .facts;
       actions = job .counts .actions;
@@ -55,6 +56,8 @@ frameOf job goal first horizon =
       goal = goal;
       first = first;
       horizon = horizon;
+      kept = kept;
+      origin = origin;
     }
 
 -- ---- what inner functions promise

@@ -119,3 +119,15 @@ pushed steps number start =
       numbers = set (steps .numbers) (steps .count) number;
       starts = set (steps .starts) (steps .count) start;
     }
+
+-- ---- the kept steps
+
+abbrev pub keptOf : Job → Frame → List Step
+keptOf J frame = chosen J (frame .kept)
+
+-- the frame's kept steps stand first, and the others start at the first free minute or later
+pub record KeepsKept (frame : Frame) (steps : Steps) : Type 0 where
+  pub count : frame .kept .count ≤ steps .count
+  pub numbers : (k : ℕ) → k < frame .kept .count → getD (steps .numbers) k 0 ≡ getD (frame .kept .numbers) k 0
+  pub starts : (k : ℕ) → k < frame .kept .count → getD (steps .starts) k 0 ≡ getD (frame .kept .starts) k 0
+  pub new : (k : ℕ) → frame .kept .count ≤ k → k < steps .count → frame .first ≤ getD (steps .starts) k 0

@@ -8,7 +8,8 @@ ghost use Rattle.tables.specs.Filled.{frameOf};
 use job::Job;
 use timeline::Plan;
 
-// What of the job is no table. The search is for the goal, from the first free minute up to the horizon.
+// What of the job is no table. The search is for the goal, from the first free minute up to the horizon, with the kept
+// steps, which start before it; the table of times counts from its origin.
 pub struct Frame {
     pub facts: u8,
     pub actions: usize,
@@ -19,6 +20,8 @@ pub struct Frame {
     pub goal: u64,
     pub first: u16,
     pub horizon: u16,
+    pub kept: Steps,
+    pub origin: u16,
 }
 
 impl Frame {
@@ -29,8 +32,8 @@ impl Frame {
     pub const NUMBERS: usize = 1156;
 
     // The frame of a job.
-    pub fn of(job: Job, goal: u64, first: u16, horizon: u16) -> Frame
-        ensures { λ r. ⌜ r ≡ frameOf job goal first horizon ⌝ }
+    pub fn of(job: Job, goal: u64, first: u16, horizon: u16, kept: Steps, origin: u16) -> Frame
+        ensures { λ r. ⌜ r ≡ frameOf job goal first horizon kept origin ⌝ }
     {
         let counts = job.counts;
         let available = job.pools;
@@ -45,6 +48,8 @@ impl Frame {
             goal: goal,
             first: first,
             horizon: horizon,
+            kept: kept,
+            origin: origin,
         }
     }
 }

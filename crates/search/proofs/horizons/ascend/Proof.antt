@@ -111,7 +111,7 @@ returns-2 c =
     let c-loop = c .before .before .before .loop in
     let solves = c .solve2 .ensures in
     record {
-      found = λ e J task passed. solves .found e J (task .inFile);
+      found = λ e J task passed. solves .found e J (task .inFile) (task .described .actions);
       raised = c-loop .inv .2;
       none = λ e. solves .none e;
     }

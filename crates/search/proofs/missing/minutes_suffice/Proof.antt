@@ -27,15 +27,15 @@ returns c =
     let c-args = c .before .before .before .before .before .before .args in
     let c-pre = c .before .before .before .before .before .before .pre in
     let c-minutes = c .before .before .before .minutes in
-    λ missing e J described marked stands.
+    λ missing e J described marked keeps stands.
     let at = c-args in
     let h = c-pre in
     let a = c .before .before .wide .ensures .0 in
     let b = c .before .wide2 .ensures .0 in
     let n = c .wide3 .ensures .0 in
     let more = leb-false (c-minutes .result) (c .wide3 .result) e in
-    dead-when-minutes-exceeded J (at .sets .now) (at .numbers .now) (at .frame) described marked (at .st) stands (h .3)
-    (at .missing) (c-minutes .result) (h .2) missing (c-minutes .ensures) (omega arith)
+    dead-when-minutes-exceeded J (at .sets .now) (at .numbers .now) (at .frame) described marked (at .st) keeps stands
+    (h .3) (h .2) (at .missing) (c-minutes .result) missing (c-minutes .ensures) (omega arith)
 
 pub minutes-suffice-spec : {M : Type 1} → statement M
 minutes-suffice-spec =

@@ -56,9 +56,9 @@ returns c =
     let c-fits2 = c .before .fits2 in
     let h = c-pre in
     let at = c-args in
-    λ sets missing e J described marked stands.
-    dead-when-store-exceeded J sets (at .numbers .now) (at .frame) described marked (at .st) stands (h .3)
-    (c-loop .k) (at .missing) (omega arith) (omega arith) missing
+    λ sets missing e J described marked keeps stands.
+    dead-when-store-exceeded J sets (at .numbers .now) (at .frame) described marked (at .st) keeps stands
+    (h .3) (h .4) (c-loop .k) (at .missing) (omega arith) (omega arith) missing
     (ap (fits (at .numbers .now) (c-loop .k) (at .missing) _) (sym (c .before .before .wide .ensures .0))
     ∙ sym (c-fits2 .ensures) ∙ not-true (c-fits2 .result) (c .if2 .taken))
 

@@ -22,6 +22,7 @@ stores-suffice-requires c κs =
       safe .stores,
       sums-of-more _ 32 _ (safe .known .few) (safe .small .spent),
       c-pre .1,
+      c-pre .2,
     )
 
 returns : tie.Need-returns
@@ -36,7 +37,7 @@ returns c =
 pools-suffice-requires : tie.Need-pools-suffice-requires
 pools-suffice-requires c κs =
     let c-pre = c .before .before .before .before .before .before .pre in
-    let safe = c-pre .0 in (safe .lent .amounts, safe .known, safe .pools, c-pre .1)
+    let safe = c-pre .0 in (safe .lent .amounts, safe .known, safe .pools, c-pre .1, c-pre .2)
 
 returns-2 : tie.Need-returns-2
 returns-2 c =

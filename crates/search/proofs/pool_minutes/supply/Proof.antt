@@ -11,48 +11,26 @@ use Rattle.search.proofs.pool_minutes.supply.Tie as tie
 wide-requires : tie.Need-wide-requires
 wide-requires c κs = search needs
 
-add-between : tie.Need-add-between
-add-between c = search needs
-
-mul-between : tie.Need-mul-between
-mul-between c = search needs
-
-shared-slice-read-between : tie.Need-shared-slice-read-between
-shared-slice-read-between c = search needs
-
 between-requires : tie.Need-between-requires
 between-requires c κs = search needs
 
 mul-result : tie.Need-mul-result
 mul-result c =
-    let c-pre = c .before .before .before .before .pre in
-    let c-wide = c .before .before .wide in
-    let h = c-pre in
-    let a = c-wide .ensures .1 in
+    let h = c .before .before .pre in
+    let a = c .before .wide .ensures .1 in
     let b = c .between .ensures in
-    let most = mul-le-mul {n₁ = c-wide .result} {m₁ = c .between .result} {n₂ = 2 ^ 32} {m₂ = 65536} (omega arith)
+    let most = mul-le-mul {n₁ = c .before .wide .result} {m₁ = c .between .result} {n₂ = 2 ^ 32} {m₂ = 65536} (omega arith)
     (omega arith) in
     omega arith
 
 returns : tie.Need-returns
 returns c =
-    let c-pre = c .before .before .before .before .pre in
-    let c-wide = c .before .before .wide in
-    let h = c-pre in
-    let a = c-wide .ensures .1 in
+    let h = c .before .before .pre in
+    let a = c .before .wide .ensures .1 in
     let b = c .between .ensures in
-    let most = mul-le-mul {n₁ = c-wide .result} {m₁ = c .between .result} {n₂ = 2 ^ 32} {m₂ = 65536} (omega arith)
+    let most = mul-le-mul {n₁ = c .before .wide .result} {m₁ = c .between .result} {n₂ = 2 ^ 32} {m₂ = 65536} (omega arith)
     (omega arith) in
-    (ap₂ _*_ (c-wide .ensures .0) b, omega arith)
+    (ap₂ _*_ (c .before .wide .ensures .0) b, omega arith)
 
 pub supply-spec : {M : Type 1} → statement M
-supply-spec =
-    tie.close
-    (tie.spec
-    wide-requires
-    add-between
-    mul-between
-    shared-slice-read-between
-    between-requires
-    mul-result
-    returns)
+supply-spec = tie.close (tie.spec wide-requires between-requires mul-result returns)

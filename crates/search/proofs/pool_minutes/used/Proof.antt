@@ -1,6 +1,6 @@
 -- `used` meets its contract: what the first k steps use is added up.
 -- Assumes nothing.
-use Prim.Native.Nat.{ℕ, _+_, _*_, _-_, _^_, _≤_, suc, min}
+use Prim.Native.Nat.{ℕ, _+_, _*_, _-_, _^_, _≤_, suc, min, max}
 use mathlib.Core.Path.{_≡_, refl, ap₂, _∙_}
 use lib.ListN.{getD}
 use Rattle.search.specs.Missing.{UsedBefore}
@@ -9,11 +9,11 @@ use Rattle.search.proofs.pool_minutes.used.Statement.{statement}
 use Rattle.search.proofs.pool_minutes.used.Tie as tie
 
 abbrev Inv-loop : tie.InvT-loop
-Inv-loop numbers actions pool t steps all₀ k₀ all k =
-    (k ≤ steps .count) × (all ≤ k * 2 ^ 40) × UsedBefore numbers actions steps pool t k all
+Inv-loop numbers actions pool from t steps all₀ k₀ all k =
+    (k ≤ steps .count) × (all ≤ k * 2 ^ 40) × UsedBefore numbers actions steps pool from t k all
 
 abbrev μ-loop : tie.MeasureT-loop
-μ-loop numbers actions pool t steps all₀ k₀ all k = steps .count - k
+μ-loop numbers actions pool from t steps all₀ k₀ all k = steps .count - k
 
 loop-holds : tie.Need-loop-holds Inv-loop μ-loop
 loop-holds c = (omega arith, omega arith, λ J sets described inside. refl)
@@ -70,7 +70,7 @@ loop-again c =
           let d = described _ below in
           rw next
           (ap₂ _+_
-          (r .0 ∙ ap₂ (λ (amount minutes : ℕ). amount * (min (start + minutes) (c-args .t) - start)) (d .pools _ inside)
+          (r .0 ∙ ap₂ (λ (amount minutes : ℕ). amount * (min (start + minutes) (c-args .t) - max start (c-args .from))) (d .pools _ inside)
           (d .duration))
           (inv .2 J sets described inside)),
     )

@@ -15,6 +15,7 @@ use Rattle.search.specs.Search.{TaskOf, OpenIn}
 use Rattle.search.proofs.AmountLaws.{small-with-more}
 use Rattle.search.proofs.Completeness.{dead-past-barred, dead-either, dead-until}
 use Rattle.search.proofs.CandidateLaws.{subset-at-most, less-without}
+use Rattle.search.proofs.Counted.{found-when-finished}
 use Rattle.search.proofs.Steps.{ready-taken, stands-taken, dead-when-taken-open, dead-when-taken-until}
 use Rattle.search.proofs.Steps.{ready-back, fresh-back, stands-back, dead-when-back, dead-when-unfinished}
 use Prim.Native.Nat.{ℕ, _<_}
@@ -216,7 +217,9 @@ attempt-all-reached-requires t c κs =
     let c-take = c .before .before .before .take in
     let h = c-pre .1 in
     let next = ready-taken _ _ _ (c-args .frame) (c-args .st) (h .0) _ (h .1) (h .2) _ (c-take .ensures) in
-    (next .safe .lent, next .safe .known, next .timeCount, next .facts)
+    let fits = h .2 .fits refl in
+    let start = c .start-of .ensures in
+    (next .safe .lent, next .safe .known, next .timeCount, next .facts, next .origin, omega arith)
 
 attempt-nothing-requires-2 : (t : ℕ) → attempt-lts.Need-nothing-requires-2 (
   take-reads.Asked,
@@ -256,13 +259,15 @@ attempt-returns-2 t c =
     let c-all-reached = c .before .before .all-reached in
     let h = c-pre .1 in
     let taken = c-take .ensures in
+    let later = h .3 in
+    let next = ready-taken _ _ _ (c-args .frame) (c-args .st) (h .0) _ (h .1) (h .2) _ taken in
     let none = ap (λ (a : Answer). a .found) (c .nothing2 .ensures) in
     record {
       found = λ e. absurd (true≢false (sym e ∙ none));
       dead = λ e J task stands.
           dead-when-taken-until _ _ _ (c-args .frame) (c-args .st) (h .0) _ (h .1) (h .2) _ taken J _ task stands _
           (c-all-reached .ensures (not-true (c-all-reached .result) (c .before .if2 .taken)) J (task .described)
-          (task .filled)
+          (task .timely) (next .kept) (let inTime = stands .inTime in omega arith)
           (stands-taken _ _ _ (c-args .frame) (c-args .st) (h .0) _ (h .1) (h .2) _ taken J _ task stands));
     }
 
@@ -424,6 +429,8 @@ choose-in-time-requires t c κs =
       ready .facts,
       (λ a member. let may = inv .1 a member in let fits = may .1 .fits refl in (may .0, omega arith)),
       h .1,
+      ready .keptKnown,
+      ready .origin,
     )
 
 choose-back-requires : (t : ℕ) → choose-lts.Need-back-requires (
@@ -764,13 +771,16 @@ choose-returns-3 : (t : ℕ) → choose-lts.Need-returns-3 (
   nothing-reads.Learnt,
 ) (choose-at t) choose.Post choose-Inv-loop choose-μ-loop
 choose-returns-3 t c =
+    let at8 = c .before .before .before .before .before .before .before .before in
+    let c-pre = at8 .before .pre in
     let c-loop = c .before .before .before .loop in
     let none = ap (λ (a : Answer). a .found) (c .nothing .ensures) in
     record {
       found = λ e. absurd (true≢false (sym e ∙ none));
       dead = λ e J task stands.
           c-loop .inv .2 J task stands
-          (c .before .before .in-time .ensures (c .before .if1 .left) J (task .described) (task .filled) stands);
+          (c .before .before .in-time .ensures (c .before .if1 .left) J (task .described) (task .timely)
+          (c-pre .1 .0 .kept) stands);
     }
 
 regress-finish-requires : (t : ℕ) → regress-lts.Need-finish-requires (
@@ -803,7 +813,9 @@ regress-returns t c =
     let c-args = at8 .before .args in
     let h = c-pre .1 .0 in
     record {
-      found = c .finish .ensures .found;
+      found = λ e J have count.
+          found-when-finished J _ (c-args .frame) _ _ (h .kept) (h .safe .known) (h .starts) (c .finish .ensures) e have
+          count;
       dead = λ e J task stands.
           dead-when-unfinished J _ _ _ _ (c-args .frame) (c-args .st) _ h task (c .finish .ensures) (omega arith) e;
     }
@@ -845,13 +857,15 @@ regress-returns-2 : (t : ℕ) → regress-lts.Need-returns-2 (
   choose.Post,
 ) (regress-at t) regress.Post
 regress-returns-2 t c =
+    let at8 = c .before .before .before .before .before .before .before .before in
+    let c-pre = at8 .before .before .pre in
     let c-suffices = c .before .before .suffices in
     let none = ap (λ (a : Answer). a .found) (c .nothing .ensures) in
     record {
       found = λ e. absurd (true≢false (sym e ∙ none));
       dead = λ e J task stands.
           c-suffices .ensures (not-true (c-suffices .result) (c .before .if2 .taken)) J (task .described)
-          (task .marked) stands;
+          (task .marked) (c-pre .1 .0 .kept) stands;
     }
 
 regress-choose-requires : (t : ℕ) → regress-lts.Need-choose-requires (

@@ -38,15 +38,21 @@ reached-requires c κs =
     let at8 = c .before .before .before .before .before .before .before .before in
     let c-pre = at8 .before .before .pre in
     let c-wide2 = c .before .before .before .before .wide2 in
-    let h = c-pre in let w = c-wide2 .ensures .1 in (h .0, h .1, h .2, h .3, w)
+    let c-wide = c .before .before .before .before .before .wide in
+    let h = c-pre in
+    let w = c-wide2 .ensures .1 in
+    let from = c-wide .ensures .0 in
+    let after = h .5 in
+    (h .0, h .1, h .2, h .3, w, h .4, omega arith)
 
 returns : tie.Need-returns Inv-loop μ-loop
 returns c =
     let at8 = c .before .before .before .before .before .before .before .before in
     let c-args = at8 .before .before .before .before .args in
     let c-reached = c .before .reached in
-    λ e J described filled stands.
-    c-reached .ensures (not-true (c-reached .result) (c .if1 .taken)) J described filled (c-args .st .minute)
+    λ e J described timely keeps inTime stands.
+    c-reached .ensures (not-true (c-reached .result) (c .if1 .taken)) J described timely keeps
+    (c-args .st .minute) inTime
 
 add-k : tie.Need-add-k Inv-loop μ-loop
 add-k c = omega arith

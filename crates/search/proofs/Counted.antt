@@ -1,0 +1,86 @@
+-- An accepted plan that counts is the kept steps, and others from the first free minute on.
+-- Assumes nothing.
+use Prim.Native.Nat.{ℕ, _≤_, _<_}
+use mathlib.Core.Bool.{true}
+use mathlib.Core.Path.{_≡_, sym, ap, subst, _∙_}
+use mathlib.Core.List.{List, [], _∷_, _++_}
+use lib.ListN.{length, getD}
+use Rattle.job.specs.Job.{Job}
+use Rattle.timeline.specs.Step.{Step, stepsIn}
+use Rattle.timeline.specs.Accepted.{Accepted}
+use Rattle.timeline.proofs.Places.{Place, here, there, EachStep}
+use Rattle.timeline.proofs.AcceptedSteps.{accepted-steps}
+use Rattle.timeline.proofs.JobSteps.{OfJob, steps-of-accepted}
+use Rattle.timeline.proofs.Permutations.{Permutation, empty, next-step, permutation-sym, permutation-trans}
+use Rattle.timeline.proofs.Permutations.{permutation-append, permutation-each, permutation-keeps}
+use Rattle.times.proofs.PlanSteps.{PlanOf}
+use Rattle.makespan.proofs.Search.{rising-begun, begun-are-begun}
+use Rattle.tables.specs.Tables.{Known, keptOf, KeepsKept}
+use Rattle.tables.specs.declared.Steps.{Steps}
+use Rattle.tables.specs.declared.Frame.{Frame}
+use Rattle.leaf.specs.Order.{inOrder}
+use Rattle.leaf.proofs.InOrder.{in-order-permutes}
+use Rattle.leaf.specs.declared.Answer.{Answer}
+use Rattle.leaf.specs.Answer.{FileOf, Finishes, bytesIn}
+use Rattle.search.specs.Search.{CountsFor, FoundFor}
+use Rattle.search.proofs.Chosen.{chosen-splits, since-new}
+
+place-behind : (x : Step) (N K : List Step) → Place x (N ++ K) (N ++ (x ∷ K))
+place-behind x [] K = here
+place-behind x (y ∷ N) K = there (place-behind x N K)
+
+append-nothing : (N : List Step) → Permutation N (N ++ [])
+append-nothing [] = empty
+append-nothing (x ∷ N) = next-step here (append-nothing N)
+
+append-swap : (K N : List Step) → Permutation (K ++ N) (N ++ K)
+append-swap [] N = append-nothing N
+append-swap (x ∷ K) N = next-step (place-behind x N K) (append-swap K N)
+
+-- the plan's steps are new ones and the kept ones
+pub record Split (J : Job) (frame : Frame) (P : List Step) : Type 0 where
+  pub new : List Step
+  pub same : Permutation P (new ++ keptOf J frame)
+  pub after : EachStep (λ x. frame .first ≤ x .start) new
+  pub early : EachStep (λ x. x .start < frame .first) (keptOf J frame)
+
+pub split-of-counted : (J : Job) (frame : Frame) (bytes : List ℕ) → Accepted J (frame .goal) bytes
+    → CountsFor J frame bytes → Split J frame (stepsIn J bytes)
+split-of-counted J frame bytes accepted counts =
+    let P : List Step = stepsIn J bytes in
+    let K : List Step = inOrder J (frame .kept) in
+    let r = rising-begun (frame .first) P
+    (accepted-steps J (frame .goal) P (steps-of-accepted J (frame .goal) bytes accepted) .rising) in
+    let o = in-order-permutes J (frame .kept) in
+    let is : P ≡ K ++ r .0 = r .1 ∙ ap (λ (Q : List Step). Q ++ r .0) counts in
+    record {
+      new = r .0;
+      same = subst (λ (Q : List Step). Permutation Q (r .0 ++ keptOf J frame)) (sym is)
+          (permutation-trans (permutation-append (r .0) o) (append-swap (keptOf J frame) (r .0)));
+      after = r .2;
+      early = permutation-each (λ x. x .start < frame .first) (permutation-sym o)
+          (subst (EachStep (λ x. x .start < frame .first)) counts (begun-are-begun (frame .first) P));
+    }
+
+pub plan-permuted : (J : Job) (T goal : ℕ) {R P : List Step} → Permutation R P → PlanOf J T goal P → PlanOf J T goal R
+plan-permuted J T goal o plan =
+    record {
+      keeps = permutation-keeps J T goal o (plan .keeps);
+      own = permutation-each (OfJob J) o (plan .own);
+      known = permutation-each (λ x. x .number < length (J .actions)) o (plan .known);
+    }
+
+-- a plan that the leaf finds has the kept steps, and else new ones
+pub found-when-finished : (J : Job) (file : List ℕ) (frame : Frame) (steps : Steps) (r : Answer) → KeepsKept frame steps
+    → Known (frame .actions) steps → ((k : ℕ) → k < steps .count → getD (steps .starts) k 0 < 65536)
+    → Finishes file frame steps r → r .found ≡ true → FileOf J file → length (J .actions) ≡ frame .actions
+    → FoundFor J frame r
+found-when-finished J file frame steps r keeps known starts finishes e have count =
+    let split = chosen-splits J frame steps keeps in
+    record {
+      plan = finishes .found e J have;
+      new = split .0;
+      same = subst (λ (P : List Step). Permutation (stepsIn J (bytesIn r)) P) (split .1)
+          (finishes .same e J have (rw count known) starts);
+      after = since-new J frame steps keeps (split .0) (split .2);
+    }
