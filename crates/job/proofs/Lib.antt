@@ -2,6 +2,7 @@ pub mod Table
 pub mod Rows
 pub mod Values
 pub mod Passed
+pub mod Resuming
 mod Answers
 mod Agree
 mod SameParts

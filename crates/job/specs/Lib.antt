@@ -1,3 +1,4 @@
 pub mod Job
 pub mod Refusal
 pub mod Valid
+pub mod Resumed

@@ -7,16 +7,18 @@ use mathlib.Core.List.{List}
 use native.Mathlib.Omega.{arith}
 use lib.ListN.{length, getD}
 use Rattle.lists.proofs.Tabulate.{length-tabulate}
+use Rattle.job.specs.declared.Job as held
 use Rattle.job.specs.declared.refusal.Refusal.{Refusal}
 use Rattle.job.specs.declared.refusal.Verdict.{Verdict}
 use Rattle.job.specs.declared.refusal.Verdict.the-variants.{Pass, Refused}
 use Rattle.job.specs.Job.{Job, jobIn}
 use Rattle.job.specs.Refusal.{first}
+use Rattle.job.specs.Resumed.{resumed, resumedValue}
 use Rattle.job.specs.Valid.{jobRows}
 use Rattle.job.proofs.Passed.{passed}
+use Rattle.job.proofs.Resuming.{job-in-resumed}
 use Rattle.jobfile.specs.declared.Reading.{Reading}
 use Rattle.jobfile.specs.Answers.{readFile}
-use Rattle.jobfile.proofs.RoundTrips.{read-job-passes}
 use Rattle.timeline.specs.Step.{Step, stepsIn, planBytes}
 use Rattle.timeline.specs.Timeline.{end}
 use Rattle.timeline.specs.Accepted.{stepRows}
@@ -44,9 +46,9 @@ pub finishes-unread : (file : List ℕ) (frame : Frame) (steps : Steps) (reading
     → reading ≡ readFile file → reading .verdict ≡ Refused why → Finishes file frame steps r
 finishes-unread file frame steps reading why r e h =
     record {
-      found = λ f J have. unread (ap (λ (x : Reading). x .verdict) (e ∙ have .1));
-      same = λ f J have known starts. unread (ap (λ (x : Reading). x .verdict) (e ∙ have .1));
-      dead = λ f J have asked b t l. unread (ap (λ (x : Reading). x .verdict) (e ∙ have .1));
+      found = λ f J have. unread (ap (λ (x : Reading). x .verdict) (e ∙ have .read));
+      same = λ f J have known starts. unread (ap (λ (x : Reading). x .verdict) (e ∙ have .read));
+      dead = λ f J have asked b t l. unread (ap (λ (x : Reading). x .verdict) (e ∙ have .read));
     }
   where
     unread : {A : Type 0} → reading .verdict ≡ Pass → A
@@ -104,23 +106,25 @@ module _ (J : Job) (frame : Frame) (steps s : Steps) (same : Reordered steps s) 
 
 -- the file has a job
 pub finishes-read : (file : List ℕ) (frame : Frame) (steps s : Steps) (reading : Reading) (r : Answer)
-    → reading ≡ readFile file → steps .count ≤ 32 → Reordered steps s → Ordered s (s .count)
-    → Answers (jobIn (reading .job)) (frame .goal) (frame .horizon) s r → Finishes file frame steps r
-finishes-read file frame steps s reading r e few same ordered a =
+    → reading ≡ readFile file → (job : held.Job) → job ≡ resumedValue (reading .job) (frame .start) (frame .stocks)
+    → steps .count ≤ 32 → Reordered steps s → Ordered s (s .count)
+    → Answers (jobIn job) (frame .goal) (frame .horizon) s r → Finishes file frame steps r
+finishes-read file frame steps s reading r e job begun few same ordered a =
     record {
       found = λ f J have.
           let n = same .count in
           answer-found J (frame .goal) (frame .horizon) s (omega arith) r (answers J have) f;
       same = λ f J have known starts.
-          found-steps J frame steps s same ordered (pass J have) known starts r (answers J have) f;
+          found-steps J frame steps s same ordered (have .passes) known starts r (answers J have) f;
       dead = λ f J have asked b t l.
-          dead J frame steps s same ordered (pass J have) asked r (answers J have) f b t l;
+          dead J frame steps s same ordered (have .passes) asked r (answers J have) f b t l;
     }
   where
-    pass : (J : Job) → FileOf J file → first (jobRows J) ≡ Pass
-    pass J have = subst (λ (K : Job). first (jobRows K) ≡ Pass) (have .2) (read-job-passes file (have .0) (have .1))
-
-    answers : (J : Job) → FileOf J file → Answers J (frame .goal) (frame .horizon) s r
+    answers : (J : Job) → FileOf J file (frame .start) (frame .stocks) → Answers J (frame .goal) (frame .horizon) s r
     answers J have =
-        let q : jobIn (reading .job) ≡ J = ap (λ (x : Reading). jobIn (x .job)) (e ∙ have .1) ∙ have .2 in
+        let q : jobIn job ≡ J =
+        ap jobIn begun
+        ∙ job-in-resumed (reading .job) (frame .start) (frame .stocks)
+        ∙ ap (λ (x : Reading). resumed (jobIn (x .job)) (frame .start) (frame .stocks)) (e ∙ have .read)
+        ∙ have .same in
         subst (λ (K : Job). Answers K (frame .goal) (frame .horizon) s r) q a

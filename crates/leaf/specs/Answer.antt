@@ -11,6 +11,9 @@ use Rattle.facts.specs.FactSet.{foreign}
 use Rattle.job.specs.declared.Job as held
 use Rattle.job.specs.declared.refusal.Verdict.the-variants.{Pass}
 use Rattle.job.specs.Job.{Job, jobIn}
+use Rattle.job.specs.Refusal.{first}
+use Rattle.job.specs.Resumed.{resumed}
+use Rattle.job.specs.Valid.{jobRows}
 use Rattle.jobfile.specs.Answers.{readFile}
 use Rattle.timeline.specs.Step.{stepsIn, planBytes}
 use Rattle.timeline.specs.Timeline.{end}
@@ -45,9 +48,12 @@ abbrev pub Answers : Job → ℕ → ℕ → Steps → Answer → Type 0
 Answers J goal T steps r =
     r ≡ answerOf (checkFor J goal (planBytes (inOrder J steps))) T (steps .count) (planOf J steps)
 
--- the file has the job J
-abbrev pub FileOf : Job → List ℕ → Type 0
-FileOf J file = (j : held.Job) × (readFile file ≡ record { verdict = Pass; job = j }) × (jobIn j ≡ J)
+-- J is the job of the file with these facts at its start and these stocks, and passes its tests
+pub record FileOf (J : Job) (file : List ℕ) (start : ℕ) (stocks : List ℕ) : Type 0 where
+  pub value : held.Job
+  pub read : readFile file ≡ record { verdict = Pass; job = value }
+  pub same : resumed (jobIn value) start stocks ≡ J
+  pub passes : first (jobRows J) ≡ Pass
 
 -- the bytes of the answer's plan
 abbrev pub bytesIn : Answer → List ℕ
@@ -69,9 +75,9 @@ pub record Asked (J : Job) (frame : Frame) (steps : Steps) : Type 0 where
 
 -- a plan that is found is accepted and has the chosen steps; where none is, they are a dead end
 pub record Finishes (file : List ℕ) (frame : Frame) (steps : Steps) (r : Answer) : Type 0 where
-  pub found : r .found ≡ true → (J : Job) → FileOf J file → Found J (frame .goal) (frame .horizon) r
-  pub same : r .found ≡ true → (J : Job) → FileOf J file → Known (length (J .actions)) steps
+  pub found : r .found ≡ true → (J : Job) → FileOf J file (frame .start) (frame .stocks) → Found J (frame .goal) (frame .horizon) r
+  pub same : r .found ≡ true → (J : Job) → FileOf J file (frame .start) (frame .stocks) → Known (length (J .actions)) steps
       → ((k : ℕ) → k < steps .count → getD (steps .starts) k 0 < 65536)
       → Permutation (stepsIn J (bytesIn r)) (chosen J steps)
-  pub dead : r .found ≡ false → (J : Job) → FileOf J file → Asked J frame steps → (b t : ℕ) → t ≤ b
+  pub dead : r .found ≡ false → (J : Job) → FileOf J file (frame .start) (frame .stocks) → Asked J frame steps → (b t : ℕ) → t ≤ b
       → Dead J b (frame .goal) (frame .horizon) (Until b t) (chosen J steps)

@@ -9,6 +9,7 @@ ghost use Rattle.leaf.specs.Answer.{noAnswer, Answers, Finishes};
 use checker::Checked;
 use job::Job;
 use job::refusal::Verdict;
+use job::resumed;
 use tables::Frame;
 use tables::Steps;
 use timeline::Plan;
@@ -57,7 +58,8 @@ fn as_plan(job: Job, goal: u64, horizon: u16, steps: Steps) -> Answer
     }
 }
 
-// The chosen steps as a plan of the job in the file, or nothing: then they are a dead end.
+// The chosen steps as a plan of the file's job, begun with the frame's facts and stocks; or nothing, and then they are a
+// dead end.
 pub fn finish(file: &[u8], frame: Frame, steps: Steps) -> Answer
     requires { ⌜ steps .count ≤ 32 ⌝ }
     ensures { λ r. ⌜ Finishes (now (file .entry)) frame steps r ⌝ }
@@ -67,10 +69,7 @@ pub fn finish(file: &[u8], frame: Frame, steps: Steps) -> Answer
     let Verdict::Pass = verdict else {
         return nothing();
     };
-    as_plan(
-        reading.job,
-        frame.goal,
-        frame.horizon,
-        order::in_order(steps),
-    )
+    let stocks = frame.stocks;
+    let job = resumed::resumed(reading.job, frame.start, stocks);
+    as_plan(job, frame.goal, frame.horizon, order::in_order(steps))
 }

@@ -8,9 +8,6 @@ use native.Mathlib.Omega.{arith}
 use lib.ListN.{length, getD}
 use borrow.Author.Tests.{leb-false}
 use Rattle.facts.specs.FactSet.{union, difference}
-use Rattle.facts.proofs.Membership.{has-zero}
-use Rattle.facts.proofs.SetLaws.{difference-of-disjoint, no-common-member}
-use Rattle.timeline.proofs.Tests.{not-both}
 use Rattle.job.specs.Job.{Job}
 use Rattle.timeline.specs.Step.{Step, total}
 use Rattle.timeline.specs.Timeline.{storeCap, usedUp}
@@ -30,8 +27,12 @@ use Rattle.search.specs.States.{Stands, DeadFor}
 use Rattle.search.specs.Missing.{Marked, Fresh, Missing, fits, UsedBefore}
 use Rattle.search.proofs.Chosen.{chosen-splits, since-new}
 
-difference-none : (a : ℕ) → difference a 0 ≡ a
-difference-none a = difference-of-disjoint a 0 (no-common-member a 0 (λ n h k. not-both k (has-zero n)))
+-- what the code computes of the state is what is missing
+pub missing-is : (sets : List ℕ) (frame : Frame) (st : State) (must marks missing : ℕ)
+    → must ≡ union (st .wanted) (st .at .across) → marks ≡ marksOf (markAt sets) 64 must
+    → missing ≡ difference marks (frame .given) → Missing sets frame st missing
+missing-is sets frame st must marks missing u m d =
+    d ∙ ap (λ (set : ℕ). difference set (frame .given)) (m ∙ ap (marksOf (markAt sets) 64) u)
 
 module _ (J : Job) (sets numbers : List ℕ) (frame : Frame) (described : Describes J sets numbers frame)
     (marked : Marked J sets numbers frame) (st : State) (keeps : KeepsKept frame (st .steps))
@@ -64,20 +65,19 @@ module _ (J : Job) (sets numbers : List ℕ) (frame : Frame) (described : Descri
       let l = k .2 in
       rw (k .3) (stands .later (k .0) (k .1) (omega arith))
 
-  -- the landmarks of what must hold
-  missing-of : marksOf (markAt sets) 64 (union (st .wanted) (st .at .across))
-      ≡ difference (marksOf (markAt sets) 64 (mustHold (frame .goal) (frame .horizon) both t)) 0
+  -- the landmarks of what must hold, less what is given
+  missing-of : difference (marksOf (markAt sets) 64 (union (st .wanted) (st .at .across))) (frame .given)
+      ≡ difference (marksOf (markAt sets) 64 (mustHold (frame .goal) (frame .horizon) both t)) (frame .given)
   missing-of =
-      ap (marksOf (markAt sets) 64)
+      ap (λ (set : ℕ). difference (marksOf (markAt sets) 64 set) (frame .given))
       (ap₂ union (stands .wants) (stands .at .across)
       ∙ ap (λ (P : List Step). mustHold (frame .goal) (frame .horizon) P t) same)
-      ∙ sym (difference-none _)
 
   back : DeadFor J frame (Until (frame .first) t) both → DeadFor J frame (Until (frame .first) t) L
   back = subst (DeadFor J frame (Until (frame .first) t)) (sym same)
 
   pub dead-when-store-exceeded : (store missing : ℕ) → store < 4 → store < frame .stores
-      → Missing sets st missing
+      → Missing sets frame st missing
       → fits numbers store missing (getD (st .uses .spent) store 0) (getD (frame .stocks) store 0) ≡ false
       → DeadFor J frame (Until (frame .first) (st .minute)) L
   unfolding storeCap both
@@ -91,21 +91,21 @@ module _ (J : Job) (sets numbers : List ℕ) (frame : Frame) (described : Descri
       (2520 * getD (frame .stocks) store 0) fails in
       back
       (dead-when-store-short J (frame .first) (frame .goal) (frame .horizon) t notBefore (stands .inTime) since
-      (keptOf J frame) later-steps new-steps 0 (marked .hand) 64 (markAt sets) (marked .landmarks)
+      (keptOf J frame) later-steps new-steps (frame .given) (marked .hand) 64 (markAt sets) (marked .landmarks)
       (shareFrom numbers (rowAt store)) store known 2520 (marked .stores store few known)
       (rw (is ∙ missing-of, used, stock) at more))
 
-  pub dead-when-minutes-exceeded : (missing minutes : ℕ) → Missing sets st missing
+  pub dead-when-minutes-exceeded : (missing minutes : ℕ) → Missing sets frame st missing
       → CliqueMinutes sets numbers missing minutes → st .minute - frame .first < minutes
       → DeadFor J frame (Until (frame .first) (st .minute)) L
   unfolding both
   dead-when-minutes-exceeded missing minutes is clique exceeds =
       back
       (dead-when-clique-too-long J (frame .first) (frame .goal) (frame .horizon) t notBefore (stands .inTime) since
-      (keptOf J frame) later-steps new-steps 0 (marked .hand) 64 (markAt sets) (marked .landmarks) (apartAt sets)
+      (keptOf J frame) later-steps new-steps (frame .given) (marked .hand) 64 (markAt sets) (marked .landmarks) (apartAt sets)
       (leastAt numbers) (marked .cliques) (clique .0) minutes (rw (is ∙ missing-of) at (clique .1)) exceeds)
 
-  pub dead-when-pool-exceeded : (pool missing used : ℕ) → pool < 4 → pool < frame .pools → Missing sets st missing
+  pub dead-when-pool-exceeded : (pool missing used : ℕ) → pool < 4 → pool < frame .pools → Missing sets frame st missing
       → UsedBefore numbers (frame .actions) (st .steps) pool (openAt numbers pool + frame .origin) t (st .steps .count)
       used
       → fits numbers (4 + pool) missing used
@@ -122,7 +122,7 @@ module _ (J : Job) (sets numbers : List ℕ) (frame : Frame) (described : Descri
       ∙ ap (λ (P : List Step). total (λ x. getD (x .action .pools) pool 0 * minutesIn from t x) P) same in
       back
       (dead-when-pool-short J (frame .first) (frame .goal) (frame .horizon) t notBefore (stands .inTime) since
-      (keptOf J frame) later-steps new-steps 0 (marked .hand) 64 (markAt sets) (marked .landmarks)
+      (keptOf J frame) later-steps new-steps (frame .given) (marked .hand) 64 (markAt sets) (marked .landmarks)
       (shareFrom numbers (rowAt (4 + pool))) pool known 2520 from (marked .pools pool few known)
       (marked .opens pool few known)
       (rw (is ∙ missing-of, uses, described .available pool inside) at more))

@@ -26,11 +26,13 @@ until frame T =
       stores = frame .stores;
       available = frame .available;
       stocks = frame .stocks;
+      start = frame .start;
       goal = frame .goal;
       first = frame .first;
       horizon = T;
       kept = frame .kept;
       origin = frame .origin;
+      given = frame .given;
     }
 
 -- all that is lent is safe to read, and the kept steps are known

@@ -6,7 +6,7 @@ use mathlib.Core.Bool.{Bool, false}
 use mathlib.Core.List.{List}
 use lib.Dec.{leb}
 use lib.ListN.{length, getD}
-use Rattle.facts.specs.FactSet.{union}
+use Rattle.facts.specs.FactSet.{union, difference}
 use Rattle.job.specs.Job.{Job}
 use Rattle.regression.specs.DeadEnd.{Until}
 use Rattle.timeline.specs.Step.{total}
@@ -24,7 +24,7 @@ use Rattle.search.specs.States.{Stands, DeadFor}
 -- the tables have landmarks, shares, openings and cliques of the job, for plans with the kept steps
 pub record Marked (J : Job) (sets numbers : List ℕ) (frame : Frame) : Type 0 where
   pub hand : ℕ
-  pub landmarks : AddedByNew J (frame .first) (keptOf J frame) 0 hand 64 (markAt sets)
+  pub landmarks : AddedByNew J (frame .first) (keptOf J frame) (frame .given) hand 64 (markAt sets)
   pub stores : (store : ℕ) → store < 4 → store < length (J .stores)
       → Shares J hand (shareFrom numbers (rowAt store)) 64 (λ a. 2520 * getD (a .stores) store 0)
   pub pools : (pool : ℕ) → pool < 4 → pool < length (J .pools)
@@ -38,9 +38,10 @@ pub record Marked (J : Job) (sets numbers : List ℕ) (frame : Frame) : Type 0 w
 abbrev pub Fresh : State → Type 0
 Fresh st = st .since ≡ st .steps .count
 
--- the landmarks of what must hold at the state's minute
-abbrev pub Missing : List ℕ → State → ℕ → Type 0
-Missing sets st missing = missing ≡ marksOf (markAt sets) 64 (union (st .wanted) (st .at .across))
+-- the landmarks of what must hold at the state's minute, less what kept steps may have given
+abbrev pub Missing : List ℕ → Frame → State → ℕ → Type 0
+Missing sets frame st missing =
+    missing ≡ difference (marksOf (markAt sets) 64 (union (st .wanted) (st .at .across))) (frame .given)
 
 -- a fresh state of which the test is false is a dead end
 abbrev pub DeadUnlessSuffices : List ℕ → List ℕ → Frame → State → Bool → Type 0

@@ -30,7 +30,7 @@ CountsFor J frame bytes = Counts J (frame .first) (inOrder J (frame .kept)) byte
 
 -- everything that is lent is of this job, and no accepted plan that counts ends before the first free minute
 pub record TaskOf (J : Job) (file sets numbers times : List ℕ) (frame : Frame) : Type 0 where
-  pub inFile : FileOf J file
+  pub inFile : FileOf J file (frame .start) (frame .stocks)
   pub described : Describes J sets numbers frame
   pub timely : TimesBound J (frame .first) (keptOf J frame) (frame .origin) times
   pub goal : foreign (J .facts) (frame .goal) ≡ false
@@ -63,7 +63,7 @@ pub record FoundFor (J : Job) (frame : Frame) (r : Answer) : Type 0 where
 
 -- for every job in the file that has the frame's number of actions
 abbrev pub FoundIn : List ℕ → Frame → Answer → Type 0
-FoundIn file frame r = (J : Job) → FileOf J file → length (J .actions) ≡ frame .actions → FoundFor J frame r
+FoundIn file frame r = (J : Job) → FileOf J file (frame .start) (frame .stocks) → length (J .actions) ≡ frame .actions → FoundFor J frame r
 
 -- the answer of a search: a plan found is accepted and has the kept steps; none found makes a dead end
 pub record Answered (file : List ℕ) (frame : Frame) (Dead : Type 0) (r : Answer) : Type 0 where

@@ -27,7 +27,7 @@ fn fits(numbers: &[u32], row: usize, missing: u64, used: u64, most: u64) -> bool
 fn stores_suffice(numbers: &[u32], frame: Frame, st: State, missing: u64) -> bool
     requires { ⌜ (length (now numbers) ≡ 1156) × (frame .stores ≤ 4) × Sums 32 (st .uses .spent) × Fresh st
         × (frame .first ≤ st .minute) ⌝ }
-    ensures { λ r. ⌜ ((sets : List ℕ) → Missing sets st missing
+    ensures { λ r. ⌜ ((sets : List ℕ) → Missing sets frame st missing
         → DeadUnlessSuffices sets (now (numbers .entry)) frame st r) ⌝ }
 {
     let spent = st.uses.spent;
@@ -47,7 +47,7 @@ fn stores_suffice(numbers: &[u32], frame: Frame, st: State, missing: u64) -> boo
 fn pools_suffice(numbers: &[u32], frame: Frame, st: State, missing: u64) -> bool
     requires { ⌜ Numbers (now numbers) (frame .actions) × Known (frame .actions) (st .steps) × (frame .pools ≤ 4)
         × Fresh st × (frame .first ≤ st .minute) ⌝ }
-    ensures { λ r. ⌜ ((sets : List ℕ) → Missing sets st missing
+    ensures { λ r. ⌜ ((sets : List ℕ) → Missing sets frame st missing
         → DeadUnlessSuffices sets (now (numbers .entry)) frame st r) ⌝ }
 {
     let steps = st.steps;
@@ -69,7 +69,7 @@ fn pools_suffice(numbers: &[u32], frame: Frame, st: State, missing: u64) -> bool
 // Whether there are minutes enough for what is missing and can only be added one after the other.
 fn minutes_suffice(sets: &[u64], numbers: &[u32], frame: Frame, st: State, missing: u64) -> bool
     requires { ⌜ (length (now sets) ≡ 384) × (length (now numbers) ≡ 1156) × (frame .first ≤ st .minute) × Fresh st ⌝ }
-    ensures { λ r. ⌜ (Missing (now (sets .entry)) st missing
+    ensures { λ r. ⌜ (Missing (now (sets .entry)) frame st missing
         → DeadUnlessSuffices (now (sets .entry)) (now (numbers .entry)) frame st r) ⌝ }
 {
     let minutes = cliques::minutes(sets, numbers, missing);
@@ -82,7 +82,7 @@ pub fn suffices(sets: &[u64], numbers: &[u32], frame: Frame, st: State) -> bool
     ensures { λ r. ⌜ DeadUnlessSuffices (now (sets .entry)) (now (numbers .entry)) frame st r ⌝ }
 {
     let must = facts::union(st.wanted, st.at.across);
-    let missing = marks::of_set(sets, must);
+    let missing = facts::difference(marks::of_set(sets, must), frame.given);
     if !stores_suffice(numbers, frame, st, missing) {
         return false;
     }

@@ -1,6 +1,6 @@
 -- The filled tables of a job that passes tests 3 to 11, and its frame, describe it.
 -- Assumes nothing.
-use Prim.Native.Nat.{ℕ, _≤_, _<_}
+use Prim.Native.Nat.{ℕ, _<_}
 use mathlib.Core.Path.{_≡_, refl, sym, ap}
 use mathlib.Core.List.{List}
 use native.Mathlib.Omega.{arith}
@@ -12,9 +12,8 @@ use Rattle.job.specs.Job.{Action, jobIn, actionAt, beyond}
 use Rattle.job.specs.Refusal.{first}
 use Rattle.job.specs.Valid.{jobRows}
 use Rattle.job.proofs.Passed.{PassedAction, passed}
-use Rattle.job.proofs.Rows.{fits-of-pass}
 use Rattle.timeline.specs.Step.{noAction}
-use Rattle.tables.specs.Tables.{Describes, DescribesAction, Sized}
+use Rattle.tables.specs.Tables.{Describes, DescribesAction}
 use Rattle.tables.specs.declared.Steps.{Steps}
 use Rattle.tables.specs.Filled.{Filled, frameOf}
 use Rattle.tables.proofs.FillLaws.{action-of-value}
@@ -50,32 +49,16 @@ module _ (job : held.Job) (sets numbers : List ℕ) (filled : Filled job sets nu
           stores = n .stores;
         }
 
-    module _ (goal from horizon : ℕ) (kept : Steps) (origin : ℕ) (inTime : horizon ≤ job .deadline) where
-      pub describes : Describes (jobIn job) sets numbers (frameOf job goal from horizon kept origin)
-      describes =
-          record {
-            facts = refl;
-            actions = length-tabulate (job .counts .actions) (actionAt job);
-            pools = length-tabulate (job .counts .pools) (λ k. getD (job .pools) k 0);
-            stores = length-tabulate (job .counts .stores) (λ k. getD (job .stores) k 0);
-            available = λ k l. sym (getD-tabulate (job .counts .pools) (λ m. getD (job .pools) m 0) k 0 l);
-            stocks = λ k l. sym (getD-tabulate (job .counts .stores) (λ m. getD (job .stores) m 0) k 0 l);
-            inTime = inTime;
-            each = describes-action;
-          }
-
-      pub sized : from ≤ 1440 → Sized sets numbers (frameOf job goal from horizon kept origin)
-      sized early =
-          let within = passed (jobIn job) passes in
-          let counts = fits-of-pass job passes in
-          let deadline : job .deadline ≤ 1440 = within .deadline in
-          record {
-            setCount = filled .setCount;
-            numberCount = filled .numberCount;
-            facts = within .facts;
-            actions = counts .2;
-            pools = counts .0;
-            stores = counts .1;
-            horizon = omega arith;
-            first = early;
-          }
+    pub describes : (goal from : ℕ) (kept : Steps) (given : ℕ)
+        → Describes (jobIn job) sets numbers (frameOf job goal from kept given)
+    describes goal from kept given =
+        record {
+          facts = refl;
+          actions = length-tabulate (job .counts .actions) (actionAt job);
+          pools = length-tabulate (job .counts .pools) (λ k. getD (job .pools) k 0);
+          stores = length-tabulate (job .counts .stores) (λ k. getD (job .stores) k 0);
+          available = λ k l. sym (getD-tabulate (job .counts .pools) (λ m. getD (job .pools) m 0) k 0 l);
+          stocks = λ k l. sym (getD-tabulate (job .counts .stores) (λ m. getD (job .stores) m 0) k 0 l);
+          inTime = omega arith;
+          each = describes-action;
+        }

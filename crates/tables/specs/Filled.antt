@@ -43,9 +43,9 @@ pub record Filled (job : held.Job) (sets numbers : List ℕ) : Type 0 where
   pub eachSets : EachFilled SetsFilled job sets
   pub eachNumbers : EachFilled NumbersFilled job numbers
 
--- what of the job value is no table
-abbrev pub frameOf : held.Job → ℕ → ℕ → ℕ → Steps → ℕ → Frame
-frameOf job goal first horizon kept origin =
+-- what of the job value is no table, for a search up to the deadline with tables of the whole day
+abbrev pub frameOf : held.Job → ℕ → ℕ → Steps → ℕ → Frame
+frameOf job goal first kept given =
     record {
       facts = job .facts;
       actions = job .counts .actions;
@@ -53,11 +53,13 @@ frameOf job goal first horizon kept origin =
       stores = job .counts .stores;
       available = job .pools;
       stocks = job .stores;
+      start = job .start;
       goal = goal;
       first = first;
-      horizon = horizon;
+      horizon = job .deadline;
       kept = kept;
-      origin = origin;
+      origin = 0;
+      given = given;
     }
 
 -- ---- what inner functions promise

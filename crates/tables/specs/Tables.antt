@@ -80,17 +80,6 @@ pub record Lent (sets numbers : List ℕ) (actions : ℕ) : Type 0 where
   pub setCount : length sets ≡ 384
   pub amounts : Numbers numbers actions
 
--- the tables are long enough, and the frame within the limits
-pub record Sized (sets numbers : List ℕ) (frame : Frame) : Type 0 where
-  pub setCount : length sets ≡ 384
-  pub numberCount : length numbers ≡ 1156
-  pub facts : frame .facts ≤ 64
-  pub actions : frame .actions ≤ 64
-  pub pools : frame .pools ≤ 4
-  pub stores : frame .stores ≤ 4
-  pub horizon : frame .horizon ≤ 1440
-  pub first : frame .first ≤ 1440
-
 -- ---- the chosen steps
 
 -- the first n of them as steps of the job, the last chosen first

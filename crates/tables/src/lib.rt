@@ -8,8 +8,9 @@ ghost use Rattle.tables.specs.Filled.{frameOf};
 use job::Job;
 use timeline::Plan;
 
-// What of the job is no table. The search is for the goal, from the first free minute up to the horizon, with the kept
-// steps, which start before it; the table of times counts from its origin.
+// What of the job is no table, and what is asked of it. The search is for the goal, from the first free minute up to the
+// horizon, with the kept steps, which start before it. The table of times counts from its origin; `given` are facts that
+// kept steps may have added, which no step has to add on the way to another fact.
 pub struct Frame {
     pub facts: u8,
     pub actions: usize,
@@ -17,11 +18,13 @@ pub struct Frame {
     pub stores: usize,
     pub available: [u32; Job::POOLS],
     pub stocks: [u32; Job::STORES],
+    pub start: u64,
     pub goal: u64,
     pub first: u16,
     pub horizon: u16,
     pub kept: Steps,
     pub origin: u16,
+    pub given: u64,
 }
 
 impl Frame {
@@ -31,9 +34,9 @@ impl Frame {
 
     pub const NUMBERS: usize = 1156;
 
-    // The frame of a job.
-    pub fn of(job: Job, goal: u64, first: u16, horizon: u16, kept: Steps, origin: u16) -> Frame
-        ensures { λ r. ⌜ r ≡ frameOf job goal first horizon kept origin ⌝ }
+    // The frame of a job up to its deadline, for tables of the whole day.
+    pub fn of(job: Job, goal: u64, first: u16, kept: Steps, given: u64) -> Frame
+        ensures { λ r. ⌜ r ≡ frameOf job goal first kept given ⌝ }
     {
         let counts = job.counts;
         let available = job.pools;
@@ -45,11 +48,13 @@ impl Frame {
             stores: counts.stores,
             available: available,
             stocks: stocks,
+            start: job.start,
             goal: goal,
             first: first,
-            horizon: horizon,
+            horizon: job.deadline,
             kept: kept,
-            origin: origin,
+            origin: 0,
+            given: given,
         }
     }
 }

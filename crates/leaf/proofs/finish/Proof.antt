@@ -23,6 +23,9 @@ returns c =
     let c-read = c .before .before .before .read in
     finishes-unread _ (c-args .frame) (c-args .steps) _ _ _ (c-read .ensures) (c .before .enum-told2 .given .1)
 
+resumed-requires : tie.Need-resumed-requires
+resumed-requires c κs = search needs
+
 in-order-requires : tie.Need-in-order-requires
 in-order-requires c κs = search needs
 
@@ -31,12 +34,12 @@ as-plan-requires c κs = search needs
 
 returns-2 : tie.Need-returns-2
 returns-2 c =
-    let c-args = c .before .before .before .before .before .before .args in
-    let c-pre = c .before .before .before .before .before .before .pre in
-    let c-read = c .before .before .before .before .read in
+    let c-args = c .before .before .before .before .before .before .before .before .args in
+    let c-pre = c .before .before .before .before .before .before .before .before .pre in
+    let c-read = c .before .before .before .before .before .before .read in
     let c-in-order = c .before .in-order in
-    finishes-read _ (c-args .frame) (c-args .steps) _ _ _ (c-read .ensures) (c-pre) (c-in-order .ensures .0)
-    (c-in-order .ensures .1) (c .as-plan .ensures)
+    finishes-read _ (c-args .frame) (c-args .steps) _ _ _ (c-read .ensures) _ (c .before .before .resumed .ensures) (c-pre)
+    (c-in-order .ensures .0) (c-in-order .ensures .1) (c .as-plan .ensures)
 
 pub finish-spec : {M : Type 1} → statement M
 finish-spec =
@@ -47,6 +50,7 @@ finish-spec =
     enum-told-2
     nothing-requires
     returns
+    resumed-requires
     in-order-requires
     as-plan-requires
     returns-2)

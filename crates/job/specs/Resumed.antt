@@ -1,0 +1,35 @@
+-- The job of what is left of a day: the facts that hold then at its start, and what the stores have left.
+-- Assumes nothing.
+use Prim.Native.Nat.{ℕ}
+use mathlib.Core.List.{List}
+use lib.ListN.{length}
+use Rattle.lists.specs.Lists.{firsts}
+use Rattle.job.specs.declared.Job as held
+use Rattle.job.specs.Job.{Job}
+
+-- the job with other facts at its start and other availabilities of its stores
+abbrev pub resumed : Job → ℕ → List ℕ → Job
+resumed J start stores =
+    record {
+      facts = J .facts;
+      deadline = J .deadline;
+      start = start;
+      goal = J .goal;
+      pools = J .pools;
+      stores = firsts (length (J .stores)) 0 stores;
+      actions = J .actions;
+    }
+
+-- the same of a value
+abbrev pub resumedValue : held.Job → ℕ → List ℕ → held.Job
+resumedValue job start stores =
+    record {
+      facts = job .facts;
+      deadline = job .deadline;
+      start = start;
+      goal = job .goal;
+      counts = job .counts;
+      pools = job .pools;
+      stores = stores;
+      actions = job .actions;
+    }
