@@ -1,5 +1,3 @@
 mod Copying
-mod FileLaws
-mod TaskLaws
 mod Solving
 pub mod Shortest

@@ -1,4 +1,4 @@
--- From the answer of the search to the makespan, and from there to what the planner promises.
+-- From the answer of the search to what the planner promises: the ways out of the planner.
 -- Assumes nothing.
 use Prim.Native.Nat.{ℕ, _≤_, _<_}
 use mathlib.Core.Path.{_≡_, refl, sym, _∙_, subst}
@@ -14,57 +14,15 @@ use Rattle.job.specs.declared.refusal.Verdict.the-variants.{Pass, Refused}
 use Rattle.job.specs.Job.{Job}
 use Rattle.job.specs.Refusal.{first}
 use Rattle.job.specs.Valid.{jobRows}
-use Rattle.job.proofs.Passed.{Passed}
 use Rattle.job.proofs.Table.{first-here, first-next, first-append-pass, first-append-refused, first-none}
-use Rattle.timeline.specs.Step.{stepsIn}
-use Rattle.timeline.specs.Timeline.{end}
-use Rattle.timeline.specs.Accepted.{Accepted}
-use Rattle.makespan.specs.Makespan.{Makespan, endsAt, noPlan, LeastEnd, makespan}
-use Rattle.makespan.proofs.LeastEnds.{ends-by-deadline, makespan-of-least-end, makespan-when-none-accepted}
-use Rattle.makespan.proofs.LeastEnds.{every-plan-counts, nothing-begun}
+use Rattle.makespan.specs.Makespan.{Makespan, endsAt, noPlan, makespan}
 use Rattle.leaf.specs.declared.Answer.{Answer}
-use Rattle.leaf.specs.Answer.{bytesIn, Found}
+use Rattle.leaf.specs.Answer.{bytesIn}
+use Rattle.solver.specs.Task.{Solved}
 use Rattle.planner.specs.declared.Planned.{Planned}
 use Rattle.planner.specs.declared.Planned.the-variants as planned
-use Rattle.planner.specs.Plan.{planRefusals, PlansFor, PlansBy, Plans, Solved}
+use Rattle.planner.specs.Plan.{planRefusals, PlansFor, PlansBy, Plans}
 
--- ---- the answer of the search
-module _ (J : Job) (r : Answer) where
-  -- the plan ends no later than any accepted plan that ends by T
-  abbrev pub FoundBy : ℕ → ℕ → Type 0
-  FoundBy goal T =
-      r .found ≡ true
-      → Found J goal T r
-      × ((bytes : List ℕ) → Accepted J goal bytes → end (stepsIn J bytes) ≤ T → r .end ≤ end (stepsIn J bytes))
-
-  -- no accepted plan ends by T
-  abbrev pub NoneBy : ℕ → ℕ → Type 0
-  NoneBy goal T = r .found ≡ false → (bytes : List ℕ) → Accepted J goal bytes → end (stepsIn J bytes) ≤ T → ⊥
-
-  solved-by-deadline : Passed J → FoundBy (J .goal) (J .deadline) → NoneBy (J .goal) (J .deadline) → Solved J r
-  solved-by-deadline within found none =
-      record {
-        found = λ e.
-            let f = found e .0 in
-            let least : LeastEnd J (J .goal) 0 [] (r .end) =
-            record {
-              plan = (bytesIn r, f .accepted, every-plan-counts J (bytesIn r), f .end);
-              least = λ bytes a counts. found e .1 bytes a (ends-by-deadline J (J .goal) bytes a);
-            } in
-            (f, makespan-of-least-end J (J .goal) 0 [] within (nothing-begun J) (r .end) least);
-        none = λ e.
-            makespan-when-none-accepted J (J .goal) 0 [] within (nothing-begun J)
-            (λ bytes a counts. none e bytes a (ends-by-deadline J (J .goal) bytes a));
-      }
-
-  -- the search was for the job's goal, up to its deadline
-  pub solved : Passed J → (goal T : ℕ) → goal ≡ J .goal → T ≡ J .deadline → FoundBy goal T → NoneBy goal T → Solved J r
-  solved within goal T g t found none =
-      solved-by-deadline within
-      (subst (λ (T : ℕ). FoundBy (J .goal) T) t (subst (λ (x : ℕ). FoundBy x T) g found))
-      (subst (λ (T : ℕ). NoneBy (J .goal) T) t (subst (λ (x : ℕ). NoneBy x T) g none))
-
--- ---- the ways out of the planner
 module _ (J : Job) (slice : List ℕ) where
   by-verdict : (v : Verdict) (answer : Planned) (after : List ℕ) → first (planRefusals J slice) ≡ v
       → PlansBy v J slice answer after → Plans J slice answer after
@@ -91,7 +49,7 @@ module _ (J : Job) (slice : List ℕ) where
       (first-append-pass (jobRows J) _ passes ∙ first-here PlanSlice _ [] (lt-ltb (length slice) 96 short))
       (refl, refl)
 
-  module _ (passes : first (jobRows J) ≡ Pass) (room : 96 ≤ length slice) (r : Answer) (answered : Solved J r) where
+  module _ (passes : first (jobRows J) ≡ Pass) (room : 96 ≤ length slice) (r : Answer) (answered : Solved J (J .goal) 0 [] r) where
     -- no plan
     pub plans-none : r .found ≡ false → Plans J slice (planned.Refused NoPlan) slice
     plans-none e = by-makespan noPlan _ slice passes room (answered .none e) (refl, refl)
@@ -101,7 +59,7 @@ module _ (J : Job) (slice : List ℕ) where
         → Plans J slice (planned.Ends (r .end) (r .count)) after
     plans-found e after copied =
         let found = answered .found e in
-        by-makespan (endsAt (r .end)) _ after passes room (found .1)
+        by-makespan (endsAt (r .end)) _ after passes room (found .2)
         (record {
           bytes = bytesIn r;
           steps = r .count;

@@ -2,7 +2,6 @@
 -- Assumes nothing.
 use Prim.Native.Nat.{ℕ, _*_}
 use mathlib.Core.Path.{_≡_}
-use mathlib.Core.Bool.{true, false}
 use mathlib.Core.List.{List, [], _∷_, _++_}
 use lib.Dec.{ltb}
 use lib.ListN.{length}
@@ -18,8 +17,6 @@ use Rattle.timeline.specs.Step.{stepsIn}
 use Rattle.timeline.specs.Timeline.{end}
 use Rattle.timeline.specs.Accepted.{Accepted}
 use Rattle.makespan.specs.Makespan.{Makespan, endsAt, noPlan, makespan}
-use Rattle.leaf.specs.declared.Answer.{Answer}
-use Rattle.leaf.specs.Answer.{Found}
 use Rattle.planner.specs.declared.Planned.{Planned}
 use Rattle.planner.specs.declared.Planned.the-variants as planned
 
@@ -55,10 +52,3 @@ PlansBy (Refused why) J slice answer after = RefusedWith why slice answer after
 -- the answer to a job and a slice, and every byte that the slice then holds
 abbrev pub Plans : Job → List ℕ → Planned → List ℕ → Type 0
 Plans J slice answer after = PlansBy (first (planRefusals J slice)) J slice answer after
-
--- ---- what inner functions promise
-
--- the answer of the search for the job's goal up to its deadline: a plan with the least end, or there is none
-pub record Solved (J : Job) (r : Answer) : Type 0 where
-  pub found : r .found ≡ true → Found J (J .goal) (J .deadline) r × (makespan J (J .goal) ≡ endsAt (r .end))
-  pub none : r .found ≡ false → makespan J (J .goal) ≡ noPlan

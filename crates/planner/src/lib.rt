@@ -5,23 +5,14 @@ ghost use Prim.Native.Nat.{_*_, _≤_};
 ghost use lib.ListN.{length};
 ghost use Rattle.encoding.specs.Bytes.{overwrite};
 ghost use Rattle.job.specs.Job.{jobIn};
-ghost use Rattle.job.specs.Refusal.{first};
-ghost use Rattle.job.specs.Valid.{jobRows};
-ghost use Rattle.job.specs.declared.refusal.Verdict.the-variants.{Pass};
 ghost use Rattle.leaf.specs.Answer.{bytesIn};
-ghost use Rattle.planner.specs.Plan.{Solved, Plans};
-use earliest::set_time;
+ghost use Rattle.planner.specs.Plan.{Plans};
 use job::Job;
 use job::refusal::Refusal;
 use job::refusal::Verdict;
 use job::validate::validate;
-use jobfile::Layout;
-use jobfile::Written;
 use leaf::Answer;
-use pairs::Pair;
-use search::horizons;
-use tables::Frame;
-use tables::Steps;
+use solver::Task;
 use timeline::Plan;
 
 // What the planner answers: the plan's end and its number of steps, or why there is none.
@@ -43,26 +34,6 @@ fn copy_plan(out: &mut [u8], answer: Answer)
     }
 }
 
-// A shortest plan for the job's goal, from the tables with landmarks, the earliest times and the file of the job.
-fn solve(job: Job) -> Answer
-    requires { ⌜ first (jobRows (jobIn job)) ≡ Pass ⌝ }
-    ensures { λ r. ⌜ Solved (jobIn job) r ⌝ }
-{
-    let mut sets = [0u64; Frame::SETS];
-    let mut numbers = [0u32; Frame::NUMBERS];
-    tables::fill::fill(&mut sets, &mut numbers, job);
-    let mut times = [set_time::NONE; Pair::COUNT];
-    earliest::sweep::fill(&mut times, job);
-    let frame = Frame::of(job, job.goal, 0, job.deadline, Steps::none(), 0);
-    landmarks::fill(&mut sets, &mut numbers, &times, frame, job.start);
-    let mut file = [0u8; Layout::FILE];
-    let written = writer::write(job, &mut file);
-    let Written::Length(length) = written else {
-        return leaf::nothing();
-    };
-    horizons::shortest(&sets, &numbers, &times, &file[..length], frame)
-}
-
 // Writes a shortest plan to the front of the slice, and returns its end and its number of steps. A refusal changes no
 // byte.
 pub fn plan(job: Job, out: &mut [u8]) -> Planned
@@ -75,7 +46,7 @@ pub fn plan(job: Job, out: &mut [u8]) -> Planned
     if out.len() < Plan::BYTES {
         return Planned::Refused(Refusal::PlanSlice);
     }
-    let answer = solve(job);
+    let answer = solver::solve(job, Task::whole_day(job));
     let found = answer.found;
     if !found {
         return Planned::Refused(Refusal::NoPlan);

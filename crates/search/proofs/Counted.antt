@@ -2,18 +2,24 @@
 -- Assumes nothing.
 use Prim.Native.Nat.{ℕ, _≤_, _<_}
 use mathlib.Core.Bool.{true}
-use mathlib.Core.Path.{_≡_, sym, ap, subst, _∙_}
+use mathlib.Core.Path.{_≡_, refl, sym, ap, subst, _∙_}
+use mathlib.Core.Logic.{⊎-elim}
 use mathlib.Core.List.{List, [], _∷_, _++_}
+use native.Mathlib.Omega.{arith}
 use lib.ListN.{length, getD}
+use Rattle.lists.proofs.Bools.{and-left, and-right}
 use Rattle.job.specs.Job.{Job}
-use Rattle.timeline.specs.Step.{Step, stepsIn}
+use Rattle.timeline.specs.Step.{Step, stepsIn, before, strictlyRising}
 use Rattle.timeline.specs.Accepted.{Accepted}
-use Rattle.timeline.proofs.Places.{Place, here, there, EachStep}
+use Rattle.timeline.proofs.Tests.{and-both}
+use Rattle.timeline.proofs.Places.{Place, here, there, EachStep, append-cases, place-append, place-after}
 use Rattle.timeline.proofs.AcceptedSteps.{accepted-steps}
 use Rattle.timeline.proofs.JobSteps.{OfJob, steps-of-accepted}
 use Rattle.timeline.proofs.Permutations.{Permutation, empty, next-step, permutation-sym, permutation-trans}
-use Rattle.timeline.proofs.Permutations.{permutation-append, permutation-each, permutation-keeps}
+use Rattle.timeline.proofs.Permutations.{permutation-append, permutation-each, permutation-keeps, permutation-member}
+use Rattle.timeline.proofs.Rising.{rising-same-members}
 use Rattle.times.proofs.PlanSteps.{PlanOf}
+use Rattle.makespan.specs.Makespan.{begun}
 use Rattle.makespan.proofs.Search.{rising-begun, begun-are-begun}
 use Rattle.tables.specs.Tables.{Known, keptOf, KeepsKept}
 use Rattle.tables.specs.declared.Steps.{Steps}
@@ -84,3 +90,38 @@ found-when-finished J file frame steps r keeps known starts finishes e have coun
           (finishes .same e J have (rw count known) starts);
       after = since-new J frame steps keeps (split .0) (split .2);
     }
+
+-- ---- a plan that is found counts
+rising-front : (P N : List Step) → strictlyRising (P ++ N) ≡ true → strictlyRising P ≡ true
+rising-front [] N h = refl
+rising-front (x ∷ []) N h = refl
+rising-front (x ∷ y ∷ P) N h =
+    and-both (and-left (before x y) (strictlyRising (y ∷ (P ++ N))) h)
+    (rising-front (y ∷ P) N (and-right (before x y) (strictlyRising (y ∷ (P ++ N))) h))
+
+-- its begun steps are the kept ones, and both stand in rising order
+pub found-counts : (J : Job) (frame : Frame) (r : Answer) → FoundFor J frame r
+    → EachStep (λ x. x .start < frame .first) (keptOf J frame) → strictlyRising (inOrder J (frame .kept)) ≡ true
+    → CountsFor J frame (bytesIn r)
+found-counts J frame r found early rising =
+    let P : List Step = stepsIn J (bytesIn r) in
+    let begunSteps : List Step = begun (frame .first) P in
+    let order = accepted-steps J (frame .goal) P
+    (steps-of-accepted J (frame .goal) (bytesIn r) (found .plan .accepted)) .rising in
+    let split = rising-begun (frame .first) P order in
+    let kept = in-order-permutes J (frame .kept) in
+    rising-same-members begunSteps (inOrder J (frame .kept)) (rising-front begunSteps (split .0) (rw (split .1) at order))
+    rising
+    (λ x Q i.
+    let inPlan = place-append (split .0) i in
+    let m = permutation-member (found .same) (subst (Place x (Q ++ split .0)) (sym (split .1)) inPlan) in
+    let soon = begun-are-begun (frame .first) P x Q i in
+    ⊎-elim (λ n. let late = found .after x (n .0) (n .1) in absurd (omega arith))
+    (λ k. permutation-member (permutation-sym kept) (k .1))
+    (append-cases (found .new) (keptOf J frame) (m .1)))
+    (λ x Q i.
+    let k = permutation-member kept i in
+    let m = permutation-member (permutation-sym (found .same)) (place-after (found .new) (k .1)) in
+    let soon = early x (k .0) (k .1) in
+    ⊎-elim (λ b. b) (λ n. let late = split .2 x (n .0) (n .1) in absurd (omega arith))
+    (append-cases begunSteps (split .0) (subst (Place x (m .0)) (split .1) (m .1))))

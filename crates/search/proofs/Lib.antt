@@ -9,6 +9,6 @@ mod CarriedLaws
 mod CandidateLaws
 mod Completeness
 mod Steps
-mod Counted
+pub mod Counted
 mod HorizonLaws
-mod Bounds
+mod HorizonBounds

@@ -70,6 +70,12 @@ pub record Shortest (file sets numbers times : List ℕ) (frame : Frame) (r : An
 
 -- ---- from horizon to horizon
 
+-- a plan that no other ends before, or none by the horizon, if no plan ends before the minute `from`
+pub record ShortestFrom (file sets numbers times : List ℕ) (frame : Frame) (from : ℕ) (r : Answer) : Type 0 where
+  pub found : r .found ≡ true → (J : Job) → TaskOf J file sets numbers times frame → Passed J
+      → NoneBefore J frame from → FoundFor J frame r × NoneBefore J frame (r .end)
+  pub none : r .found ≡ false → (J : Job) → TaskOf J file sets numbers times frame → Passed J → NoneBy J frame
+
 -- no plan ends before the lower bound, if none ended before the one at the beginning
 abbrev pub Raised : List ℕ → List ℕ → List ℕ → List ℕ → Frame → ℕ → ℕ → Type 0
 Raised file sets numbers times frame from low =

@@ -28,15 +28,13 @@ use Rattle.search.specs.States.{Stands, Safe, DeadFor}
 abbrev pub CountsFor : Job → Frame → List ℕ → Type 0
 CountsFor J frame bytes = Counts J (frame .first) (inOrder J (frame .kept)) bytes
 
--- everything that is lent is of this job, and no accepted plan that counts ends before the first free minute
+-- everything that is lent is of this job
 pub record TaskOf (J : Job) (file sets numbers times : List ℕ) (frame : Frame) : Type 0 where
   pub inFile : FileOf J file (frame .start) (frame .stocks)
   pub described : Describes J sets numbers frame
   pub timely : TimesBound J (frame .first) (keptOf J frame) (frame .origin) times
   pub goal : foreign (J .facts) (frame .goal) ≡ false
   pub marked : Marked J sets numbers frame
-  pub late : (bytes : List ℕ) → Accepted J (frame .goal) bytes → CountsFor J frame bytes
-      → frame .first ≤ end (stepsIn J bytes)
 
 -- all that is lent is safe to read, and the state is not before the first minute
 pub record Ready (sets numbers times : List ℕ) (frame : Frame) (st : State) : Type 0 where

@@ -1,13 +1,14 @@
 // The least horizon with a plan.
 ghost use mathlib.Core.Path.{_≡_};
 ghost use mathlib.Core.Bool.{true};
-ghost use Prim.Native.Nat.{_≤_, _<_};
-ghost use Rattle.search.specs.Horizons.{until, Whole, Solves, Rises, Narrows, Descends, Shortest};
+ghost use Prim.Native.Nat.{_≤_, _<_, min};
+ghost use Rattle.search.specs.Horizons.{until, Whole, Solves, Rises, Narrows, Descends};
+ghost use Rattle.search.specs.Horizons.{ShortestFrom, Shortest};
 use crate::amounts;
+use crate::bounds;
 use crate::minute;
 use crate::regress;
 use crate::state::State;
-use earliest::set_time;
 use leaf::Answer;
 use tables::Frame;
 
@@ -164,21 +165,20 @@ fn descend(
     plan
 }
 
-// The shortest plan by the frame's horizon.
-pub fn shortest(sets: &[u64], numbers: &[u32], times: &[u32], file: &[u8], frame: Frame) -> Answer
-    requires { ⌜ Whole (now sets) (now numbers) (now times) frame ⌝ }
-    ensures { λ r. ⌜ Shortest (now (file .entry)) (now (sets .entry)) (now (numbers .entry)) (now (times .entry))
-        frame r ⌝ }
+// The shortest plan by the frame's horizon, from a minute before which none ends.
+fn shortest_from(
+    sets: &[u64],
+    numbers: &[u32],
+    times: &[u32],
+    file: &[u8],
+    frame: Frame,
+    low: u16,
+) -> Answer
+    requires { ⌜ Whole (now sets) (now numbers) (now times) frame × (low ≤ frame .horizon) ⌝ }
+    ensures { λ r. ⌜ ShortestFrom (now (file .entry)) (now (sets .entry)) (now (numbers .entry)) (now (times .entry))
+        frame low r ⌝ }
 {
-    let time = set_time::set_time(times, frame.facts, frame.goal);
-    if minute::wide(frame.horizon) < time {
-        return leaf::nothing();
-    }
-    let low = set_time::later(time + minute::wide(frame.origin), minute::wide(frame.first));
-    if minute::wide(frame.horizon) < low {
-        return leaf::nothing();
-    }
-    let rise = ascend(sets, numbers, times, file, frame, (low % 65_536) as u16);
+    let rise = ascend(sets, numbers, times, file, frame, low);
     let answer = rise.answer;
     let found = answer.found;
     if !found {
@@ -188,4 +188,37 @@ pub fn shortest(sets: &[u64], numbers: &[u32], times: &[u32], file: &[u8], frame
         return leaf::nothing();
     }
     descend(sets, numbers, times, file, frame, rise.low, answer)
+}
+
+// The earlier of two minutes.
+fn earlier(a: u16, b: u16) -> u16
+    ensures { λ r. ⌜ r ≡ min a b ⌝ }
+{
+    if a < b {
+        return a;
+    }
+    b
+}
+
+// The shortest plan by the frame's horizon. By the first free minute there are the kept steps alone; a longer plan is
+// sought from the least bound on its end upwards.
+pub fn shortest(sets: &[u64], numbers: &[u32], times: &[u32], file: &[u8], frame: Frame) -> Answer
+    requires { ⌜ Whole (now sets) (now numbers) (now times) frame ⌝ }
+    ensures { λ r. ⌜ Shortest (now (file .entry)) (now (sets .entry)) (now (numbers .entry)) (now (times .entry))
+        frame r ⌝ }
+{
+    let begun = until(frame, earlier(frame.first, frame.horizon));
+    let kept = solve(sets, numbers, times, file, begun);
+    let found = kept.found;
+    if found {
+        return kept;
+    }
+    if frame.horizon <= frame.first {
+        return leaf::nothing();
+    }
+    let low = bounds::lowest(times, frame);
+    if minute::wide(frame.horizon) < low {
+        return leaf::nothing();
+    }
+    shortest_from(sets, numbers, times, file, frame, (low % 65_536) as u16)
 }

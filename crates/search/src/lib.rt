@@ -9,4 +9,5 @@ mod carried; // the test of facts that must be carried back
 mod pool_minutes; // what is left of a pool before a minute
 mod missing; // tests of what is missing in a state
 pub mod regress; // the search for one horizon
+mod bounds; // a minute before which no plan ends
 pub mod horizons; // the least horizon with a plan

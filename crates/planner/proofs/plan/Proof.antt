@@ -3,6 +3,7 @@
 use mathlib.Core.Path.{sym, _∙_}
 use borrow.Author.Tests.{not-true, not-false}
 use Rattle.job.specs.Job.{jobIn}
+use Rattle.solver.proofs.WholeDay.{whole-day-fits, whole-day-solved}
 use Rattle.planner.proofs.Solving.{plans-refused, plans-short, plans-none, plans-found}
 use borrow.Author.Needs.{needs}
 use Rattle.planner.proofs.plan.Statement.{statement}
@@ -30,22 +31,31 @@ returns-2 c =
     let pass = sym (c-validate .ensures) ∙ c .before .enum-told .given .1 in
     plans-short (jobIn (c-args .job)) (c-args .out .now) pass (c .if1 .taken)
 
+whole-day-requires : tie.Need-whole-day-requires
+whole-day-requires c κs = search needs
+
 solve-requires : tie.Need-solve-requires
-solve-requires c κs = sym (c .before .before .before .validate .ensures) ∙ c .before .enum-told .given .1
+solve-requires c κs =
+    let c-args = c .before .before .before .before .before .before .args in
+    let c-validate = c .before .before .before .before .validate in
+    let pass = sym (c-validate .ensures) ∙ c .before .before .enum-told .given .1 in
+    (pass, whole-day-fits (c-args .job) _ (c .whole-day .ensures) pass)
 
 returns-3 : tie.Need-returns-3
 returns-3 c =
-    let c-args = c .before .before .before .before .before .before .before .args in
-    let c-validate = c .before .before .before .before .before .validate in
-    let c-enum-told = c .before .before .before .enum-told in
+    let c-args = c .before .before .before .before .before .before .before .before .args in
+    let c-validate = c .before .before .before .before .before .before .validate in
+    let c-enum-told = c .before .before .before .before .enum-told in
+    let c-if1 = c .before .before .before .if1 in
     let c-solve = c .before .solve in
     let pass = sym (c-validate .ensures) ∙ c-enum-told .given .1 in
-    plans-none (jobIn (c-args .job)) (c-args .out .now) pass (c .before .before .if1 .left) (c-solve .result)
-    (c-solve .ensures) (not-true (c-solve .result .found) (c .if2 .taken))
+    let solved = whole-day-solved (c-args .job) _ (c .before .before .whole-day .ensures) (c-solve .result) (c-solve .ensures) in
+    plans-none (jobIn (c-args .job)) (c-args .out .now) pass (c-if1 .left) (c-solve .result) solved
+    (not-true (c-solve .result .found) (c .if2 .taken))
 
 copy-plan-requires : tie.Need-copy-plan-requires
 copy-plan-requires c κs =
-    let c-if1 = c .before .before .before .if1 in
+    let c-if1 = c .before .before .before .before .if1 in
     let c-solve = c .before .before .solve in
     let found = c-solve .ensures .found (not-false (c-solve .result .found) (c .before .if2 .left)) in
     (found .0 .few, found .0 .whole, c-if1 .left)
@@ -56,14 +66,16 @@ same-length c = search needs
 returns-4 : tie.Need-returns-4
 returns-4 c =
     let at8 = c .before .before .before .before .before .before .before .before in
-    let c-args = at8 .before .before .before .args in
-    let c-validate = at8 .before .validate in
-    let c-enum-told = c .before .before .before .before .before .before .before .enum-told in
-    let c-if1 = c .before .before .before .before .before .before .if1 in
+    let c-args = at8 .before .before .before .before .args in
+    let c-validate = at8 .before .before .validate in
+    let c-enum-told = c .before .before .before .before .before .before .before .before .enum-told in
+    let c-if1 = c .before .before .before .before .before .before .before .if1 in
+    let c-whole-day = c .before .before .before .before .before .before .whole-day in
     let c-solve = c .before .before .before .before .before .solve in
     let c-if2 = c .before .before .before .before .if2 in
     let pass = sym (c-validate .ensures) ∙ c-enum-told .given .1 in
-    plans-found (jobIn (c-args .job)) (c-args .out .now) pass (c-if1 .left) (c-solve .result) (c-solve .ensures)
+    let solved = whole-day-solved (c-args .job) _ (c-whole-day .ensures) (c-solve .result) (c-solve .ensures) in
+    plans-found (jobIn (c-args .job)) (c-args .out .now) pass (c-if1 .left) (c-solve .result) solved
     (not-false (c-solve .result .found) (c-if2 .left)) _ (c .before .before .copy-plan .ensures)
 
 pub plan-spec : {M : Type 1} → statement M
@@ -75,6 +87,7 @@ plan-spec =
     returns
     enum-told
     returns-2
+    whole-day-requires
     solve-requires
     returns-3
     copy-plan-requires

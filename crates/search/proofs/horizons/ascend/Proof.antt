@@ -7,7 +7,7 @@ use mathlib.Core.List.{List}
 use Rattle.tables.specs.declared.Frame.{Frame}
 use Rattle.leaf.specs.declared.Answer.{Answer}
 use Rattle.search.specs.Horizons.{until, Solves, Raised}
-use Rattle.search.proofs.Bounds.{whole-until, found-by-horizon, raised-past}
+use Rattle.search.proofs.HorizonBounds.{whole-until, found-by-horizon, raised-past}
 use native.Mathlib.Omega.{arith}
 use Rattle.search.proofs.horizons.ascend.Statement.{statement}
 use Rattle.search.proofs.horizons.ascend.Tie as tie

@@ -7,7 +7,7 @@ use borrow.Author.Tests.{not-true, not-false}
 use Rattle.tables.specs.declared.Frame.{Frame}
 use Rattle.leaf.specs.declared.Answer.{Answer}
 use Rattle.search.specs.Horizons.{until, Solves}
-use Rattle.search.proofs.Bounds.{whole-until, found-by-horizon, found-in-time, raised-past}
+use Rattle.search.proofs.HorizonBounds.{whole-until, found-by-horizon, found-in-time, raised-past}
 use native.Mathlib.Omega.{arith}
 use borrow.Author.Needs.{needs}
 use Rattle.search.proofs.horizons.halve.Statement.{statement}

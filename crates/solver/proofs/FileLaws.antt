@@ -17,6 +17,7 @@ use Rattle.job.specs.declared.refusal.Verdict.{Verdict}
 use Rattle.job.specs.declared.refusal.Verdict.the-variants.{Pass}
 use Rattle.job.specs.Job.{Job, jobIn, jobValue}
 use Rattle.job.specs.Refusal.{first}
+use Rattle.job.specs.Resumed.{resumed}
 use Rattle.job.specs.Valid.{jobRows}
 use Rattle.job.proofs.Passed.{Passed, passed}
 use Rattle.job.proofs.Table.{first-next, first-append-pass, first-none}
@@ -24,7 +25,7 @@ use Rattle.job.proofs.Values.{Shape, job-in-shape, value-holds-job}
 use Rattle.jobfile.specs.declared.Written.{Written}
 use Rattle.jobfile.specs.declared.Written.the-variants as written
 use Rattle.jobfile.specs.File.{fileOf, actionSize}
-use Rattle.jobfile.specs.Answers.{writeRows, writtenOf, writeFile, leftOf, leftByWrite}
+use Rattle.jobfile.specs.Answers.{readFile, writeRows, writtenOf, writeFile, leftOf, leftByWrite}
 use Rattle.jobfile.proofs.Lengths.{length-file}
 use Rattle.jobfile.proofs.RoundTrips.{ByteDurations, read-after-write-slice}
 use Rattle.writer.specs.Wrote.{Wrote}
@@ -84,13 +85,16 @@ module _ (job : held.Job) (passes : first (jobRows (jobIn job)) ≡ Pass) (slice
     pub file-length : (n : ℕ) → answer ≡ written.Length n → n ≡ length (take n after)
     file-length n h = sym (length-take-le n after (file-in-slice n h))
 
--- what the writer leaves in the slice, up to the file's length, is a file of the job
+-- what the writer leaves in the slice, up to the file's length, is a file of which J is resumed
 pub file-of-job : (job : held.Job) (slice : List ℕ) (answer : Written) (after : List ℕ)
     → Wrote (jobIn job) slice answer after → ByteDurations job → (n : ℕ) → answer ≡ written.Length n
-    → FileOf (jobIn job) (take n after)
-file-of-job job slice answer after wrote durations n h =
-    subst (λ (bytes : List ℕ). FileOf (jobIn job) (take n bytes)) (sym (wrote .leaves)) (
-      jobValue (jobIn job),
-      read-after-write-slice job slice n durations (sym (wrote .answers) ∙ h),
-      value-holds-job (jobIn job) (job-in-shape job),
-    )
+    → (start : ℕ) (stocks : List ℕ) (J : Job) → resumed (jobIn job) start stocks ≡ J → first (jobRows J) ≡ Pass
+    → FileOf J (take n after) start stocks
+file-of-job job slice answer after wrote durations n h start stocks J same passes =
+    record {
+      value = jobValue (jobIn job);
+      read = subst (λ (bytes : List ℕ). readFile (take n bytes) ≡ record { verdict = Pass; job = jobValue (jobIn job) })
+          (sym (wrote .leaves)) (read-after-write-slice job slice n durations (sym (wrote .answers) ∙ h));
+      same = ap (λ (K : Job). resumed K start stocks) (value-holds-job (jobIn job) (job-in-shape job)) ∙ same;
+      passes = passes;
+    }

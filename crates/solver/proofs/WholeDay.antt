@@ -1,0 +1,39 @@
+-- The whole day of a job is a task that fits, and every plan counts.
+-- Assumes nothing.
+use mathlib.Core.Path.{_≡_, refl, sym, _∙_, subst}
+use mathlib.Core.List.{List, []}
+use native.Mathlib.Omega.{arith}
+use Rattle.lists.specs.Lists.{tabulate}
+use Rattle.job.specs.declared.Job as held
+use Rattle.job.specs.declared.refusal.Verdict.the-variants.{Pass}
+use Rattle.job.specs.Job.{Job, jobIn}
+use Rattle.job.specs.Refusal.{first}
+use Rattle.job.specs.Valid.{jobRows}
+use Rattle.job.proofs.Passed.{passed}
+use Rattle.job.proofs.Resuming.{resumed-as-it-is}
+use Rattle.leaf.specs.declared.Answer.{Answer}
+use Rattle.leaf.specs.Order.{inOrder}
+use Rattle.solver.specs.declared.Task.{Task}
+use Rattle.solver.specs.Task.{wholeDay, dayOf, TaskFits, Solved}
+
+module _ (job : held.Job) (task : Task) (is : task ≡ wholeDay job) where
+  pub whole-day-fits : first (jobRows (jobIn job)) ≡ Pass → TaskFits (dayOf job task) task
+  unfolding tabulate
+  whole-day-fits passes =
+      subst (λ (t : Task). TaskFits (dayOf job t) t) (sym is)
+      (subst (λ (J : Job). TaskFits J (wholeDay job)) (sym (resumed-as-it-is job))
+      (record {
+        passes = passes;
+        goal = passed (jobIn job) passes .goal .within;
+        known = record { few = omega arith; numbers = refl; starts = refl; known = λ k l. absurd (omega arith) };
+        early = λ k l. absurd (omega arith);
+        rising = refl;
+        minute = omega arith;
+      }))
+
+  pub whole-day-solved : (r : Answer) → Solved (dayOf job task) (task .goal) (task .first) (inOrder (dayOf job task) (task .kept)) r
+      → Solved (jobIn job) (job .goal) 0 [] r
+  unfolding tabulate
+  whole-day-solved r solved =
+      subst (λ (J : Job). Solved J (job .goal) 0 [] r) (resumed-as-it-is job)
+      (subst (λ (t : Task). Solved (dayOf job t) (t .goal) (t .first) (inOrder (dayOf job t) (t .kept)) r) is solved)
