@@ -123,19 +123,24 @@ module _ (J : Job) (sets numbers : List ℕ) (frame : Frame) (described : Descri
       let c = in-cond-parts (runsInto t (r .0)) (single (r .0 .number)) n (r .3) in
       (r .0, r .1, r .2, c .0, sym (only-in-single (r .0 .number) n (c .1)))
 
+  -- a step beside which it would run
+  pub barred-when-clashing-while-running : (y : Step) (Q : List Step) → Place y Q L → y .start < t → x .start < y .stop
+      → has (clashesAt sets i) (y .number) ≡ true → Result
+  barred-when-clashing-while-running y Q p before after h =
+      let s = stops in
+      let c = clash-by-table y Q p h in
+      let both : clashing x y ≡ true = and-both (overlap-when x y (omega arith) (omega arith)) c in
+      dead-when-clashing J (frame .first) (frame .goal) (frame .horizon) _ (x ∷ L) (rw (any-at (clashing x) p both))
+
   pub barred-when-clashing : meets (clashesAt sets i) (st .at .running) ≡ true → Result
   barred-when-clashing h =
       let m = meets-some (clashesAt sets i) (st .at .running) h in
       let r = in-running (m .0) (m .2) in
       let y = r .0 in
-      let s = stops in
       let l = starts-before in
       let before = ltb-true (y .start) t (and-left (ltb (y .start) t) _ (r .3)) in
       let after = leb-true t (y .stop) (and-right (ltb (y .start) t) _ (r .3)) in
-      let c = clash-by-table y (r .1) (r .2) (rw (r .4) (m .1)) in
-      let both : clashing x y ≡ true = and-both (overlap-when x y (omega arith) (omega arith)) c in
-      dead-when-clashing J (frame .first) (frame .goal) (frame .horizon) _ (x ∷ L)
-      (rw (any-at (clashing x) (r .2) both))
+      barred-when-clashing-while-running y (r .1) (r .2) before (omega arith) (rw (r .4) (m .1))
 
   -- ---- it adds nothing that is wanted
   pub barred-when-adding-nothing-wanted : meets (addsAt sets i) (st .wanted) ≡ false → Result
@@ -311,18 +316,22 @@ module _ (J : Job) (sets numbers : List ℕ) (frame : Frame) (described : Descri
             ∙ room
 
   -- ---- pools and stores do not suffice
-  pub barred-when-pools-exceeded : (m : ℕ) → suc m ≡ st .minute → exceedsPools J L i m ≡ true → Result
+  pub barred-when-pools-exceeded-while-running : (m : ℕ) → x .start ≤ m → m < t → exceedsPools J L i m ≡ true → Result
   unfolding free
-  barred-when-pools-exceeded m e h =
+  barred-when-pools-exceeded-while-running m after before h =
       let r = below-some (length (J .pools)) _ h in
       let pool : ℕ = r .0 in
       let over = ltb-true (getD (J .pools) pool 0) (inUse J pool m L + getD (x .action .pools) pool 0) (r .2) in
       let s = stops in
-      let l = starts-before in
       let share = getD (x .action .pools) pool 0 in
       let own : cond (leb (x .start) m && ltb m (x .stop)) share 0 ≡ share =
       rw (le-leb (x .start) m (omega arith), lt-ltb m (x .stop) (omega arith)) in
       dead-when-pool-exceeded J (frame .first) (frame .goal) (frame .horizon) _ (x ∷ L) pool m (r .1) (omega arith)
+
+  -- in the minute before it stops
+  pub barred-when-pools-exceeded : (m : ℕ) → suc m ≡ st .minute → exceedsPools J L i m ≡ true → Result
+  barred-when-pools-exceeded m e h =
+      let l = starts-before in barred-when-pools-exceeded-while-running m (omega arith) (omega arith) h
 
   pub barred-when-stores-exceeded : exceedsStores J L i ≡ true → Result
   unfolding storeUse storeCap

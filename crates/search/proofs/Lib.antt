@@ -2,6 +2,7 @@ mod Looks
 mod AmountLaws
 pub mod Chosen
 mod BarredActions
+mod BesideLaws
 mod StateLaws
 mod StateTests
 mod MissingLaws

@@ -2,6 +2,7 @@
 pub mod minute; // what the chosen steps mean for a minute
 mod amounts; // pools and stores
 pub mod state; // a state of the search
+mod beside; // which actions may run beside kept steps
 mod rules; // which actions may stop at a minute
 mod moves; // from one state to the next
 mod tests; // tests of a state

@@ -7,6 +7,7 @@ ghost use lib.ListN.{length};
 ghost use Rattle.facts.specs.FactSet.{has};
 ghost use Rattle.search.specs.States.{Safe, BarredBy, SetsAllow, MayStop, WithCandidate, Candidates};
 use crate::amounts;
+use crate::beside;
 use crate::minute;
 use crate::state::State;
 use tables::Frame;
@@ -84,7 +85,10 @@ fn may_stop(sets: &[u64], numbers: &[u32], frame: Frame, st: State, i: u8) -> bo
     if movable(sets, numbers, frame, st, i) {
         return false;
     }
-    affordable(sets, numbers, frame, st, i)
+    if !affordable(sets, numbers, frame, st, i) {
+        return false;
+    }
+    beside::beside_kept(sets, numbers, frame, st, i)
 }
 
 // The set with action k, if that may stop at the state's minute.

@@ -93,18 +93,34 @@ affordable-requires c κs =
 
 returns-5 : tie.Need-returns-5
 returns-5 c =
+    let c-affordable = c .before .affordable in
+    record {
+      room = λ e. absurd (true≢false (sym e));
+      fits = λ e. absurd (true≢false (sym e));
+      apart = λ e. absurd (true≢false (sym e));
+      barred = λ e. c-affordable .ensures (not-true (c-affordable .result) (c .if5 .taken));
+    }
+
+beside-kept-requires : tie.Need-beside-kept-requires
+beside-kept-requires c κs =
     let at8 = c .before .before .before .before .before .before .before .before in
-    let c-sets-allow = at8 .before .sets-allow in
-    let c-if1 = c .before .before .before .before .before .before .before .before .if1 in
-    let c-wide = c .before .before .before .before .before .wide in
-    let c-stop = c .before .before .before .before .stop in
+    let c-pre = at8 .before .before .before .before .before .pre in
+    (c-pre .0, c-pre .1)
+
+returns-6 : tie.Need-returns-6
+returns-6 c =
+    let at8 = c .before .before .before .before .before .before .before .before in
+    let c-sets-allow = at8 .before .before .before .sets-allow in
+    let c-if1 = at8 .before .before .if1 in
+    let c-wide = c .before .before .before .before .before .before .before .wide in
+    let c-stop = c .before .before .before .before .before .before .stop in
     let w = c-wide .ensures .0 in
     let s = c-stop .ensures .0 in
     record {
       room = λ e. omega arith;
       fits = λ e. omega arith;
       apart = λ e. c-sets-allow .ensures .apart (not-false (c-sets-allow .result) (c-if1 .left));
-      barred = c .affordable .ensures;
+      barred = c .beside-kept .ensures;
     }
 
 pub may-stop-spec : {M : Type 1} → statement M
@@ -120,4 +136,6 @@ may-stop-spec =
     movable-requires
     returns-4
     affordable-requires
-    returns-5)
+    returns-5
+    beside-kept-requires
+    returns-6)
