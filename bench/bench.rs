@@ -3,6 +3,7 @@ mod days;
 mod landmarks;
 #[allow(dead_code)]
 mod plain;
+#[allow(dead_code)]
 mod planner;
 mod rows;
 #[allow(dead_code)]

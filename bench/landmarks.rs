@@ -53,9 +53,9 @@ impl Landmarks {
         members(set).map(|p| self.pools[pool][p]).sum()
     }
 
-    /// The minutes before t in which a pool can be used.
-    pub fn pool_minutes(&self, pool: usize, t: u32) -> u64 {
-        t.saturating_sub(self.opens[pool]) as u64
+    /// The minute before which no plan uses a pool.
+    pub fn opening(&self, pool: usize) -> u32 {
+        self.opens[pool]
     }
 
     /// The first of the facts of a set with the most minutes.

@@ -1,5 +1,6 @@
 //! A plain Rust version of the planner: the proved search's rules in the same order, so that it visits the same nodes,
-//! one for each call of `regress`.
+//! one for each call of `regress`. A day may have begun: its steps that start before the first free minute are kept,
+//! and the search is for the others. It reads the whole day's tables.
 use crate::landmarks::{Landmarks, SCALE};
 use crate::plain::{self, members, Job, Times};
 use crate::rows::{self, exceeds, Row};
@@ -12,9 +13,29 @@ const STEPS: usize = 32;
 struct Late;
 
 #[derive(Clone, Copy, Default)]
-struct Step {
+pub struct Step {
     action: u8,
     start: u16,
+}
+
+/// The steps of a plan's bytes.
+fn steps_of(plan: &[u8]) -> impl Iterator<Item = Step> + '_ {
+    plan.chunks_exact(3).map(|x| Step { action: x[0], start: u16::from_le_bytes([x[1], x[2]]) })
+}
+
+/// What has begun of a day: the kept steps, and the first free minute, before which they start.
+#[derive(Default)]
+pub struct Begun {
+    kept: Vec<Step>,
+    first: u32,
+}
+
+impl Begun {
+    /// What has begun of the current plan at a minute.
+    pub fn at(plan: &[u8], minute: u32) -> Begun {
+        let kept = steps_of(plan).filter(|step| (step.start as u32) < minute).collect();
+        Begun { kept, first: minute }
+    }
 }
 
 /// Sets of a minute: by their numbers the actions that run in the minute before and those that start now, and facts.
@@ -65,12 +86,15 @@ fn plus(sums: &mut [u64; 4], amounts: &[u64; 4], counts: bool) {
     }
 }
 
-/// The search for plans of a job: its tables, the horizon, the nodes so far and the instant at which it gives up.
+/// The search for plans of a job: its tables, what has begun and what the kept steps add, the horizon, the nodes so far
+/// and the instant at which it gives up.
 struct Search<'a> {
     job: &'a Job,
     rows: Vec<Row>,
     landmarks: Landmarks,
     times: Times,
+    begun: &'a Begun,
+    given: u64,
     horizon: u32,
     nodes: u64,
     until: Instant,
@@ -110,6 +134,21 @@ impl Search<'_> {
         plus(&mut uses.spent, &row.stores, true);
     }
 
+    /// The state with these steps at a minute, where nothing is wanted.
+    fn stand(&self, steps: &[Step], minute: u32) -> State {
+        let mut st = State { count: steps.len(), minute, since: steps.len(), ..State::default() };
+        st.steps[..steps.len()].copy_from_slice(steps);
+        for step in steps {
+            self.join(&mut st, step);
+        }
+        st
+    }
+
+    /// The kept steps that stop after minute s and by minute t.
+    fn kept_within(&self, s: u32, t: u32) -> impl Iterator<Item = &Step> {
+        self.begun.kept.iter().filter(move |step| s < self.stop(step) && self.stop(step) <= t)
+    }
+
     /// Whether the sets of an action allow it to stop now: it adds a wanted fact that no other step provides, deletes
     /// none, and clashes with no step that runs in the minute before.
     fn sets_allow(&self, st: &State, row: &Row) -> bool {
@@ -133,13 +172,34 @@ impl Search<'_> {
         !exceeds(&self.job.pool, &st.uses.before, &row.pools) && !exceeds(&self.job.store, &st.uses.spent, &row.stores)
     }
 
+    /// What the chosen steps use of each pool in minute t.
+    fn uses_at(&self, st: &State, t: u32) -> [u64; 4] {
+        let mut sums = [0; 4];
+        for step in st.steps() {
+            plus(&mut sums, &self.row(step).pools, step.start as u32 <= t && t < self.stop(step));
+        }
+        sums
+    }
+
+    /// Whether an action can run in the last minute of a kept step: they do not clash, and the pools suffice.
+    fn runs_beside(&self, st: &State, row: &Row, step: &Step) -> bool {
+        let last = self.stop(step) - 1;
+        row.clashes >> step.action & 1 == 0 && !exceeds(&self.job.pool, &self.uses_at(st, last), &row.pools)
+    }
+
+    /// Whether an action that stops at the state's minute can run beside each kept step that stops meanwhile.
+    fn beside_kept(&self, st: &State, row: &Row) -> bool {
+        self.kept_within(st.minute - row.duration, st.minute - 1).all(|step| self.runs_beside(st, row, step))
+    }
+
     /// Whether an action may stop at the state's minute.
     fn may_stop(&self, st: &State, row: &Row) -> bool {
         self.sets_allow(st, row)
             && st.count < STEPS
-            && row.duration <= st.minute
+            && self.begun.first + row.duration <= st.minute
             && !self.movable(st, row)
             && self.affordable(st, row)
+            && self.beside_kept(st, row)
     }
 
     /// Those of the undecided actions that may stop at the state's minute.
@@ -176,18 +236,24 @@ impl Search<'_> {
         starts.filter(|&s| from <= s && s < st.minute).all(|s| self.times.by(self.needs_at(st, s), s))
     }
 
-    /// The event minute before: the last start of a chosen step, or 0.
+    /// The event minute before: the last start of a chosen step, or the first free minute.
     fn event(&self, st: &State) -> u32 {
         let starts = st.steps().iter().map(|step| step.start as u32);
-        starts.filter(|&s| s < st.minute).max().unwrap_or(0)
+        starts.filter(|&s| s < st.minute).fold(self.begun.first, u32::max)
     }
 
-    /// Whether what is wanted, and added neither now nor by the actions left, and what the steps that run in the minute
-    /// before need, can hold at the event minute before.
+    /// What steps add.
+    fn adds<'s>(&self, steps: impl Iterator<Item = &'s Step>) -> u64 {
+        steps.fold(0, |set, step| set | self.row(step).adds)
+    }
+
+    /// Whether what is wanted, and added neither now nor by the actions left nor by kept steps since the event minute
+    /// before, and what the steps that run in the minute before need, can hold at that event minute.
     fn in_time(&self, st: &State, left: u64) -> bool {
         let starts = members(left).map(|i| st.minute - self.rows[i].duration);
         let event = starts.fold(self.event(st), u32::max);
-        let added = members(left).fold(st.at.added, |set, i| set | self.rows[i].adds);
+        let now = members(left).fold(st.at.added, |set, i| set | self.rows[i].adds);
+        let added = now | self.adds(self.kept_within(event, st.minute));
         self.times.by(st.wanted & !added | st.at.held, event)
     }
 
@@ -197,43 +263,45 @@ impl Search<'_> {
         used <= SCALE * self.job.store[k] as u64
     }
 
-    /// What the chosen steps use of a pool before the state's minute, each minute for itself.
-    fn used_before(&self, st: &State, k: usize) -> u64 {
-        let minutes = |step: &Step| self.row(step).duration.min(st.minute.saturating_sub(step.start as u32));
+    /// What the chosen steps use of a pool from a minute on and before the state's, each minute for itself.
+    fn used_before(&self, st: &State, k: usize, from: u32) -> u64 {
+        let begin = |step: &Step| from.max(step.start as u32);
+        let minutes = |step: &Step| self.stop(step).min(st.minute).saturating_sub(begin(step));
         st.steps().iter().map(|step| self.row(step).pools[k] * minutes(step) as u64).sum()
     }
 
     /// Whether a pool has minutes enough left for what is missing.
     fn pool_suffices(&self, st: &State, missing: u64, k: usize) -> bool {
-        let used = self.landmarks.of_pool(k, missing) + SCALE * self.used_before(st, k);
-        used <= SCALE * self.job.pool[k] as u64 * self.landmarks.pool_minutes(k, st.minute)
+        let from = self.landmarks.opening(k);
+        let used = self.landmarks.of_pool(k, missing) + SCALE * self.used_before(st, k, from);
+        used <= SCALE * self.job.pool[k] as u64 * st.minute.saturating_sub(from) as u64
     }
 
     /// Whether stores, pools and minutes suffice for what is missing: the landmarks of what must hold at the state's
-    /// minute.
+    /// minute, without what the kept steps add.
     fn suffices(&self, st: &State) -> bool {
-        let missing = self.landmarks.of(st.wanted | st.at.across);
+        let missing = self.landmarks.of(st.wanted | st.at.across) & !self.given;
         (0..self.job.stores).all(|k| self.store_suffices(st, missing, k))
             && (0..self.job.pools).all(|k| self.pool_suffices(st, missing, k))
-            && self.landmarks.minutes(missing) <= st.minute
+            && self.landmarks.minutes(missing) <= st.minute - self.begun.first
+    }
+
+    /// What the chosen steps add that stop after minute s and by the state's.
+    fn gone(&self, st: &State, s: u32) -> u64 {
+        self.adds(st.steps().iter().filter(|step| s < self.stop(step) && self.stop(step) <= st.minute))
     }
 
     /// The state at the event minute before.
     fn back(&self, st: &State) -> State {
         let minute = self.event(st);
-        let gone = |step: &&Step| minute < self.stop(step) && self.stop(step) <= st.minute;
-        let added = st.steps().iter().filter(gone).fold(0, |set, step| set | self.row(step).adds);
-        let mut before = State { count: st.count, steps: st.steps, minute, since: st.count, ..State::default() };
-        for step in st.steps() {
-            self.join(&mut before, step);
-        }
-        before.wanted = st.wanted & !added | before.at.needed;
+        let mut before = self.stand(st.steps(), minute);
+        before.wanted = st.wanted & !self.gone(st, minute) | before.at.needed;
         before
     }
 
-    /// The end of the plan that the chosen steps are, where the checker accepts it.
-    fn finish(&self, st: &State) -> Option<u32> {
-        let mut steps = st.steps().to_vec();
+    /// The end of the plan that the steps are, where the checker accepts it and it ends by the horizon.
+    fn finish(&self, steps: &[Step]) -> Option<u32> {
+        let mut steps = steps.to_vec();
         steps.sort_by_key(|step| (step.start, step.action));
         let bytes = |step: &Step| [step.action, step.start as u8, (step.start >> 8) as u8];
         let plan: Vec<u8> = steps.iter().flat_map(bytes).collect();
@@ -256,8 +324,8 @@ impl Search<'_> {
         self.choose(&next, left)
     }
 
-    /// Decides for the undecided actions which stop at the state's minute, the longest first; then goes back to the event
-    /// before.
+    /// Decides for the undecided actions which stop at the state's minute, the longest first; then goes back to the
+    /// event before.
     fn choose(&mut self, st: &State, undecided: u64) -> Result<Option<u32>, Late> {
         let mut left = self.candidates(st, undecided);
         while self.in_time(st, left) {
@@ -287,8 +355,8 @@ impl Search<'_> {
     /// The end of a plan from a state, whose minute is an event.
     fn regress(&mut self, st: &State) -> Result<Option<u32>, Late> {
         self.count()?;
-        if st.minute == 0 {
-            return Ok(self.finish(st));
+        if st.minute <= self.begun.first {
+            return Ok(self.finish(st.steps()));
         }
         if !self.suffices(st) {
             return Ok(None);
@@ -296,13 +364,14 @@ impl Search<'_> {
         self.choose(st, u64::MAX)
     }
 
-    /// The end of a plan that ends by the horizon. With no minute left there are no steps, and no node.
+    /// The end of a plan that ends by the horizon. With no free minute left there are the kept steps, and no node.
     fn solve(&mut self, horizon: u32) -> Result<Option<u32>, Late> {
         self.horizon = horizon;
-        let st = State { minute: horizon, wanted: self.job.goal, ..State::default() };
-        if horizon == 0 {
-            return Ok(self.finish(&st));
+        let kept = &self.begun.kept;
+        if horizon <= self.begun.first {
+            return Ok(self.finish(kept));
         }
+        let st = State { wanted: self.job.goal, ..self.stand(kept, horizon) };
         self.regress(&st)
     }
 
@@ -334,10 +403,15 @@ impl Search<'_> {
         Ok(end)
     }
 
-    /// The least end of a plan.
+    /// The least end of a plan: by the first free minute that of the kept steps, then of longer ones.
     fn shortest(&mut self) -> Result<Option<u32>, Late> {
-        let low = self.times.of(self.job.goal);
-        if (self.job.deadline as u32) < low {
+        let deadline = self.job.deadline as u32;
+        let kept = self.solve(self.begun.first.min(deadline))?;
+        if kept.is_some() || deadline <= self.begun.first {
+            return Ok(kept);
+        }
+        let low = self.times.of(self.job.goal).max(self.begun.first + 1);
+        if deadline < low {
             return Ok(None);
         }
         let (bound, end) = self.ascend(low)?;
@@ -345,21 +419,34 @@ impl Search<'_> {
     }
 }
 
+/// The least end of a plan of the job that keeps what has begun, none where there is no plan, or Late.
+fn search(job: &Job, begun: &Begun) -> (Result<Option<u32>, Late>, u64) {
+    let until = Instant::now() + LIMIT;
+    let rows = rows::rows(job);
+    let times = plain::times(job);
+    let landmarks = Landmarks::new(job, &rows, &times);
+    let mut search = Search { job, rows, landmarks, times, begun, given: 0, horizon: 0, nodes: 0, until };
+    search.given = search.adds(begun.kept.iter());
+    (search.shortest(), search.nodes)
+}
+
+/// An end as printed: the number where there is no plan; - where none was found in time.
+fn printed(end: Result<Option<u32>, Late>, no_plan: u32) -> String {
+    end.map_or("-".to_string(), |end| end.unwrap_or(no_plan).to_string())
+}
+
 /// What came of a job file: its end as printed (22: no plan; -: not planned in ten seconds), and the nodes.
 pub fn plan(file: &[u8]) -> (String, u64) {
-    let until = Instant::now() + LIMIT;
     let job = match plain::read(file) {
         Ok(job) => job,
         Err(number) => return (number.to_string(), 0),
     };
-    let rows = rows::rows(&job);
-    let times = plain::times(&job);
-    let landmarks = Landmarks::new(&job, &rows, &times);
-    let mut search = Search { job: &job, rows, landmarks, times, horizon: 0, nodes: 0, until };
-    let end = match search.shortest() {
-        Ok(Some(end)) => end.to_string(),
-        Ok(None) => "22".to_string(),
-        Err(Late) => "-".to_string(),
-    };
-    (end, search.nodes)
+    let (end, nodes) = search(&job, &Begun::default());
+    (printed(end, 22), nodes)
+}
+
+/// What came of a begun day and a new goal: its end as printed (35: no plan; -: not planned in time), and the nodes.
+pub fn replan(job: &Job, begun: &Begun) -> (String, u64) {
+    let (end, nodes) = search(job, begun);
+    (printed(end, 35), nodes)
 }

@@ -4,6 +4,7 @@ mod known;
 mod landmarks;
 #[allow(dead_code)]
 mod plain;
+#[allow(dead_code)]
 mod planner;
 mod rows;
 use known::Known;
