@@ -13,10 +13,13 @@ use Rattle.job.specs.declared.refusal.Refusal.{Refusal}
 use Rattle.job.specs.declared.refusal.Refusal.the-variants.{ForeignAskedFact}
 use Rattle.job.specs.declared.refusal.Verdict.{Verdict}
 use Rattle.job.specs.declared.refusal.Verdict.the-variants.{Pass, Refused}
+use Rattle.job.proofs.Passed.{passed}
 use Rattle.job.proofs.Table.{first-here, first-next, first-none, first-append-pass, first-append-refused}
 use Rattle.times.specs.Time.{at, unreachable}
 use Rattle.times.specs.Earliest.{timeOf}
 use Rattle.times.specs.Numbers.{tableIn}
+use Rattle.times.proofs.Monotone.{durations-of-passed}
+use Rattle.times.proofs.Unique.{one-solution-of-sets}
 use Rattle.earliest.specs.declared.EarliestTime.{EarliestTime}
 use Rattle.earliest.specs.declared.EarliestTime.the-variants as answer
 use Rattle.earliest.specs.Answer.{earliestRows, answerOf, AnswersBy, Answers}
@@ -49,6 +52,10 @@ module _ (J : Job) (set : ℕ) where
   answers-time e f xs filled n g r h =
       let time : timeOf J (tableIn xs) set ≡ cond (ltb 530400 n) unreachable (at n) =
       time-of-set J xs (filled .able) set ∙ sym (same-time n (setNumber xs set (J .facts)) g) in
+      let positive = durations-of-passed J (passed J e) in
       answers-by Pass
-      (first-append-pass (jobRows J) last e ∙ first-next ForeignAskedFact (foreign (J .facts) set) [] f ∙ first-none) r
-      (tableIn xs, filled .solves, h ∙ ap answerOf (sym time))
+      (first-append-pass (jobRows J) last e ∙ first-next ForeignAskedFact (foreign (J .facts) set) [] f ∙ first-none) r (
+        (tableIn xs, filled .solves),
+        λ T solves.
+            h ∙ ap answerOf (sym time ∙ one-solution-of-sets J positive (tableIn xs) T (filled .solves) solves set),
+      )
