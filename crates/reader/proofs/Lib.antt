@@ -1,2 +1,3 @@
+mod Amounts
 mod ContentsLaws
 mod WalkSteps

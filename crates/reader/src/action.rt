@@ -1,7 +1,7 @@
 // One action of a body, taken apart; and amounts, which actions and other bodies have. Nothing is tested here.
 ghost use mathlib.Core.Path.{_≡_};
 ghost use Prim.Native.Nat.{_/_, _<_, _≤_};
-ghost use lib.ListN.{length};
+ghost use lib.ListN.{length, getD};
 ghost use Rattle.lists.specs.Lists.{filled};
 ghost use Rattle.encoding.specs.Bytes.{fromBytes, split};
 ghost use Rattle.job.specs.Job.{actionValue};
@@ -12,18 +12,28 @@ use job::Action;
 use job::Job;
 use jobfile::Layout;
 
-// Amounts of 4 bytes each, at most four.
+// The amount of 4 bytes at place i, 0 where the bytes end before it.
+fn amount(bytes: &[u8], i: usize) -> u32
+    requires { ⌜ i < 4 ⌝ }
+    ensures { λ r. ⌜ r ≡ getD (split 4 fromBytes (now (bytes .entry))) i 0 ⌝ }
+{
+    if bytes.len() / Layout::AMOUNT <= i {
+        return 0;
+    }
+    read_number(bytes, i * Layout::AMOUNT, Layout::AMOUNT) as u32
+}
+
+// Amounts of 4 bytes each, at most four. Place by place: a loop would be compiled to a call that clears the array and
+// one that copies it, for each of 128 arrays of a file.
 pub fn amounts(bytes: &[u8]) -> [u32; Job::POOLS]
     requires { ⌜ length (now bytes) ≤ 16 ⌝ }
     ensures { λ r. ⌜ r ≡ filled 4 0 (split 4 fromBytes (now (bytes .entry))) ⌝ }
 {
-    let mut out = [0u32; Job::POOLS];
-    let mut i = 0;
-    while i < bytes.len() / Layout::AMOUNT {
-        out[i] = read_number(bytes, i * Layout::AMOUNT, Layout::AMOUNT) as u32;
-        i += 1;
-    }
-    out
+    let first = amount(bytes, 0);
+    let second = amount(bytes, 1);
+    let third = amount(bytes, 2);
+    let fourth = amount(bytes, 3);
+    [first, second, third, fourth]
 }
 
 // One action of a job with so many pools and stores.
