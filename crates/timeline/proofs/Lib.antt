@@ -11,6 +11,7 @@ pub mod Persist
 pub mod Drop
 pub mod Replaced
 pub mod Shift
+pub mod NewSteps
 pub mod Parts
 pub mod Permutations
 pub mod Rising

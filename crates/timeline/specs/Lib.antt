@@ -1,4 +1,5 @@
 pub mod Step
+pub mod From
 pub mod Timeline
 pub mod Accepted
 pub mod Value
