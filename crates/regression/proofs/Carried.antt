@@ -12,6 +12,7 @@ use Rattle.lists.specs.Lists.{any}
 use Rattle.facts.specs.FactSet.{has, Subset}
 use Rattle.job.specs.Job.{Job}
 use Rattle.timeline.specs.Step.{Step}
+use Rattle.timeline.specs.From.{From}
 use Rattle.timeline.specs.Timeline.{held}
 use Rattle.timeline.proofs.Tests.{decided, not-both, le-or-lt}
 use Rattle.timeline.proofs.Places.{Place, EachStep, append-cases, place-append, place-after, find-any}
@@ -29,7 +30,7 @@ use Rattle.regression.proofs.Tail.{tail-wants}
 use Rattle.regression.proofs.DeadEnds.{Bounds}
 
 -- s is an event minute before t: no step of the tail starts between them, nor would an action that may still stop at t
-pub record EventBefore (J : Job) (b t s : ℕ) (done : ℕ → Bool) (L : List Step) : Type 0 where
+pub record EventBefore (J : Job) (t s : ℕ) (done : ℕ → Bool) (L : List Step) : Type 0 where
   pub earlier : s < t
   pub noStart : EachStep (λ x. s < x .start → x .start < t → ⊥) L
   pub openStarts : (a : ℕ) → a < length (J .actions) → done a ≡ false → t ≤ s + actionOf J a .duration
@@ -48,8 +49,8 @@ NeededBefore t L n =
 abbrev pub Carried : Job → ℕ → ℕ → ℕ → ℕ → (ℕ → Bool) → List Step → ℕ → Type 0
 Carried J goal T t s done L n = WantedBefore J goal T t s done L n ⊎ NeededBefore t L n
 
-module _ (J : Job) (b goal T t s : ℕ) (inTime : t ≤ T) (done : ℕ → Bool) (E L : List Step)
-    (left : EachStep (Open b t done) E) (p : NormalPlan J b goal T (E ++ L)) (event : EventBefore J b t s done L) where
+module _ (J : Job) (b : From) (goal T t s : ℕ) (inTime : t ≤ T) (done : ℕ → Bool) (E L : List Step)
+    (left : EachStep (Open b t done) E) (p : NormalPlan J b goal T (E ++ L)) (event : EventBefore J t s done L) where
   -- a step of E that stops at t starts by s
   starts-by-event : {x : Step} {Q : List Step} → Place x Q E → x .stop ≡ t → done (x .number) ≡ false → x .start ≤ s
   starts-by-event {x} i stops undecided =
@@ -127,8 +128,8 @@ module _ (J : Job) (b goal T t s : ℕ) (inTime : t ≤ T) (done : ℕ → Bool)
   carried-held set carried n h = ⊎-elim (wanted-held n) (needed-held n) (carried n h)
 
 -- a set of carried facts that cannot hold together by the event minute makes a dead end
-pub dead-when-carried-late : (J : Job) (b goal T t s : ℕ) → t ≤ T → (done : ℕ → Bool) (L : List Step)
-    → b ≤ s → EventBefore J b t s done L → (bound : ℕ → ℕ → Type 0) → Bounds J b goal T L bound
+pub dead-when-carried-late : (J : Job) (b : From) (goal T t s : ℕ) → t ≤ T → (done : ℕ → Bool) (L : List Step)
+    → b .minute ≤ s → EventBefore J t s done L → (bound : ℕ → ℕ → Type 0) → Bounds J b goal T L bound
     → (set : ℕ) → ((n : ℕ) → has set n ≡ true → Carried J goal T t s done L n) → (bound set s → ⊥)
     → Dead J b goal T (Open b t done) L
 dead-when-carried-late J b goal T t s inTime done L after event bound bounds set carried late E h p =

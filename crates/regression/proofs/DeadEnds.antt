@@ -9,6 +9,7 @@ use lib.ListN.{length, getD}
 use Rattle.facts.specs.FactSet.{Subset}
 use Rattle.job.specs.Job.{Job}
 use Rattle.timeline.specs.Step.{Step, anyPair}
+use Rattle.timeline.specs.From.{From, IsNew}
 use Rattle.timeline.specs.Timeline.{held, inUse, storeCap, usedUp}
 use Rattle.timeline.specs.Accepted.{clashing}
 use Rattle.timeline.proofs.Tests.{not-both}
@@ -24,7 +25,7 @@ use Rattle.regression.proofs.Tail.{StopBy}
 use Rattle.regression.proofs.TailTests.{critical-solely-provides, blocked-by-tail, deletes-nothing-wanted}
 use Rattle.regression.proofs.TailTests.{running-needs-hold}
 
-module _ (J : Job) (b goal T : ℕ) where
+module _ (J : Job) (b : From) (goal T : ℕ) where
   -- with fewer steps left to choose it is a dead end all the more
   pub dead-weaker : (X Y : Step → Type 0) (L : List Step) → ((x : Step) → Y x → X x) → Dead J b goal T X L
       → Dead J b goal T Y L
@@ -60,7 +61,7 @@ module _ (J : Job) (b goal T : ℕ) where
   until-stops t E h x Q i = h x Q i .2
 
   module _ (t : ℕ) (L : List Step) {x : Step} {Q : List Step} (i : Place x Q L) (after : t ≤ x .stop) where
-    pub dead-when-not-sole-provider : b ≤ x .start → solelyProvides goal T L x ≡ false → Dead J b goal T (Until b t) L
+    pub dead-when-not-sole-provider : IsNew b x → solelyProvides goal T L x ≡ false → Dead J b goal T (Until b t) L
     dead-when-not-sole-provider new fails E h p =
         let inPlan = place-after E i in
         not-both
@@ -68,7 +69,7 @@ module _ (J : Job) (b goal T : ℕ) where
         (p .criticalFacts x _ inPlan new))
         fails
 
-    pub dead-when-not-blocked : b ≤ x .start → blocked J T L x ≡ false → Dead J b goal T (Until b t) L
+    pub dead-when-not-blocked : IsNew b x → blocked J T L x ≡ false → Dead J b goal T (Until b t) L
     dead-when-not-blocked new fails E h p =
         not-both
         (blocked-by-tail J goal T E L (p .plan .keeps) t (until-stops t E h) x after
@@ -82,11 +83,11 @@ module _ (J : Job) (b goal T : ℕ) where
         (deletes-nothing-wanted J goal T E L (p .plan .keeps) t (until-stops t E h) inPlan after
         (p .effects x _ inPlan))
 
-  -- ---- of what must hold: by a bound on the minutes, from b on, at which the facts of a set can hold together in a
+  -- ---- of what must hold: by a bound on the minutes, from that of b on, at which the facts of a set can hold together in a
   -- normal plan with the steps L and else new ones
   abbrev pub Bounds : List Step → (ℕ → ℕ → Type 0) → Type 0
   Bounds L bound =
-      (E : List Step) → EachStep (λ x. b ≤ x .start) E → NormalPlan J b goal T (E ++ L) → (set m : ℕ) → b ≤ m
+      (E : List Step) → EachStep (IsNew b) E → NormalPlan J b goal T (E ++ L) → (set m : ℕ) → b .minute ≤ m
       → Subset set (held (J .start) (E ++ L) m) → bound set m
 
   -- the earliest times are one
@@ -95,7 +96,7 @@ module _ (J : Job) (b goal T : ℕ) where
       held-set-not-before-its-time J times solves T goal (E ++ L) (p .plan) set m
 
   module _ (L : List Step) (bound : ℕ → ℕ → Type 0) (bounds : Bounds L bound) where
-    pub dead-when-running-too-early : (t m : ℕ) → b ≤ m → (bound (runningNeeds m L) m → ⊥)
+    pub dead-when-running-too-early : (t m : ℕ) → b .minute ≤ m → (bound (runningNeeds m L) m → ⊥)
         → Dead J b goal T (Until b t) L
     dead-when-running-too-early t m after early E h p =
         early (bounds E (λ x Q i. h x Q i .0) p (runningNeeds m L) m after

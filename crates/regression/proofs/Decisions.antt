@@ -14,10 +14,12 @@ use Rattle.lists.specs.Lists.{any}
 use Rattle.lists.proofs.Bools.{and-left, and-right}
 use Rattle.job.specs.Job.{Job}
 use Rattle.timeline.specs.Step.{Step, stepOf}
+use Rattle.timeline.specs.From.{From, FitsFrom}
 use Rattle.timeline.proofs.Tests.{decided, not-both, false-unless, and-both, or-neither}
 use Rattle.timeline.proofs.Places.{Place, here, EachStep, place-wider, place-append, place-after, find-any, none-of-any}
 use Rattle.timeline.proofs.Clashes.{no-clash-of-test}
 use Rattle.timeline.proofs.JobSteps.{OfJob}
+use Rattle.timeline.proofs.NewSteps.{fits-of-new}
 use Rattle.timeline.proofs.Permutations.{Permutation, next-step, permutation-refl, permutation-sym, permutation-trans}
 use Rattle.times.specs.Earliest.{actionOf}
 use Rattle.regression.specs.DeadEnd.{NormalPlan, Until, Open, Dead, stepStopping}
@@ -43,7 +45,7 @@ taken {x} {R} L i =
     (permutation-sym (next-step (place-after R (here {Q = L})) (permutation-refl (R ++ L))))
     (next-step (place-append L i) (permutation-refl (R ++ L)))
 
-module _ (J : Job) (b goal T t : ℕ) where
+module _ (J : Job) (b : From) (goal T t : ℕ) where
   -- ---- the step of action i that stops at t
   module _ (done : ℕ → Bool) (i : ℕ) where
     abbrev isIt : Step → Bool
@@ -80,7 +82,8 @@ module _ (J : Job) (b goal T t : ℕ) where
 
     -- it is in the plan, or it is not
     pub dead-choose : (L : List Step)
-        → (b + actionOf J i .duration ≤ t → Dead J b goal T (Open b t (alsoDecided done i)) (stepStopping J i t ∷ L))
+        → (FitsFrom b i (actionOf J i .duration) t
+        → Dead J b goal T (Open b t (alsoDecided done i)) (stepStopping J i t ∷ L))
         → Dead J b goal T (Open b t (alsoDecided done i)) L → Dead J b goal T (Open b t done) L
     dead-choose L with without E h p =
         ⊎-elim
@@ -92,10 +95,8 @@ module _ (J : Job) (b goal T t : ℕ) where
         let stops = eqb-true (x .stop) t (and-left (eqb (x .stop) t) _ (r .3)) in
         let number = eqb-true (x .number) i (and-right (eqb (x .stop) t) _ (r .3)) in
         let is = own-is-stopping J x i t (p .plan .own x (R ++ L) (place-append L j)) number stops in
-        let new = h x R j .0 in
-        let duration = is .1 in
         let q : NormalPlan J b goal T (R ++ (x ∷ L)) = normal-plan-permuted J b goal T (taken L j) p in
-        with (omega arith) R
+        with (fits-of-new b i (actionOf J i .duration) t x number (is .1) (h x R j .0)) R
         (λ y Q k.
         let w = place-wider j k in
         other-open y (only-one E L p j (r .3) y Q k) (h y (w .0) (w .1)))
@@ -112,7 +113,8 @@ module _ (J : Job) (b goal T t : ℕ) where
 
   -- more are decided: those of which no step stops at t in any plan
   pub dead-when-barred : (done more : ℕ → Bool) (L : List Step)
-      → ((a : ℕ) → a < length (J .actions) → done a ≡ false → more a ≡ true → b + actionOf J a .duration ≤ t
+      → ((a : ℕ) → a < length (J .actions) → done a ≡ false → more a ≡ true
+      → FitsFrom b a (actionOf J a .duration) t
       → Dead J b goal T (Until b t) (stepStopping J a t ∷ L))
       → Dead J b goal T (Open b t more) L → Dead J b goal T (Open b t done) L
   dead-when-barred done more L barred dead E h p =
@@ -127,11 +129,10 @@ module _ (J : Job) (b goal T t : ℕ) where
             (λ e.
             let inPlan = place-append L j in
             let is = own-is-stopping J x (x .number) t (p .plan .own x (R ++ L) inPlan) refl (at .0) in
-            let new = o .0 in
-            let duration = is .1 in
+            let fits = fits-of-new b (x .number) (actionOf J (x .number) .duration) t x refl (is .1) (o .0) in
             let q : NormalPlan J b goal T (R ++ (x ∷ L)) = normal-plan-permuted J b goal T (taken L j) p in
             absurd
-            (barred (x .number) (p .plan .known x (R ++ L) inPlan) (at .1) e (omega arith) R
+            (barred (x .number) (p .plan .known x (R ++ L) inPlan) (at .1) e fits R
             (λ y Q k.
             let w = place-wider j k in
             open-until y (h y (w .0) (w .1)))

@@ -11,6 +11,7 @@ use lib.ListN.{length}
 use borrow.Author.Tests.{ne-eqb}
 use Rattle.job.specs.Job.{Job}
 use Rattle.timeline.specs.Step.{Step}
+use Rattle.timeline.specs.From.{From}
 use Rattle.timeline.proofs.Tests.{not-both, false-unless, or-neither}
 use Rattle.timeline.proofs.Places.{EachStep, place-append, any-of-none}
 use Rattle.regression.specs.Normal.{touchesAt, eventMinute}
@@ -26,7 +27,7 @@ no-event J T L m before none =
     (any-of-none (touchesAt J m) L
     (λ x Q i. false-unless (touchesAt J m x) (λ t. none x Q i (touches-reads J m x t))))
 
-module _ (J : Job) (b goal T : ℕ) (L : List Step) where
+module _ (J : Job) (b : From) (goal T : ℕ) (L : List Step) where
   dead-before-no-event : (m : ℕ) → eventMinute J T L (suc m) ≡ false → Dead J b goal T (Until b m) L
       → Dead J b goal T (Until b (suc m)) L
   dead-before-no-event m none dead E h p =

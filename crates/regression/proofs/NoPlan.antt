@@ -12,9 +12,11 @@ use Rattle.job.specs.Refusal.{first}
 use Rattle.job.specs.declared.refusal.Verdict.the-variants.{Pass}
 use Rattle.job.proofs.Passed.{Passed}
 use Rattle.timeline.specs.Step.{Step, stepsIn, strictlyRising}
+use Rattle.timeline.specs.From.{From, fromMinute, IsNew, IsKept}
 use Rattle.timeline.specs.Timeline.{end}
 use Rattle.timeline.specs.Accepted.{Accepted, stepRows}
 use Rattle.timeline.proofs.Places.{here, Member, EachStep, each-step, place-append}
+use Rattle.timeline.proofs.NewSteps.{new-from-minute, new-of-minute}
 use Rattle.timeline.proofs.AcceptedSteps.{accepted-steps}
 use Rattle.timeline.proofs.Keeps.{keeps-of-accepted}
 use Rattle.timeline.proofs.JobSteps.{OfJob, lasting-of-known, steps-in-bytes, steps-of-accepted}
@@ -26,17 +28,17 @@ use Rattle.times.proofs.PlanSteps.{PlanOf}
 use Rattle.regression.specs.DeadEnd.{NormalPlan, Until, Dead}
 use Rattle.regression.proofs.NormalPlans.{normal-plan-exists, normal-plan-apart, normal-plan-accepted}
 
-module _ (J : Job) (b goal T : ℕ) where
+module _ (J : Job) (b : From) (goal T : ℕ) where
   -- ---- nothing is left to choose
   -- where no new step can stop by t, what holds of no normal plan of the steps L is a dead end
-  dead-when-none-left : (t : ℕ) → t ≤ b → (L : List Step) → (NormalPlan J b goal T L → ⊥)
+  dead-when-none-left : (t : ℕ) → t ≤ b .minute → (L : List Step) → (NormalPlan J b goal T L → ⊥)
       → Dead J b goal T (Until b t) L
   dead-when-none-left t l L none [] h p = none p
   dead-when-none-left t l L none (x ∷ E) h p =
-      let u = h x E here in let a = u .0 in let c = u .1 in let d = u .2 in omega arith
+      let u = h x E here in let a = new-from-minute b x (u .0) in let c = u .1 in let d = u .2 in omega arith
 
   -- R is L in rising order, and it is refused or ends after T
-  pub dead-when-refused : T ≤ J .deadline → (t : ℕ) → t ≤ b → (L R : List Step) → Permutation R L
+  pub dead-when-refused : T ≤ J .deadline → (t : ℕ) → t ≤ b .minute → (L R : List Step) → Permutation R L
       → (AllApart L → strictlyRising R ≡ true) → (first (stepRows J goal R) ≡ Pass → end R ≤ T → ⊥)
       → Dead J b goal T (Until b t) L
   dead-when-refused d t l L R o rising refused =
@@ -46,7 +48,7 @@ module _ (J : Job) (b goal T : ℕ) where
       refused (accepted .0) (accepted .1))
 
   -- R is rising, and has the steps of L
-  pub dead-when-refused-by-members : T ≤ J .deadline → (t : ℕ) → t ≤ b → (L R : List Step)
+  pub dead-when-refused-by-members : T ≤ J .deadline → (t : ℕ) → t ≤ b .minute → (L R : List Step)
       → EachStep (λ x. Member x L) R → EachStep (λ x. Member x R) L → strictlyRising R ≡ true
       → (first (stepRows J goal R) ≡ Pass → end R ≤ T → ⊥) → Dead J b goal T (Until b t) L
   dead-when-refused-by-members d t l L R into back rising refused =
@@ -60,7 +62,7 @@ module _ (J : Job) (b goal T : ℕ) where
   -- ---- no plan
   -- R is an accepted plan of the new steps P and the kept steps K
   pub no-plan-when-dead : Passed J → (P K R : List Step) → Permutation R (P ++ K) → EachStep (OfJob J) R
-      → EachStep (λ x. b ≤ x .start) P → EachStep (λ x. x .start < b) K → length R ≤ 32
+      → EachStep (IsNew b) P → EachStep (IsKept b) K → length R ≤ 32
       → first (stepRows J goal R) ≡ Pass → end R ≤ T → Dead J b goal T (Until b T) K → ⊥
   no-plan-when-dead passed P K R o own new kept few pass l dead =
       let Known : Step → Type 0 = λ x. x .number < length (J .actions) in
@@ -89,9 +91,9 @@ append-nothing [] = empty
 append-nothing (x ∷ P) = next-step here (append-nothing P)
 
 -- no accepted plan ends by T
-pub no-accepted-plan-when-dead : (J : Job) (goal T : ℕ) → Passed J → Dead J 0 goal T (Until 0 T) []
+pub no-accepted-plan-when-dead : (J : Job) (goal T : ℕ) → Passed J → Dead J (fromMinute 0) goal T (Until (fromMinute 0) T) []
     → (bytes : List ℕ) → Accepted J goal bytes → end (stepsIn J bytes) ≤ T → ⊥
 no-accepted-plan-when-dead J goal T passed dead bytes accepted l =
-    no-plan-when-dead J 0 goal T passed (stepsIn J bytes) [] (stepsIn J bytes) (append-nothing (stepsIn J bytes))
-    (steps-in-bytes J bytes) (λ x Q i. omega arith) (each-step (λ x. x .start < 0) [] tt)
+    no-plan-when-dead J (fromMinute 0) goal T passed (stepsIn J bytes) [] (stepsIn J bytes) (append-nothing (stepsIn J bytes))
+    (steps-in-bytes J bytes) (λ x Q i. new-of-minute 0 x (omega arith)) (each-step (IsKept (fromMinute 0)) [] tt)
     (few-steps-of-accepted J goal bytes accepted) (steps-of-accepted J goal bytes accepted) l dead

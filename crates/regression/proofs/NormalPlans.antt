@@ -14,6 +14,7 @@ use Rattle.job.specs.Refusal.{first}
 use Rattle.job.specs.declared.refusal.Verdict.the-variants.{Pass}
 use Rattle.job.proofs.Passed.{Passed, PassedAction}
 use Rattle.timeline.specs.Step.{Step, noAction, strictlyRising}
+use Rattle.timeline.specs.From.{From, IsNew, IsKept}
 use Rattle.timeline.specs.Timeline.{end}
 use Rattle.timeline.specs.Accepted.{stepRows}
 use Rattle.timeline.proofs.Places.{EachStep, append-cases, place-append, place-after}
@@ -21,6 +22,7 @@ use Rattle.timeline.proofs.Clashes.{no-clash-of-test}
 use Rattle.timeline.proofs.Keeps.{accepted-of-keeps}
 use Rattle.timeline.proofs.JobSteps.{OfJob}
 use Rattle.timeline.proofs.Shift.{later}
+use Rattle.timeline.proofs.NewSteps.{not-new-and-kept, new-later}
 use Rattle.timeline.proofs.Permutations.{Permutation, permutation-member, permutation-each, permutation-length}
 use Rattle.timeline.proofs.Permutations.{permutation-keeps}
 use Rattle.timeline.proofs.Rising.{AllApart}
@@ -39,16 +41,16 @@ each-right : (X : Step → Type 0) (P K : List Step) → EachStep X (P ++ K) →
 each-right X P K h x Q i = h x (P ++ Q) (place-after P i)
 
 -- what holds of each step of P holds of each new step, where those of K are kept ones
-each-new : (b : ℕ) (X : Step → Type 0) (P K : List Step) → EachStep (λ x. x .start < b) K → EachStep X P
-    → EachStep (λ x. b ≤ x .start → X x) (P ++ K)
+each-new : (b : From) (X : Step → Type 0) (P K : List Step) → EachStep (IsKept b) K → EachStep X P
+    → EachStep (λ x. IsNew b x → X x) (P ++ K)
 each-new b X P K kept h =
-    each-append (λ x. b ≤ x .start → X x) P K (λ x Q i new. h x Q i)
-    (λ x Q i new. let before = kept x Q i in absurd (omega arith))
+    each-append (λ x. IsNew b x → X x) P K (λ x Q i new. h x Q i)
+    (λ x Q i new. absurd (not-new-and-kept b x new (kept x Q i)))
 
 -- ---- every plan of the job has a normal one
--- a step of an action of the job that starts at minute b or later
-abbrev NewStep : Job → ℕ → Step → Type 0
-NewStep J b x = OfJob J x × (x .number < length (J .actions)) × (b ≤ x .start)
+-- a new step of an action of the job
+abbrev NewStep : Job → From → Step → Type 0
+NewStep J b x = OfJob J x × (x .number < length (J .actions)) × IsNew b x
 
 own-later : (J : Job) (x : Step) → OfJob J x → OfJob J (later x)
 own-later J x own =
@@ -58,8 +60,8 @@ own-later J x own =
     ∙ ap {B = Step}
     (λ m. record { number = x .number; action = actionOf J (x .number); start = suc (x .start); stop = m }) e
 
-new-later : (J : Job) (b : ℕ) (x : Step) → NewStep J b x → NewStep J b (later x)
-new-later J b x new = let l = new .2 in (own-later J x (new .0), new .1, omega arith)
+new-step-later : (J : Job) (b : From) (x : Step) → NewStep J b x → NewStep J b (later x)
+new-step-later J b x new = (own-later J x (new .0), new .1, new-later b x (new .2))
 
 -- no action of a job that passes its tests adds what it deletes
 own-effects : (J : Job) → Passed J → (x : Step) → OfJob J x → x .number < length (J .actions)
@@ -68,15 +70,15 @@ own-effects J passed x own known =
     let a = each-at (PassedAction (J .facts)) (J .actions) noAction (passed .actions) (x .number) known in
     ap (λ (y : Step). meets (y .action .adds) (y .action .deletes)) own ∙ a .effects
 
-module _ (J : Job) (b goal T : ℕ) where
+module _ (J : Job) (b : From) (goal T : ℕ) where
   -- a plan of new steps P and kept steps K, which stay as they are
-  pub normal-plan-exists : Passed J → (P K : List Step) → PlanOf J T goal (P ++ K) → EachStep (λ x. b ≤ x .start) P
-      → EachStep (λ x. x .start < b) K → length (P ++ K) ≤ 32
-      → (F : List Step) × EachStep (λ x. b ≤ x .start) F × NormalPlan J b goal T (F ++ K)
+  pub normal-plan-exists : Passed J → (P K : List Step) → PlanOf J T goal (P ++ K) → EachStep (IsNew b) P
+      → EachStep (IsKept b) K → length (P ++ K) ≤ 32
+      → (F : List Step) × EachStep (IsNew b) F × NormalPlan J b goal T (F ++ K)
   normal-plan-exists passed P K plan new kept few =
       let Known : Step → Type 0 = λ x. x .number < length (J .actions) in
       let form : NormalForm J goal T K (NewStep J b) P
-      = normalise J goal T K (NewStep J b) (new-later J b) P (plan .keeps)
+      = normalise J goal T K (NewStep J b) (new-step-later J b) P (plan .keeps)
       (λ x Q i.
       let j = place-append K i in
       (plan .own x (Q ++ K) j, plan .known x (Q ++ K) j, new x Q i)) in
