@@ -56,6 +56,7 @@ frameOf job goal first kept given =
       start = job .start;
       goal = goal;
       first = first;
+      least = 0;
       horizon = job .deadline;
       kept = kept;
       origin = 0;

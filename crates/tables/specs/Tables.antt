@@ -9,6 +9,7 @@ use lib.ListN.{length, getD, set, replicate}
 use Rattle.facts.specs.FactSet.{has}
 use Rattle.job.specs.Job.{Job}
 use Rattle.timeline.specs.Step.{Step, stepOf}
+use Rattle.timeline.specs.From.{From, IsNew}
 use Rattle.timeline.specs.Timeline.{hinders}
 use Rattle.times.specs.Earliest.{actionOf}
 use Rattle.tables.specs.declared.Frame.{Frame}
@@ -114,9 +115,14 @@ pushed steps number start =
 abbrev pub keptOf : Job → Frame → List Step
 keptOf J frame = chosen J (frame .kept)
 
--- the frame's kept steps stand first, and the others start at the first free minute or later
+-- where new steps begin
+abbrev pub fromOf : Frame → From
+fromOf frame = record { minute = frame .first; number = frame .least }
+
+-- the frame's kept steps stand first, and the others are new
 pub record KeepsKept (frame : Frame) (steps : Steps) : Type 0 where
   pub count : frame .kept .count ≤ steps .count
   pub numbers : (k : ℕ) → k < frame .kept .count → getD (steps .numbers) k 0 ≡ getD (frame .kept .numbers) k 0
   pub starts : (k : ℕ) → k < frame .kept .count → getD (steps .starts) k 0 ≡ getD (frame .kept .starts) k 0
-  pub new : (k : ℕ) → frame .kept .count ≤ k → k < steps .count → frame .first ≤ getD (steps .starts) k 0
+  pub new : (J : Job) (k : ℕ) → frame .kept .count ≤ k → k < steps .count
+      → IsNew (fromOf frame) (stepOf J (getD (steps .numbers) k 0) (getD (steps .starts) k 0))
