@@ -12,11 +12,12 @@ use Rattle.facts.specs.FactSet.{has, difference, Subset}
 use Rattle.facts.proofs.SetLaws.{in-union-cases}
 use Rattle.job.specs.Job.{Job}
 use Rattle.timeline.specs.Step.{Step, total}
+use Rattle.timeline.specs.From.{From, IsNew}
 use Rattle.timeline.specs.Timeline.{held}
 use Rattle.timeline.proofs.Tests.{not-both, or-neither, le-or-lt}
-use Rattle.timeline.proofs.Places.{append-cases}
 use Rattle.timeline.proofs.Places.{Place, EachStep, split-place, place-append, each-cons, length-place, total-zero}
 use Rattle.timeline.proofs.Places.{below-none}
+use Rattle.timeline.proofs.NewSteps.{new-from-minute, new-both-from-minute}
 use Rattle.times.specs.Earliest.{actionOf}
 use Rattle.times.proofs.PlanSteps.{PlanOf, Paired, own-action, own-stop, needs-at}
 use Rattle.times.proofs.PlanSteps.{paired-when-shared}
@@ -77,8 +78,12 @@ each-of-none : (F : Step → Type 0) → EachStep F []
 each-of-none F x Q i = let one = length-place i in absurd (omega arith)
 
 -- ---- adders of facts that are apart
+-- a step that starts at minute b or later, and stops by minute t
+abbrev Within : ℕ → ℕ → Step → Type 0
+Within b t x = (b ≤ x .start) × (x .start < x .stop) × (x .stop ≤ t)
+
 module _ (J : Job) (b t goal T : ℕ) (E L K : List Step) (plan : PlanOf J T goal (E ++ L))
-    (until : EachStep (Until b t) E)
+    (until : EachStep (Within b t) E)
     (never-holds : (set : ℕ) → NeverHolds J b K set → (m : ℕ) → b ≤ m → Subset set (held (J .start) (E ++ L) m) → ⊥)
   where
     abbrev use-of : ℕ → ℕ → ℕ
@@ -207,26 +212,26 @@ module _ (J : Job) (b t goal T : ℕ) (E L K : List Step) (plan : PlanOf J T goa
             omega arith
 
 -- chosen steps beside the kept ones
-pub never-beside-chosen : (J : Job) (b t goal T : ℕ) (C K : List Step) → b ≤ T → EachStep (λ x. b ≤ x .start) C
-    → (E : List Step) → EachStep (Until b t) E → PlanOf J T goal (E ++ (C ++ K)) → (set : ℕ) → NeverHolds J b K set
-    → (m : ℕ) → b ≤ m → Subset set (held (J .start) (E ++ (C ++ K)) m) → ⊥
+pub never-beside-chosen : (J : Job) (b : From) (t goal T : ℕ) (C K : List Step) → b .minute ≤ T → EachStep (IsNew b) C
+    → (E : List Step) → EachStep (Until b t) E → PlanOf J T goal (E ++ (C ++ K)) → (set : ℕ)
+    → NeverHolds J (b .minute) K set → (m : ℕ) → b .minute ≤ m → Subset set (held (J .start) (E ++ (C ++ K)) m) → ⊥
 never-beside-chosen J b t goal T C K inTime new E until plan set never m after holds =
-    never T goal inTime (E ++ C)
-    (λ x Q i. ⊎-elim (λ r. until x (r .0) (r .1) .0) (λ r. new x (r .0) (r .1)) (append-cases E C i))
-    (rw append-assoc plan) m after (rw append-assoc holds)
+    never T goal inTime (E ++ C) (new-both-from-minute b E C (λ x Q i. until x Q i .0) new) (rw append-assoc plan) m after (rw append-assoc holds)
 
 -- what must hold at minute t has landmarks whose adders take more minutes than there are
-pub dead-when-clique-too-long : (J : Job) (b goal T t : ℕ) → b ≤ t → t ≤ T → (C K : List Step)
-    → EachStep (λ x. t < x .stop) C → EachStep (λ x. b ≤ x .start) C → (given hand n : ℕ) (marks : ℕ → ℕ)
-    → AddedByNew J b K given hand n marks → (apart least : ℕ → ℕ) → Cliques J b K n apart least → (rest minutes : ℕ)
+pub dead-when-clique-too-long : (J : Job) (b : From) (goal T t : ℕ) → b .minute ≤ t → t ≤ T → (C K : List Step)
+    → EachStep (λ x. t < x .stop) C → EachStep (IsNew b) C → (given hand n : ℕ) (marks : ℕ → ℕ)
+    → AddedByNew J (b .minute) K given hand n marks → (apart least : ℕ → ℕ) → Cliques J (b .minute) K n apart least
+    → (rest minutes : ℕ)
     → Taken n apart least (difference (marksOf marks n (mustHold goal T (C ++ K) t)) given) rest minutes
-    → t - b < minutes → Dead J b goal T (Until b t) (C ++ K)
+    → t - b .minute < minutes → Dead J b goal T (Until b t) (C ++ K)
 dead-when-clique-too-long J b goal T t after inTime C K later new given hand n marks added apart least cliques rest
     minutes taken exceeds E until normal =
     let brought = added-in-rest J b goal T t C K later new given hand n marks added E until (normal .plan)
     (mustHold goal T (C ++ K) t) after
     (must-hold-holds J goal T E (C ++ K) (normal .plan .keeps) t (λ x Q i. until x Q i .2) t (omega arith) inTime) in
-    let within = clique-within J b t goal T E (C ++ K) K (normal .plan) until
+    let within = clique-within J (b .minute) t goal T E (C ++ K) K (normal .plan)
+    (λ x Q i. let u = until x Q i in (new-from-minute b x (u .0), u .1, u .2))
     (never-beside-chosen J b t goal T C K (omega arith) new E until (normal .plan)) n apart least cliques _
     (λ p h. brought p h .0) after rest minutes taken in
     omega arith

@@ -13,8 +13,10 @@ use Rattle.facts.specs.FactSet.{has, difference, Subset}
 use Rattle.facts.proofs.SetLaws.{in-difference-parts}
 use Rattle.job.specs.Job.{Action, Job}
 use Rattle.timeline.specs.Step.{Step, total}
+use Rattle.timeline.specs.From.{From, IsNew}
 use Rattle.timeline.specs.Timeline.{held, storeUse, storeCap, usedUp}
 use Rattle.timeline.proofs.Places.{EachStep, append-cases, place-append, total-append, total-mono}
+use Rattle.timeline.proofs.NewSteps.{new-both-from-minute}
 use Rattle.times.proofs.PlanSteps.{PlanOf, own-action, own-stop}
 use Rattle.regression.specs.Tests.{mustHold}
 use Rattle.regression.specs.DeadEnd.{NormalPlan, Until, Dead}
@@ -27,16 +29,15 @@ use Rattle.landmarks.proofs.PoolMinutes.{minutes-within}
 use Rattle.landmarks.proofs.Sums.{shares-of-added, total-times, total-of-ones}
 
 -- what is added by a new step that stops by t is added by a step of E, where the chosen steps C stop later
-pub added-in-rest : (J : Job) (b goal T t : ℕ) (C K : List Step) → EachStep (λ x. t < x .stop) C
-    → EachStep (λ x. b ≤ x .start) C → (given hand n : ℕ) (marks : ℕ → ℕ) → AddedByNew J b K given hand n marks
-    → (E : List Step) → EachStep (Until b t) E → PlanOf J T goal (E ++ (C ++ K)) → (set : ℕ) → b ≤ t
+pub added-in-rest : (J : Job) (b : From) (goal T t : ℕ) (C K : List Step) → EachStep (λ x. t < x .stop) C
+    → EachStep (IsNew b) C → (given hand n : ℕ) (marks : ℕ → ℕ) → AddedByNew J (b .minute) K given hand n marks
+    → (E : List Step) → EachStep (Until b t) E → PlanOf J T goal (E ++ (C ++ K)) → (set : ℕ) → b .minute ≤ t
     → Subset set (held (J .start) (E ++ (C ++ K)) t) → (p : ℕ)
     → has (difference (marksOf marks n set) given) p ≡ true → AddedIn E t p × (has hand p ≡ false)
 added-in-rest J b goal T t C K later new given hand n marks added E until plan set after holds p h =
     let parts = in-difference-parts (marksOf marks n set) given p h in
-    let a = added T goal (E ++ C)
-    (λ x Q i. ⊎-elim (λ r. until x (r .0) (r .1) .0) (λ r. new x (r .0) (r .1)) (append-cases E C i))
-    (rw append-assoc plan) set t after (rw append-assoc holds) p (parts .0) (parts .1) in
+    let a = added T goal (E ++ C) (new-both-from-minute b E C (λ x Q i. until x Q i .0) new) (rw append-assoc plan)
+    set t after (rw append-assoc holds) p (parts .0) (parts .1) in
     let stops = a .0 .3 in (
       ⊎-elim
           (λ r. record { by = a .0 .0; rest = r .0; place = r .1; stops = a .0 .3; adds = a .0 .4 })
@@ -45,9 +46,9 @@ added-in-rest J b goal T t C K later new given hand n marks added E until plan s
       a .1,
     )
 
-module _ (J : Job) (b goal T t : ℕ) (after : b ≤ t) (inTime : t ≤ T) (C K : List Step)
-    (later : EachStep (λ x. t < x .stop) C) (new : EachStep (λ x. b ≤ x .start) C) (given hand n : ℕ)
-    (marks : ℕ → ℕ) (added : AddedByNew J b K given hand n marks) (share : ℕ → ℕ) where
+module _ (J : Job) (b : From) (goal T t : ℕ) (after : b .minute ≤ t) (inTime : t ≤ T) (C K : List Step)
+    (later : EachStep (λ x. t < x .stop) C) (new : EachStep (IsNew b) C) (given hand n : ℕ)
+    (marks : ℕ → ℕ) (added : AddedByNew J (b .minute) K given hand n marks) (share : ℕ → ℕ) where
   abbrev L : List Step
   L = C ++ K
 
@@ -105,7 +106,7 @@ module _ (J : Job) (b goal T t : ℕ) (after : b ≤ t) (inTime : t ≤ T) (C K 
 
   -- the pool opens at minute m
   pub dead-when-pool-short : (pool : ℕ) → pool < length (J .pools) → (scale m : ℕ)
-      → Shares J hand share n (λ a. scale * (getD (a .pools) pool 0 * a .duration)) → OpensAt J b K pool m
+      → Shares J hand share n (λ a. scale * (getD (a .pools) pool 0 * a .duration)) → OpensAt J (b .minute) K pool m
       → scale * (getD (J .pools) pool 0 * (t - m))
       < sumOver share n missing + scale * total (λ x. getD (x .action .pools) pool 0 * minutesIn m t x) L
       → Dead J b goal T (Until b t) L
@@ -116,8 +117,7 @@ module _ (J : Job) (b goal T t : ℕ) (after : b ≤ t) (inTime : t ≤ T) (C K 
       let sum = minutes-within J pool m t (getD (J .pools) pool 0) (E ++ L)
       (λ k. normal .plan .keeps .pools pool k inside) in
       let parts = total-append used E L in
-      let late = opens T goal (E ++ C)
-      (λ x Q i. ⊎-elim (λ r. until x (r .0) (r .1) .0) (λ r. new x (r .0) (r .1)) (append-cases E C i))
+      let late = opens T goal (E ++ C) (new-both-from-minute b E C (λ x Q i. until x Q i .0) new)
       (rw append-assoc (normal .plan)) in
       let whole = total-mono (λ x. getD (x .action .pools) pool 0 * x .action .duration) used E
       (λ x Q i.

@@ -20,6 +20,7 @@ use Rattle.job.proofs.Resuming.{job-in-resumed}
 use Rattle.jobfile.specs.declared.Reading.{Reading}
 use Rattle.jobfile.specs.Answers.{readFile}
 use Rattle.timeline.specs.Step.{Step, stepsIn, planBytes}
+use Rattle.timeline.specs.From.{From}
 use Rattle.timeline.specs.Timeline.{end}
 use Rattle.timeline.specs.Accepted.{stepRows}
 use Rattle.timeline.proofs.Tests.{not-both}
@@ -74,7 +75,8 @@ module _ (J : Job) (frame : Frame) (steps s : Steps) (same : Reordered steps s) 
       subst (λ (P : List Step). Permutation P (chosen J steps)) (sym e) order
 
   dead : first (jobRows J) ≡ Pass → Asked J frame steps → (r : Answer)
-      → Answers J (frame .goal) (frame .horizon) s r → r .found ≡ false → (b t : ℕ) → t ≤ b
+      → Answers J (frame .goal) (frame .horizon) s r → r .found ≡ false → (b : From) (t : ℕ)
+      → t ≤ b .minute
       → Dead J b (frame .goal) (frame .horizon) (Until b t) (chosen J steps)
   dead pass asked r a h b t l =
       dead-when-refused J b (frame .goal) (frame .horizon) (asked .inTime) t l (chosen J steps) (inOrder J s) order

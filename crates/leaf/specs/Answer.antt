@@ -16,6 +16,7 @@ use Rattle.job.specs.Resumed.{resumed}
 use Rattle.job.specs.Valid.{jobRows}
 use Rattle.jobfile.specs.Answers.{readFile}
 use Rattle.timeline.specs.Step.{stepsIn, planBytes}
+use Rattle.timeline.specs.From.{From}
 use Rattle.timeline.specs.Timeline.{end}
 use Rattle.timeline.specs.Accepted.{Accepted}
 use Rattle.timeline.proofs.Permutations.{Permutation}
@@ -79,5 +80,6 @@ pub record Finishes (file : List ℕ) (frame : Frame) (steps : Steps) (r : Answe
   pub same : r .found ≡ true → (J : Job) → FileOf J file (frame .start) (frame .stocks) → Known (length (J .actions)) steps
       → ((k : ℕ) → k < steps .count → getD (steps .starts) k 0 < 65536)
       → Permutation (stepsIn J (bytesIn r)) (chosen J steps)
-  pub dead : r .found ≡ false → (J : Job) → FileOf J file (frame .start) (frame .stocks) → Asked J frame steps → (b t : ℕ) → t ≤ b
+  pub dead : r .found ≡ false → (J : Job) → FileOf J file (frame .start) (frame .stocks) → Asked J frame steps
+      → (b : From) (t : ℕ) → t ≤ b .minute
       → Dead J b (frame .goal) (frame .horizon) (Until b t) (chosen J steps)

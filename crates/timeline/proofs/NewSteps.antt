@@ -4,6 +4,7 @@ use Prim.Native.Nat.{ℕ, _+_, _<_, _≤_}
 use mathlib.Core.Path.{_≡_, refl}
 use mathlib.Core.Bool.{Bool, true, false, or-true}
 use mathlib.Core.Logic.{_⊎_, inl, inr, ⊎-elim}
+use mathlib.Core.List.{List, _++_}
 use native.Mathlib.Nat.{eq-or-lt-of-le}
 use native.Mathlib.Omega.{arith}
 use lib.Dec.{eqb, ltb}
@@ -12,6 +13,7 @@ use Rattle.lists.proofs.Bools.{and-left, and-right}
 use Rattle.timeline.specs.Step.{Step}
 use Rattle.timeline.specs.From.{From, fromMinute, IsNew, IsKept, isKept, FitsFrom}
 use Rattle.timeline.proofs.Tests.{decided, or-cases, and-both, trichotomy, le-or-lt}
+use Rattle.timeline.proofs.Places.{EachStep, append-cases}
 use Rattle.timeline.proofs.Shift.{later}
 
 module _ (b : From) (x : Step) where
@@ -81,3 +83,10 @@ module _ (b : From) (number duration t : ℕ) where
   pub fits-of-new : (x : Step) → x .number ≡ number → x .start + duration ≡ t → IsNew b x → FitsFrom b number duration t
   fits-of-new x e stops (inl l) = inl (omega arith)
   fits-of-new x e stops (inr n) = let same = n .0 in let l = n .1 in inr (omega arith, omega arith)
+
+-- ---- lists of new steps
+pub new-both-from-minute : (b : From) (P Q : List Step) → EachStep (IsNew b) P → EachStep (IsNew b) Q
+    → EachStep (λ x. b .minute ≤ x .start) (P ++ Q)
+new-both-from-minute b P Q p q x R i =
+    new-from-minute b x
+    (⊎-elim (λ r. p x (r .0) (r .1)) (λ r. q x (r .0) (r .1)) (append-cases P Q i))
