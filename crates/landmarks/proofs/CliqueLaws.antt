@@ -96,7 +96,8 @@ module _ (J : Job) (b t goal T : ℕ) (E L K : List Step) (plan : PlanOf J T goa
         ⊎-elim
         (λ clash.
         not-both clash
-        (or-neither (ne-eqb (x .number) (y .number) (paired .different)) (or-neither (paired .spares) (paired .spared))))
+        (or-neither (ne-eqb (x .number) (y .number) (paired .different))
+        (or-neither (paired .spares) (paired .spared))))
         (⊎-elim
         (λ exceeds.
         let inside = exceeds .1 in
@@ -201,7 +202,8 @@ module _ (J : Job) (b t goal T : ℕ) (E L K : List Step) (plan : PlanOf J T goa
               λ p h. r .1 p (inside p h),
             )
 
-        pub clique-within : b ≤ t → (allowed minutes : ℕ) → Taken n fromFacts least set allowed minutes → minutes ≤ t - b
+        pub clique-within : b ≤ t → (allowed minutes : ℕ) → Taken n fromFacts least set allowed minutes
+            → minutes ≤ t - b
         clique-within after allowed minutes taken =
             let found = found-when-taken allowed minutes taken .0 in
             let within = minutes-within b (t - b) (found .steps) (found .late) (found .one) in
@@ -216,7 +218,8 @@ pub never-beside-chosen : (J : Job) (b : From) (t goal T : ℕ) (C K : List Step
     → (E : List Step) → EachStep (Until b t) E → PlanOf J T goal (E ++ (C ++ K)) → (set : ℕ)
     → NeverHolds J (b .minute) K set → (m : ℕ) → b .minute ≤ m → Subset set (held (J .start) (E ++ (C ++ K)) m) → ⊥
 never-beside-chosen J b t goal T C K inTime new E until plan set never m after holds =
-    never T goal inTime (E ++ C) (new-both-from-minute b E C (λ x Q i. until x Q i .0) new) (rw append-assoc plan) m after (rw append-assoc holds)
+    never T goal inTime (E ++ C) (new-both-from-minute b E C (λ x Q i. until x Q i .0) new) (rw append-assoc plan) m
+    after (rw append-assoc holds)
 
 -- what must hold at minute t has landmarks whose adders take more minutes than there are
 pub dead-when-clique-too-long : (J : Job) (b : From) (goal T t : ℕ) → b .minute ≤ t → t ≤ T → (C K : List Step)

@@ -76,9 +76,10 @@ pub record Asked (J : Job) (frame : Frame) (steps : Steps) : Type 0 where
 
 -- a plan that is found is accepted and has the chosen steps; where none is, they are a dead end
 pub record Finishes (file : List ℕ) (frame : Frame) (steps : Steps) (r : Answer) : Type 0 where
-  pub found : r .found ≡ true → (J : Job) → FileOf J file (frame .start) (frame .stocks) → Found J (frame .goal) (frame .horizon) r
-  pub same : r .found ≡ true → (J : Job) → FileOf J file (frame .start) (frame .stocks) → Known (length (J .actions)) steps
-      → ((k : ℕ) → k < steps .count → getD (steps .starts) k 0 < 65536)
+  pub found : r .found ≡ true → (J : Job) → FileOf J file (frame .start) (frame .stocks)
+      → Found J (frame .goal) (frame .horizon) r
+  pub same : r .found ≡ true → (J : Job) → FileOf J file (frame .start) (frame .stocks)
+      → Known (length (J .actions)) steps → ((k : ℕ) → k < steps .count → getD (steps .starts) k 0 < 65536)
       → Permutation (stepsIn J (bytesIn r)) (chosen J steps)
   pub dead : r .found ≡ false → (J : Job) → FileOf J file (frame .start) (frame .stocks) → Asked J frame steps
       → (b : From) (t : ℕ) → t ≤ b .minute

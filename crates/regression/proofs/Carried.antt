@@ -133,4 +133,5 @@ pub dead-when-carried-late : (J : Job) (b : From) (goal T t s : ℕ) → t ≤ T
     → (set : ℕ) → ((n : ℕ) → has set n ≡ true → Carried J goal T t s done L n) → (bound set s → ⊥)
     → Dead J b goal T (Open b t done) L
 dead-when-carried-late J b goal T t s inTime done L after event bound bounds set carried late E h p =
-    late (bounds E (λ x Q i. h x Q i .0) p set s after (carried-held J b goal T t s inTime done E L h p event set carried))
+    late (bounds E (λ x Q i. h x Q i .0) p set s after
+    (carried-held J b goal T t s inTime done E L h p event set carried))

@@ -83,8 +83,8 @@ module _ (J : Job) (b : From) (goal T : ℕ) where
         (deletes-nothing-wanted J goal T E L (p .plan .keeps) t (until-stops t E h) inPlan after
         (p .effects x _ inPlan))
 
-  -- ---- of what must hold: by a bound on the minutes, from that of b on, at which the facts of a set can hold together in a
-  -- normal plan with the steps L and else new ones
+  -- ---- of what must hold: by a bound on the minutes, from that of b on, at which the facts of a set can hold together
+  -- in a normal plan with the steps L and else new ones
   abbrev pub Bounds : List Step → (ℕ → ℕ → Type 0) → Type 0
   Bounds L bound =
       (E : List Step) → EachStep (IsNew b) E → NormalPlan J b goal T (E ++ L) → (set m : ℕ) → b .minute ≤ m

@@ -91,9 +91,11 @@ append-nothing [] = empty
 append-nothing (x ∷ P) = next-step here (append-nothing P)
 
 -- no accepted plan ends by T
-pub no-accepted-plan-when-dead : (J : Job) (goal T : ℕ) → Passed J → Dead J (fromMinute 0) goal T (Until (fromMinute 0) T) []
-    → (bytes : List ℕ) → Accepted J goal bytes → end (stepsIn J bytes) ≤ T → ⊥
+pub no-accepted-plan-when-dead : (J : Job) (goal T : ℕ) → Passed J
+    → Dead J (fromMinute 0) goal T (Until (fromMinute 0) T) [] → (bytes : List ℕ) → Accepted J goal bytes
+    → end (stepsIn J bytes) ≤ T → ⊥
 no-accepted-plan-when-dead J goal T passed dead bytes accepted l =
-    no-plan-when-dead J (fromMinute 0) goal T passed (stepsIn J bytes) [] (stepsIn J bytes) (append-nothing (stepsIn J bytes))
-    (steps-in-bytes J bytes) (λ x Q i. new-of-minute 0 x (omega arith)) (each-step (IsKept (fromMinute 0)) [] tt)
-    (few-steps-of-accepted J goal bytes accepted) (steps-of-accepted J goal bytes accepted) l dead
+    no-plan-when-dead J (fromMinute 0) goal T passed (stepsIn J bytes) [] (stepsIn J bytes)
+    (append-nothing (stepsIn J bytes)) (steps-in-bytes J bytes) (λ x Q i. new-of-minute 0 x (omega arith))
+    (each-step (IsKept (fromMinute 0)) [] tt) (few-steps-of-accepted J goal bytes accepted)
+    (steps-of-accepted J goal bytes accepted) l dead

@@ -17,6 +17,7 @@ use Rattle.facts.proofs.SetLaws.{in-union-left, in-union-right, in-union-cases,
 use Rattle.facts.proofs.SetLaws.{not-in-both, no-common-member}
 use Rattle.job.specs.Job.{Job}
 use Rattle.timeline.specs.Step.{Step, unionOf}
+use Rattle.timeline.specs.From.{IsNew, FitsFrom}
 use Rattle.timeline.specs.Timeline.{free, inUse, storeUse, storeCap, usedUp, clash}
 use Rattle.timeline.specs.Accepted.{clashing}
 use Rattle.timeline.proofs.Tests.{and-both, decided, or-neither}
@@ -25,6 +26,7 @@ use Rattle.job.specs.Valid.{over}
 use Rattle.timeline.proofs.Places.{Place, here, there, EachStep, any-at, below-some}
 use Rattle.timeline.proofs.Places.{any-of-none, each-cons}
 use Rattle.timeline.proofs.Clashes.{overlap-when}
+use Rattle.timeline.proofs.NewSteps.{fits-by, new-of-fits}
 use Rattle.times.specs.Earliest.{actionOf}
 use Rattle.times.proofs.Singles.{only-in-single, in-single}
 use Rattle.regression.specs.Wanted.{wantedAt, ifStarts}
@@ -36,7 +38,7 @@ use Rattle.regression.proofs.WantedFacts.{wanted-from-stop-on}
 use Rattle.regression.proofs.DeadEnds.{dead-when-clashing, dead-when-pool-exceeded, dead-when-store-exceeded}
 use Rattle.regression.proofs.DeadEnds.{dead-when-too-many, dead-when-not-sole-provider, dead-when-not-blocked}
 use Rattle.regression.proofs.DeadEnds.{dead-when-wanted-deleted}
-use Rattle.tables.specs.Tables.{Describes, Known, clashes, clashesAt, deletesAt, addsAt, needsAt, chosen}
+use Rattle.tables.specs.Tables.{Describes, Known, clashes, clashesAt, deletesAt, addsAt, needsAt, chosen, fromOf}
 use Rattle.tables.specs.declared.Frame.{Frame}
 use Rattle.search.specs.declared.state.State.{State}
 use Rattle.search.specs.Minutes.{runsInto}
@@ -46,7 +48,7 @@ use Rattle.search.proofs.Chosen.{length-chosen, chosen-of-job, chosen-k
 
 module _ (J : Job) (sets numbers : List ℕ) (frame : Frame) (described : Describes J sets numbers frame) (st : State)
     (known-steps : Known (frame .actions) (st .steps)) (stands : Stands J frame st) (i : ℕ) (known : i < frame .actions)
-    (fits : frame .first + actionOf J i .duration ≤ st .minute) where
+    (fits : FitsFrom (fromOf frame) i (actionOf J i .duration) (st .minute)) where
   abbrev t : ℕ
   t = st .minute
 
@@ -57,22 +59,22 @@ module _ (J : Job) (sets numbers : List ℕ) (frame : Frame) (described : Descri
   x = nextStep J st i
 
   abbrev Result : Type 0
-  Result = DeadFor J frame (Until (frame .first) (st .minute)) (x ∷ L)
+  Result = DeadFor J frame (Until (fromOf frame) (st .minute)) (x ∷ L)
 
   first-place : Place x L (x ∷ L)
   first-place = here
 
   pub stops : x .stop ≡ t
-  stops = let d = described .each i known .positive in omega arith
+  stops = let l = fits-by (fromOf frame) i (actionOf J i .duration) t fits in omega arith
 
   lasts : x .start < x .stop
   lasts = let d = described .each i known .positive in omega arith
 
   starts-before : x .start < t
-  starts-before = let d = described .each i known .positive in omega arith
+  starts-before = let s = stops in let l = lasts in omega arith
 
-  new : frame .first ≤ x .start
-  new = omega arith
+  new : IsNew (fromOf frame) x
+  new = new-of-fits (fromOf frame) i (actionOf J i .duration) t x refl stops fits
 
   -- what is wanted does not change with a step that stops now
   pub wanted-still : wantedAt (frame .goal) (x ∷ L) (frame .horizon) (x .stop) ≡ st .wanted
@@ -94,14 +96,14 @@ module _ (J : Job) (sets numbers : List ℕ) (frame : Frame) (described : Descri
   pub barred-when-full : 32 ≤ st .steps .count → Result
   barred-when-full l =
       let n = length-chosen J (st .steps) (st .steps .count) in
-      dead-when-too-many J (frame .first) (frame .goal) (frame .horizon) _ (x ∷ L) (omega arith)
+      dead-when-too-many J (fromOf frame) (frame .goal) (frame .horizon) _ (x ∷ L) (omega arith)
 
   -- ---- it deletes a wanted fact
   pub barred-when-deleting : meets (deletesAt sets i) (st .wanted) ≡ true → Result
   unfolding deletesWanted
   barred-when-deleting h =
       let s = stops in
-      dead-when-wanted-deleted J (frame .first) (frame .goal) (frame .horizon) t (x ∷ L) first-place (omega arith)
+      dead-when-wanted-deleted J (fromOf frame) (frame .goal) (frame .horizon) t (x ∷ L) first-place (omega arith)
       (ap₂ meets (sym (described .each i known .deletes)) wanted-still ∙ h)
 
   -- ---- it clashes with a step that runs in the minute before
@@ -130,7 +132,7 @@ module _ (J : Job) (sets numbers : List ℕ) (frame : Frame) (described : Descri
       let s = stops in
       let c = clash-by-table y Q p h in
       let both : clashing x y ≡ true = and-both (overlap-when x y (omega arith) (omega arith)) c in
-      dead-when-clashing J (frame .first) (frame .goal) (frame .horizon) _ (x ∷ L) (rw (any-at (clashing x) p both))
+      dead-when-clashing J (fromOf frame) (frame .goal) (frame .horizon) _ (x ∷ L) (rw (any-at (clashing x) p both))
 
   pub barred-when-clashing : meets (clashesAt sets i) (st .at .running) ≡ true → Result
   barred-when-clashing h =
@@ -147,7 +149,7 @@ module _ (J : Job) (sets numbers : List ℕ) (frame : Frame) (described : Descri
   unfolding solelyProvides
   barred-when-adding-nothing-wanted h =
       let s = stops in
-      dead-when-not-sole-provider J (frame .first) (frame .goal) (frame .horizon) t (x ∷ L) first-place
+      dead-when-not-sole-provider J (fromOf frame) (frame .goal) (frame .horizon) t (x ∷ L) first-place
       (omega arith) new
       (no-common-member _ _
       (λ n a w.
@@ -170,7 +172,7 @@ module _ (J : Job) (sets numbers : List ℕ) (frame : Frame) (described : Descri
   unfolding solelyProvides
   barred-when-provided apart h =
       let s = stops in
-      dead-when-not-sole-provider J (frame .first) (frame .goal) (frame .horizon) t (x ∷ L) first-place
+      dead-when-not-sole-provider J (fromOf frame) (frame .goal) (frame .horizon) t (x ∷ L) first-place
       (omega arith) new
       (no-common-member _ _
       (λ n a w.
@@ -292,7 +294,7 @@ module _ (J : Job) (sets numbers : List ℕ) (frame : Frame) (described : Descri
     unfolding blocked free
     barred-when-free early room =
         let s = stops in
-        dead-when-not-blocked J (frame .first) (frame .goal) (frame .horizon) t (x ∷ L) first-place (omega arith) new
+        dead-when-not-blocked J (fromOf frame) (frame .goal) (frame .horizon) t (x ∷ L) first-place (omega arith) new
         (or-neither (ne-eqb (x .stop) (frame .horizon) (λ e. omega arith))
         (or-neither
         (any-of-none (blocks x) (x ∷ L) (each-cons (λ y. blocks x y ≡ false) x L spares-own spares)) has-room))
@@ -326,7 +328,7 @@ module _ (J : Job) (sets numbers : List ℕ) (frame : Frame) (described : Descri
       let share = getD (x .action .pools) pool 0 in
       let own : cond (leb (x .start) m && ltb m (x .stop)) share 0 ≡ share =
       rw (le-leb (x .start) m (omega arith), lt-ltb m (x .stop) (omega arith)) in
-      dead-when-pool-exceeded J (frame .first) (frame .goal) (frame .horizon) _ (x ∷ L) pool m (r .1) (omega arith)
+      dead-when-pool-exceeded J (fromOf frame) (frame .goal) (frame .horizon) _ (x ∷ L) pool m (r .1) (omega arith)
 
   -- in the minute before it stops
   pub barred-when-pools-exceeded : (m : ℕ) → suc m ≡ st .minute → exceedsPools J L i m ≡ true → Result
@@ -339,4 +341,4 @@ module _ (J : Job) (sets numbers : List ℕ) (frame : Frame) (described : Descri
       let r = below-some (length (J .stores)) _ h in
       let store : ℕ = r .0 in
       let over = ltb-true (storeCap J store) (usedUp J store L + getD (x .action .stores) store 0) (r .2) in
-      dead-when-store-exceeded J (frame .first) (frame .goal) (frame .horizon) _ (x ∷ L) store (r .1) (omega arith)
+      dead-when-store-exceeded J (fromOf frame) (frame .goal) (frame .horizon) _ (x ∷ L) store (r .1) (omega arith)

@@ -9,10 +9,11 @@ use lib.ListN.{getD}
 use Rattle.facts.specs.FactSet.{has}
 use Rattle.job.specs.Job.{Job}
 use Rattle.timeline.specs.Step.{Step}
+use Rattle.timeline.specs.From.{FitsFrom}
 use Rattle.timeline.proofs.Places.{Member}
 use Rattle.times.specs.Earliest.{actionOf}
 use Rattle.regression.specs.DeadEnd.{Until}
-use Rattle.tables.specs.Tables.{Describes, Known, chosen, clashesAt, durationAt}
+use Rattle.tables.specs.Tables.{Describes, Known, chosen, clashesAt, durationAt, fromOf}
 use Rattle.tables.specs.declared.Frame.{Frame}
 use Rattle.search.specs.declared.state.State.{State}
 use Rattle.search.specs.declared.amounts.Uses.{Uses}
@@ -26,7 +27,8 @@ use Rattle.search.proofs.Chosen.{stepAt, chosen-at-place}
 -- action i would stop at the state's minute; the chosen step at place k stops before that, and after the action's start
 module _ (J : Job) (sets numbers : List ℕ) (frame : Frame) (described : Describes J sets numbers frame) (st : State)
     (known-steps : Known (frame .actions) (st .steps)) (stands : Stands J frame st) (i : ℕ) (known : i < frame .actions)
-    (fits : frame .first + actionOf J i .duration ≤ st .minute) (k : ℕ) (chosen-step : k < st .steps .count) (stop : ℕ)
+    (fits : FitsFrom (fromOf frame) i (actionOf J i .duration) (st .minute)) (k : ℕ)
+    (chosen-step : k < st .steps .count) (stop : ℕ)
     (stops : stop ≡ getD (st .steps .starts) k 0 + durationAt numbers (getD (st .steps .numbers) k 0))
     (before : stop < st .minute) (after : st .minute < stop + durationAt numbers i) where
   abbrev L : List Step
@@ -36,7 +38,7 @@ module _ (J : Job) (sets numbers : List ℕ) (frame : Frame) (described : Descri
   y = stepAt J (st .steps) k
 
   abbrev Result : Type 0
-  Result = DeadFor J frame (Until (frame .first) (st .minute)) (nextStep J st i ∷ L)
+  Result = DeadFor J frame (Until (fromOf frame) (st .minute)) (nextStep J st i ∷ L)
 
   known-step : y .number < frame .actions
   known-step = known-steps .known k chosen-step

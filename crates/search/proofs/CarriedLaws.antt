@@ -41,7 +41,7 @@ module _ (J : Job) (sets numbers : List ℕ) (frame : Frame) (described : Descri
 
   -- ---- the event minute
   pub event-before : (from s : ℕ) → NoStartBetween (st .steps) from t → LatestStart numbers left t from 64 s
-      → EventBefore J (frame .first) t s done L
+      → EventBefore J t s done L
   event-before from s none latest =
       let before = latest .before in
       let after = latest .notBefore in

@@ -10,9 +10,10 @@ use lib.ListN.{length, getD, length-set}
 use lib.Seq.{getD-set-same, getD-set-other}
 use Rattle.job.specs.Job.{Job}
 use Rattle.timeline.specs.Step.{Step, stepOf}
+use Rattle.timeline.specs.From.{IsNew}
 use Rattle.timeline.proofs.Places.{Place, here, there, Member, EachStep}
 use Rattle.timeline.proofs.JobSteps.{OfJob}
-use Rattle.tables.specs.Tables.{chosenTo, chosen, Known, pushed, keptOf, KeepsKept}
+use Rattle.tables.specs.Tables.{chosenTo, chosen, Known, pushed, keptOf, fromOf, KeepsKept}
 use Rattle.tables.specs.declared.Frame.{Frame}
 use Rattle.tables.specs.declared.Steps.{Steps}
 
@@ -134,25 +135,37 @@ module _ (J : Job) (frame : Frame) (steps : Steps) (keeps : KeepsKept frame step
 
   pub since-new : (C : List Step)
       → EachStep (λ x. (m : ℕ) × (frame .kept .count ≤ m) × (m < steps .count) × (x ≡ stepAt J steps m)) C
-      → EachStep (λ x. frame .first ≤ x .start) C
-  since-new C places x Q i = let r = places x Q i in rw (r .3) (keeps .new (r .0) (r .1) (r .2))
+      → EachStep (IsNew (fromOf frame)) C
+  since-new C places x Q i = let r = places x Q i in rw (r .3) (keeps .new J (r .0) (r .1) (r .2))
 
 pub keeps-pushed : (frame : Frame) (steps : Steps) (actions number start : ℕ) → Known actions steps → steps .count < 32
-    → KeepsKept frame steps → frame .first ≤ start → KeepsKept frame (pushed steps number start)
-keeps-pushed frame steps actions number start known room keeps late =
+    → KeepsKept frame steps → ((J : Job) → IsNew (fromOf frame) (stepOf J number start))
+    → KeepsKept frame (pushed steps number start)
+keeps-pushed frame steps actions number start known room keeps new =
     let l = keeps .count in
-    let n = known .starts in
+    let n = known .numbers in
+    let s = known .starts in
     record {
       count = omega arith;
       numbers = λ k m. getD-set-other (steps .numbers) (steps .count) k number 0 (λ e. omega arith) ∙ keeps .numbers k m;
       starts = λ k m. getD-set-other (steps .starts) (steps .count) k start 0 (λ e. omega arith) ∙ keeps .starts k m;
-      new = λ k m inside.
+      new = λ J k m inside.
           ⊎-elim
           (λ e.
           let same : k ≡ steps .count = omega arith in
-          rw (same, getD-set-same (steps .starts) (steps .count) start 0 (omega arith)) late)
+          rw (
+            same,
+            getD-set-same (steps .numbers) (steps .count) number 0 (omega arith),
+            getD-set-same (steps .starts) (steps .count) start 0 (omega arith),
+          )
+          (new J))
           (λ less.
-          rw (getD-set-other (steps .starts) (steps .count) k start 0 (λ e. omega arith)) (keeps .new k m (omega arith)))
+          let other : k ≡ steps .count → ⊥ = λ e. omega arith in
+          rw (
+            getD-set-other (steps .numbers) (steps .count) k number 0 other,
+            getD-set-other (steps .starts) (steps .count) k start 0 other,
+          )
+          (keeps .new J k m (omega arith)))
           (eq-or-lt-of-le inside);
     }
 

@@ -24,7 +24,7 @@ use Rattle.regression.proofs.BlockedSteps.{Touches}
 use Rattle.regression.proofs.Decisions.{alsoDecided, dead-choose, dead-decided}
 use Rattle.regression.proofs.Decisions.{dead-when-barred, dead-when-none-decided}
 use Rattle.regression.proofs.Minutes.{no-event, dead-back-to-event}
-use Rattle.tables.specs.Tables.{chosen}
+use Rattle.tables.specs.Tables.{chosen, fromOf}
 use Rattle.tables.specs.declared.Frame.{Frame}
 use Rattle.search.specs.declared.state.State.{State}
 use Rattle.search.specs.States.{DeadFor, Barred, nextStep}
@@ -51,7 +51,7 @@ module _ (J : Job) (frame : Frame) (st : State) where
       → ((a : ℕ) → a < frame .actions → has undecided a ≡ true → has left a ≡ false → Barred J frame st a)
       → DeadFor J frame (OpenIn frame st left) L → DeadFor J frame (OpenIn frame st undecided) L
   dead-past-barred count undecided left barred =
-      dead-when-barred J (frame .first) (frame .goal) (frame .horizon) t (λ a. not (has undecided a))
+      dead-when-barred J (fromOf frame) (frame .goal) (frame .horizon) t (λ a. not (has undecided a))
       (λ a. not (has left a)) L
       (λ a known before now fits.
       barred a (omega arith) (not-false (has undecided a) before) (not-true (has left a) now) fits)
@@ -61,13 +61,13 @@ module _ (J : Job) (frame : Frame) (st : State) where
       → DeadFor J frame (OpenIn frame st (difference left (single i))) (nextStep J st i ∷ L)
       → DeadFor J frame (OpenIn frame st (difference left (single i))) L → DeadFor J frame (OpenIn frame st left) L
   dead-either left i with without =
-      dead-choose J (frame .first) (frame .goal) (frame .horizon) t (λ a. not (has left a)) i L
+      dead-choose J (fromOf frame) (frame .goal) (frame .horizon) t (λ a. not (has left a)) i L
       (λ fits. less (nextStep J st i ∷ L) with) (less L without)
     where
       less : (M : List Step) → DeadFor J frame (OpenIn frame st (difference left (single i))) M
-          → DeadFor J frame (Open (frame .first) t (alsoDecided (λ a. not (has left a)) i)) M
+          → DeadFor J frame (Open (fromOf frame) t (alsoDecided (λ a. not (has left a)) i)) M
       less M =
-          dead-decided J (frame .first) (frame .goal) (frame .horizon) t (λ a. not (has (difference left (single i)) a))
+          dead-decided J (fromOf frame) (frame .goal) (frame .horizon) t (λ a. not (has (difference left (single i)) a))
           (alsoDecided (λ a. not (has left a)) i) M
           (λ a e.
           let other = or-left (eqb a i) _ e in
@@ -77,9 +77,9 @@ module _ (J : Job) (frame : Frame) (st : State) where
           ap not (in-difference left (single i) a member apart))
 
   pub dead-until : frame .actions ≤ 64 → length (J .actions) ≡ frame .actions
-      → DeadFor J frame (OpenIn frame st 18446744073709551615) L → DeadFor J frame (Until (frame .first) t) L
+      → DeadFor J frame (OpenIn frame st 18446744073709551615) L → DeadFor J frame (Until (fromOf frame) t) L
   dead-until few count dead =
-      dead-when-none-decided J (frame .first) (frame .goal) (frame .horizon) t (λ a. not (has 18446744073709551615 a)) L
+      dead-when-none-decided J (fromOf frame) (frame .goal) (frame .horizon) t (λ a. not (has 18446744073709551615 a)) L
       (λ a known. ap not (in-all-facts a (omega arith))) dead
 
   -- ---- back to the event before
@@ -93,8 +93,8 @@ module _ (J : Job) (frame : Frame) (st : State) where
         let same = ap (λ (y : Step). y .start) (k .2) in
         none (k .0) (k .1) (omega arith) (omega arith)
 
-    pub dead-back : DeadFor J frame (Until (frame .first) s) L → DeadFor J frame (OpenIn frame st 0) L
+    pub dead-back : DeadFor J frame (Until (fromOf frame) s) L → DeadFor J frame (OpenIn frame st 0) L
     dead-back dead =
-        dead-back-to-event J (frame .first) (frame .goal) (frame .horizon) L s t earlier (λ a. not (has 0 a))
+        dead-back-to-event J (fromOf frame) (frame .goal) (frame .horizon) L s t earlier (λ a. not (has 0 a))
         (λ a l. ap not (has-zero a))
         (λ m a b. no-event J (frame .horizon) L m (λ e. omega arith) (untouched m a b)) dead

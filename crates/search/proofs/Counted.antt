@@ -1,4 +1,4 @@
--- An accepted plan that counts is the kept steps, and others from the first free minute on.
+-- An accepted plan that counts is the kept steps, and new ones.
 -- Assumes nothing.
 use Prim.Native.Nat.{ℕ, _≤_, _<_}
 use mathlib.Core.Bool.{true}
@@ -10,6 +10,7 @@ use lib.ListN.{length, getD}
 use Rattle.lists.proofs.Bools.{and-left, and-right}
 use Rattle.job.specs.Job.{Job}
 use Rattle.timeline.specs.Step.{Step, stepsIn, before, strictlyRising}
+use Rattle.timeline.specs.From.{IsNew, IsKept}
 use Rattle.timeline.specs.Accepted.{Accepted}
 use Rattle.timeline.proofs.Tests.{and-both}
 use Rattle.timeline.proofs.Places.{Place, here, there, EachStep, append-cases, place-append, place-after}
@@ -18,18 +19,18 @@ use Rattle.timeline.proofs.JobSteps.{OfJob, steps-of-accepted}
 use Rattle.timeline.proofs.Permutations.{Permutation, empty, next-step, permutation-sym, permutation-trans}
 use Rattle.timeline.proofs.Permutations.{permutation-append, permutation-each, permutation-keeps, permutation-member}
 use Rattle.timeline.proofs.Rising.{rising-same-members}
+use Rattle.timeline.proofs.NewSteps.{not-new-and-kept}
 use Rattle.times.proofs.PlanSteps.{PlanOf}
-use Rattle.makespan.specs.Makespan.{begun}
-use Rattle.makespan.proofs.Search.{rising-begun, begun-are-begun}
-use Rattle.tables.specs.Tables.{Known, keptOf, KeepsKept}
+use Rattle.tables.specs.Tables.{Known, keptOf, fromOf, KeepsKept}
 use Rattle.tables.specs.declared.Steps.{Steps}
 use Rattle.tables.specs.declared.Frame.{Frame}
 use Rattle.leaf.specs.Order.{inOrder}
 use Rattle.leaf.proofs.InOrder.{in-order-permutes}
 use Rattle.leaf.specs.declared.Answer.{Answer}
 use Rattle.leaf.specs.Answer.{FileOf, Finishes, bytesIn}
-use Rattle.search.specs.Search.{CountsFor, FoundFor}
+use Rattle.search.specs.Search.{stepsBefore, CountsFor, FoundFor}
 use Rattle.search.proofs.Chosen.{chosen-splits, since-new}
+use Rattle.search.proofs.StepsBefore.{rising-splits, before-are-kept}
 
 place-behind : (x : Step) (N K : List Step) → Place x (N ++ K) (N ++ (x ∷ K))
 place-behind x [] K = here
@@ -47,15 +48,15 @@ append-swap (x ∷ K) N = next-step (place-behind x N K) (append-swap K N)
 pub record Split (J : Job) (frame : Frame) (P : List Step) : Type 0 where
   pub new : List Step
   pub same : Permutation P (new ++ keptOf J frame)
-  pub after : EachStep (λ x. frame .first ≤ x .start) new
-  pub early : EachStep (λ x. x .start < frame .first) (keptOf J frame)
+  pub after : EachStep (IsNew (fromOf frame)) new
+  pub early : EachStep (IsKept (fromOf frame)) (keptOf J frame)
 
 pub split-of-counted : (J : Job) (frame : Frame) (bytes : List ℕ) → Accepted J (frame .goal) bytes
     → CountsFor J frame bytes → Split J frame (stepsIn J bytes)
 split-of-counted J frame bytes accepted counts =
     let P : List Step = stepsIn J bytes in
     let K : List Step = inOrder J (frame .kept) in
-    let r = rising-begun (frame .first) P
+    let r = rising-splits (fromOf frame) P
     (accepted-steps J (frame .goal) P (steps-of-accepted J (frame .goal) bytes accepted) .rising) in
     let o = in-order-permutes J (frame .kept) in
     let is : P ≡ K ++ r .0 = r .1 ∙ ap (λ (Q : List Step). Q ++ r .0) counts in
@@ -64,8 +65,8 @@ split-of-counted J frame bytes accepted counts =
       same = subst (λ (Q : List Step). Permutation Q (r .0 ++ keptOf J frame)) (sym is)
           (permutation-trans (permutation-append (r .0) o) (append-swap (keptOf J frame) (r .0)));
       after = r .2;
-      early = permutation-each (λ x. x .start < frame .first) (permutation-sym o)
-          (subst (EachStep (λ x. x .start < frame .first)) counts (begun-are-begun (frame .first) P));
+      early = permutation-each (IsKept (fromOf frame)) (permutation-sym o)
+          (subst (EachStep (IsKept (fromOf frame))) counts (before-are-kept (fromOf frame) P));
     }
 
 pub plan-permuted : (J : Job) (T goal : ℕ) {R P : List Step} → Permutation R P → PlanOf J T goal P → PlanOf J T goal R
@@ -99,29 +100,29 @@ rising-front (x ∷ y ∷ P) N h =
     and-both (and-left (before x y) (strictlyRising (y ∷ (P ++ N))) h)
     (rising-front (y ∷ P) N (and-right (before x y) (strictlyRising (y ∷ (P ++ N))) h))
 
--- its begun steps are the kept ones, and both stand in rising order
+-- its steps before the frame's place are the kept ones, and both stand in rising order
 pub found-counts : (J : Job) (frame : Frame) (r : Answer) → FoundFor J frame r
-    → EachStep (λ x. x .start < frame .first) (keptOf J frame) → strictlyRising (inOrder J (frame .kept)) ≡ true
+    → EachStep (IsKept (fromOf frame)) (keptOf J frame) → strictlyRising (inOrder J (frame .kept)) ≡ true
     → CountsFor J frame (bytesIn r)
 found-counts J frame r found early rising =
     let P : List Step = stepsIn J (bytesIn r) in
-    let begunSteps : List Step = begun (frame .first) P in
+    let front : List Step = stepsBefore (fromOf frame) P in
     let order = accepted-steps J (frame .goal) P
     (steps-of-accepted J (frame .goal) (bytesIn r) (found .plan .accepted)) .rising in
-    let split = rising-begun (frame .first) P order in
+    let split = rising-splits (fromOf frame) P order in
     let kept = in-order-permutes J (frame .kept) in
-    rising-same-members begunSteps (inOrder J (frame .kept)) (rising-front begunSteps (split .0) (rw (split .1) at order))
+    rising-same-members front (inOrder J (frame .kept)) (rising-front front (split .0) (rw (split .1) at order))
     rising
     (λ x Q i.
     let inPlan = place-append (split .0) i in
     let m = permutation-member (found .same) (subst (Place x (Q ++ split .0)) (sym (split .1)) inPlan) in
-    let soon = begun-are-begun (frame .first) P x Q i in
-    ⊎-elim (λ n. let late = found .after x (n .0) (n .1) in absurd (omega arith))
+    ⊎-elim
+    (λ n. absurd (not-new-and-kept (fromOf frame) x (found .after x (n .0) (n .1)) (before-are-kept (fromOf frame) P x Q i)))
     (λ k. permutation-member (permutation-sym kept) (k .1))
     (append-cases (found .new) (keptOf J frame) (m .1)))
     (λ x Q i.
     let k = permutation-member kept i in
     let m = permutation-member (permutation-sym (found .same)) (place-after (found .new) (k .1)) in
-    let soon = early x (k .0) (k .1) in
-    ⊎-elim (λ b. b) (λ n. let late = split .2 x (n .0) (n .1) in absurd (omega arith))
-    (append-cases begunSteps (split .0) (subst (Place x (m .0)) (split .1) (m .1))))
+    ⊎-elim (λ b. b)
+    (λ n. absurd (not-new-and-kept (fromOf frame) x (split .2 x (n .0) (n .1)) (early x (k .0) (k .1))))
+    (append-cases front (split .0) (subst (Place x (m .0)) (split .1) (m .1))))

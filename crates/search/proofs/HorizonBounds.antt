@@ -15,10 +15,11 @@ use Rattle.timeline.specs.Accepted.{Accepted}
 use Rattle.timeline.proofs.Tests.{not-both}
 use Rattle.timeline.proofs.Places.{EachStep, append-cases, place-after, largest-at-least, largest-at-most}
 use Rattle.timeline.proofs.Permutations.{permutation-sym, permutation-member}
+use Rattle.timeline.proofs.NewSteps.{new-from-minute}
 use Rattle.times.proofs.PlanSteps.{plan-of-accepted}
 use Rattle.earliest.specs.Numbers.{setNumber, SameTime}
 use Rattle.makespan.proofs.LeastEnds.{ends-by-deadline}
-use Rattle.tables.specs.Tables.{keptOf}
+use Rattle.tables.specs.Tables.{keptOf, fromOf}
 use Rattle.tables.specs.declared.Frame.{Frame}
 use Rattle.leaf.specs.declared.Answer.{Answer}
 use Rattle.leaf.specs.Answer.{bytesIn}
@@ -104,7 +105,8 @@ none-before-goal J file sets numbers times frame task passed after bytes accepte
     let split = split-of-counted J frame bytes accepted counts in
     let plan = plan-permuted J last (frame .goal) (permutation-sym (split .same))
     (plan-of-accepted J (frame .goal) bytes last passed accepted (le-refl last)) in
-    let by = task .timely last (frame .goal) late (split .new) (split .after) plan (frame .goal) last late
+    let by = task .timely last (frame .goal) late (split .new)
+    (λ x Q i. new-from-minute (fromOf frame) x (split .after x Q i)) plan (frame .goal) last late
     (plan .keeps .goalHolds) .0 in
     let facts = ap (setNumber times (frame .goal)) (task .described .facts) in
     omega arith
@@ -149,7 +151,7 @@ least-when-begun J frame r passed found early bytes accepted counts =
     let m = permutation-member (found .same) i in
     ⊎-elim
     (λ n.
-    let a = found .after x (n .0) (n .1) in
+    let a = new-from-minute (fromOf frame) x (found .after x (n .0) (n .1)) in
     let b = plan .keeps .lasting x Q i in
     let c = plan .keeps .inTime x Q i in
     absurd (omega arith))

@@ -18,7 +18,7 @@ use Rattle.regression.proofs.WantedFacts.{wanted-at-horizon}
 use Rattle.regression.proofs.NoPlan.{no-plan-when-dead}
 use Rattle.timeline.proofs.JobSteps.{steps-in-bytes, steps-of-accepted}
 use Rattle.timeline.proofs.PlanBytes.{few-steps-of-accepted}
-use Rattle.tables.specs.Tables.{Describes, Known, chosen, keptOf, KeepsKept}
+use Rattle.tables.specs.Tables.{Describes, Known, chosen, keptOf, fromOf, KeepsKept}
 use Rattle.tables.specs.declared.Frame.{Frame}
 use Rattle.tables.specs.declared.Steps.{Steps}
 use Rattle.leaf.specs.declared.Answer.{Answer}
@@ -52,17 +52,17 @@ keeps-kept frame =
       count = omega arith;
       numbers = λ k l. refl;
       starts = λ k l. refl;
-      new = λ k a b. absurd (omega arith);
+      new = λ J k a b. absurd (omega arith);
     }
 
 none-when-dead : (J : Job) (frame : Frame) → Passed J
-    → DeadFor J frame (Until (frame .first) (frame .horizon)) (keptOf J frame) → NoneBy J frame
+    → DeadFor J frame (Until (fromOf frame) (frame .horizon)) (keptOf J frame) → NoneBy J frame
 none-when-dead J frame passed dead bytes accepted counts =
     let split = split-of-counted J frame bytes accepted counts in
     ⊎-elim
     (λ l.
     absurd
-    (no-plan-when-dead J (frame .first) (frame .goal) (frame .horizon) passed (split .new) (keptOf J frame)
+    (no-plan-when-dead J (fromOf frame) (frame .goal) (frame .horizon) passed (split .new) (keptOf J frame)
     (stepsIn J bytes) (split .same) (steps-in-bytes J bytes) (split .after) (split .early)
     (few-steps-of-accepted J (frame .goal) bytes accepted) (steps-of-accepted J (frame .goal) bytes accepted) l dead))
     (λ l. l)
@@ -114,13 +114,13 @@ module _ (sets numbers times : List ℕ) (frame : Frame) (whole : Whole sets num
       }
 
   -- a dead end there: no plan ends by the horizon
-  none-by-horizon : (J : Job) → Passed J → DeadFor J frame (Until (frame .first) (st .minute)) (chosen J (st .steps))
+  none-by-horizon : (J : Job) → Passed J → DeadFor J frame (Until (fromOf frame) (st .minute)) (chosen J (st .steps))
       → NoneBy J frame
   none-by-horizon J passed dead = none-when-dead J frame passed (rw (begins .minute, begins .steps) at dead)
 
   -- the answer from there is the answer for the horizon
   pub solved-by-regress : (file : List ℕ) (r : Answer)
-      → Answered file frame (NoneFrom file sets numbers times frame st (Until (frame .first) (st .minute))
+      → Answered file frame (NoneFrom file sets numbers times frame st (Until (fromOf frame) (st .minute))
       (λ J. chosen J (st .steps))) r
       → Solves file sets numbers times frame r
   solved-by-regress file r answered =
@@ -147,7 +147,7 @@ solved-by-finish file sets numbers times frame r whole early finishes =
             inTime = task .described .inTime;
             known = subst (λ (n : ℕ). Known n (frame .kept)) (sym (task .described .actions)) (whole .kept);
           })
-          (frame .first) (frame .horizon) early);
+          (fromOf frame) (frame .horizon) early);
     }
 
 pub begins-with-goal : (sets numbers : List ℕ) (frame : Frame) (t : ℕ) (at : Minute) (uses : Uses)

@@ -10,6 +10,7 @@ mod CarriedLaws
 mod CandidateLaws
 mod Completeness
 mod Steps
+pub mod StepsBefore
 pub mod Counted
 mod HorizonLaws
 mod HorizonBounds

@@ -10,11 +10,12 @@ use borrow.Author.Tests.{leb-false}
 use Rattle.facts.specs.FactSet.{union, difference}
 use Rattle.job.specs.Job.{Job}
 use Rattle.timeline.specs.Step.{Step, total}
+use Rattle.timeline.specs.From.{IsNew}
 use Rattle.timeline.specs.Timeline.{storeCap, usedUp}
 use Rattle.timeline.proofs.Places.{EachStep}
 use Rattle.regression.specs.Tests.{mustHold}
 use Rattle.regression.specs.DeadEnd.{Until}
-use Rattle.tables.specs.Tables.{Describes, chosen, keptOf, KeepsKept}
+use Rattle.tables.specs.Tables.{Describes, chosen, keptOf, fromOf, KeepsKept}
 use Rattle.tables.specs.declared.Frame.{Frame}
 use Rattle.landmarks.specs.Landmarks.{marksOf, sumOver, minutesIn}
 use Rattle.landmarks.specs.Tables.{markAt, shareFrom, rowAt}
@@ -54,7 +55,7 @@ module _ (J : Job) (sets numbers : List ℕ) (frame : Frame) (described : Descri
   unfolding since both
   same = chosen-splits J frame (st .steps) keeps .1
 
-  new-steps : EachStep (λ x. frame .first ≤ x .start) since
+  new-steps : EachStep (IsNew (fromOf frame)) since
   unfolding since
   new-steps = since-new J frame (st .steps) keeps _ (chosen-splits J frame (st .steps) keeps .2)
 
@@ -73,13 +74,13 @@ module _ (J : Job) (sets numbers : List ℕ) (frame : Frame) (described : Descri
       (ap₂ union (stands .wants) (stands .at .across)
       ∙ ap (λ (P : List Step). mustHold (frame .goal) (frame .horizon) P t) same)
 
-  back : DeadFor J frame (Until (frame .first) t) both → DeadFor J frame (Until (frame .first) t) L
-  back = subst (DeadFor J frame (Until (frame .first) t)) (sym same)
+  back : DeadFor J frame (Until (fromOf frame) t) both → DeadFor J frame (Until (fromOf frame) t) L
+  back = subst (DeadFor J frame (Until (fromOf frame) t)) (sym same)
 
   pub dead-when-store-exceeded : (store missing : ℕ) → store < 4 → store < frame .stores
       → Missing sets frame st missing
       → fits numbers store missing (getD (st .uses .spent) store 0) (getD (frame .stocks) store 0) ≡ false
-      → DeadFor J frame (Until (frame .first) (st .minute)) L
+      → DeadFor J frame (Until (fromOf frame) (st .minute)) L
   unfolding storeCap both
   dead-when-store-exceeded store missing few inside is fails =
       let count = described .stores in
@@ -90,18 +91,18 @@ module _ (J : Job) (sets numbers : List ℕ) (frame : Frame) (described : Descri
       (sumOver (shareFrom numbers (rowAt store)) 64 missing + 2520 * getD (st .uses .spent) store 0)
       (2520 * getD (frame .stocks) store 0) fails in
       back
-      (dead-when-store-short J (frame .first) (frame .goal) (frame .horizon) t notBefore (stands .inTime) since
+      (dead-when-store-short J (fromOf frame) (frame .goal) (frame .horizon) t notBefore (stands .inTime) since
       (keptOf J frame) later-steps new-steps (frame .given) (marked .hand) 64 (markAt sets) (marked .landmarks)
       (shareFrom numbers (rowAt store)) store known 2520 (marked .stores store few known)
       (rw (is ∙ missing-of, used, stock) at more))
 
   pub dead-when-minutes-exceeded : (missing minutes : ℕ) → Missing sets frame st missing
       → CliqueMinutes sets numbers missing minutes → st .minute - frame .first < minutes
-      → DeadFor J frame (Until (frame .first) (st .minute)) L
+      → DeadFor J frame (Until (fromOf frame) (st .minute)) L
   unfolding both
   dead-when-minutes-exceeded missing minutes is clique exceeds =
       back
-      (dead-when-clique-too-long J (frame .first) (frame .goal) (frame .horizon) t notBefore (stands .inTime) since
+      (dead-when-clique-too-long J (fromOf frame) (frame .goal) (frame .horizon) t notBefore (stands .inTime) since
       (keptOf J frame) later-steps new-steps (frame .given) (marked .hand) 64 (markAt sets) (marked .landmarks) (apartAt sets)
       (leastAt numbers) (marked .cliques) (clique .0) minutes (rw (is ∙ missing-of) at (clique .1)) exceeds)
 
@@ -110,7 +111,7 @@ module _ (J : Job) (sets numbers : List ℕ) (frame : Frame) (described : Descri
       used
       → fits numbers (4 + pool) missing used
       (getD (frame .available) pool 0 * (t - (openAt numbers pool + frame .origin))) ≡ false
-      → DeadFor J frame (Until (frame .first) (st .minute)) L
+      → DeadFor J frame (Until (fromOf frame) (st .minute)) L
   unfolding both
   dead-when-pool-exceeded pool missing used few inside is usedBefore fails =
       let count = described .pools in
@@ -121,7 +122,7 @@ module _ (J : Job) (sets numbers : List ℕ) (frame : Frame) (described : Descri
       let uses = usedBefore J sets (described .each) known
       ∙ ap (λ (P : List Step). total (λ x. getD (x .action .pools) pool 0 * minutesIn from t x) P) same in
       back
-      (dead-when-pool-short J (frame .first) (frame .goal) (frame .horizon) t notBefore (stands .inTime) since
+      (dead-when-pool-short J (fromOf frame) (frame .goal) (frame .horizon) t notBefore (stands .inTime) since
       (keptOf J frame) later-steps new-steps (frame .given) (marked .hand) 64 (markAt sets) (marked .landmarks)
       (shareFrom numbers (rowAt (4 + pool))) pool known 2520 from (marked .pools pool few known)
       (marked .opens pool few known)

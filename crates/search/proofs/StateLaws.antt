@@ -1,29 +1,31 @@
 -- The next state stands as the one before: an action taken, and the way back to an event minute.
 -- Assumes nothing.
 use Prim.Native.Nat.{ℕ, _+_, _-_, _≤_, _<_}
-use mathlib.Core.Path.{_≡_, sym, ap, ap₂, _∙_}
+use mathlib.Core.Path.{_≡_, refl, sym, ap, ap₂, subst, _∙_}
 use mathlib.Core.Bool.{true, false, cond, true≢false}
-use mathlib.Core.Logic.{⊎-elim}
+use mathlib.Core.Logic.{inl, inr, ⊎-elim}
 use mathlib.Core.List.{List, _∷_}
 use native.Mathlib.Nat.{eq-or-lt-of-le}
 use native.Mathlib.Omega.{arith}
-use lib.Dec.{eqb}
+use lib.Dec.{eqb, leb, ltb}
 use lib.ListN.{getD, set}
 use lib.Seq.{getD-set-same, getD-set-other}
-use borrow.Author.Tests.{eqb-true, lt-ltb, le-leb}
+use borrow.Author.Tests.{eqb-true, lt-ltb, le-leb, leb-true, leb-false, ltb-true, ltb-false}
 use Rattle.lists.proofs.Bools.{and-left, and-right}
 use Rattle.facts.specs.FactSet.{has, union, difference, meets, single}
 use Rattle.facts.proofs.Membership.{has-zero}
 use Rattle.job.specs.Job.{Job}
 use Rattle.timeline.specs.Step.{Step, stepOf}
+use Rattle.timeline.specs.From.{IsNew, FitsFrom}
 use Rattle.timeline.proofs.Tests.{or-cases, and-both, le-or-lt}
 use Rattle.timeline.proofs.Places.{here, there, EachStep}
+use Rattle.timeline.proofs.NewSteps.{fits-by, new-of-fits}
 use Rattle.times.specs.Earliest.{actionOf}
 use Rattle.times.proofs.Singles.{in-single}
 use Rattle.regression.specs.Wanted.{wantedAt}
 use Rattle.regression.proofs.Gathered.{in-unionOf, in-unionOf-from, in-cond-parts}
 use Rattle.regression.proofs.WantedBetween.{wanted-back-to}
-use Rattle.tables.specs.Tables.{Describes, Known, chosen, pushed, durationAt, clashesAt, addsAt}
+use Rattle.tables.specs.Tables.{Describes, Known, chosen, pushed, durationAt, clashesAt, addsAt, fromOf}
 use Rattle.tables.specs.declared.Frame.{Frame}
 use Rattle.tables.specs.declared.Steps.{Steps}
 use Rattle.search.specs.declared.state.State.{State}
@@ -31,7 +33,7 @@ use Rattle.search.specs.declared.minute.Minute.{Minute}
 use Rattle.search.specs.declared.amounts.Uses.{Uses}
 use Rattle.search.specs.Minutes.{runsInto, MinuteOf}
 use Rattle.search.specs.Amounts.{UsesOf}
-use Rattle.search.specs.States.{AddedTwice, Stands, nextStep}
+use Rattle.search.specs.States.{AddedTwice, Stands, nextStep, Fits, TellsNew}
 use Rattle.search.specs.Moves.{startOf, Taken, NoStartBetween, Back}
 use Rattle.search.proofs.Chosen.{place-of-chosen, chosen-pushed}
 use Rattle.search.proofs.BarredActions.{stops, wanted-still, lasting, not-running}
@@ -61,7 +63,7 @@ twice-in-more t n x L a =
 abbrev Enders : Job → Frame → Steps → ℕ → ℕ → Type 0
 Enders J frame steps t since =
     (k : ℕ) → since ≤ k → k < steps .count
-    → (frame .first ≤ getD (steps .starts) k 0)
+    → IsNew (fromOf frame) (stepOf J (getD (steps .numbers) k 0) (getD (steps .starts) k 0))
     × (getD (steps .starts) k 0 + actionOf J (getD (steps .numbers) k 0) .duration ≡ t)
 
 enders-as : (J : Job) (frame : Frame) {steps steps′ : Steps} {t t′ since since′ : ℕ} → steps ≡ steps′ → t ≡ t′
@@ -80,10 +82,42 @@ later-as J kept e f g h = rw (← e, ← f, ← g) h
 twice-as : {t t′ : ℕ} {L L′ : List Step} → t ≡ t′ → L ≡ L′ → (n : ℕ) → AddedTwice t n L → AddedTwice t′ n L′
 twice-as e f n h = rw (← e, ← f) h
 
+-- ---- an action whose step is new
+module _ (numbers : List ℕ) (frame : Frame) (st : State) (i : ℕ) (fits : Fits numbers frame st i) where
+  pub fits-in-time : frame .first + durationAt numbers i ≤ st .minute
+  fits-in-time = fits-by (fromOf frame) i (durationAt numbers i) (st .minute) fits
+
+  pub new-when-fits : (J : Job) → IsNew (fromOf frame) (stepOf J i (startOf numbers st i))
+  new-when-fits J =
+      let l = fits-in-time in
+      new-of-fits (fromOf frame) i (durationAt numbers i) (st .minute) (stepOf J i (startOf numbers st i)) refl
+      (omega arith) fits
+
+-- ---- whether it is, for the step that would stop so if it started at the first free minute
+module _ (numbers : List ℕ) (frame : Frame) (st : State) (i stop : ℕ)
+    (is : stop ≡ frame .first + durationAt numbers i) where
+  pub new-at-first : stop ≡ st .minute → TellsNew numbers frame st i (leb (frame .least) i)
+  new-at-first same =
+      record {
+        new = λ e. inr (omega arith, leb-true (frame .least) i e);
+        notNew = λ e fits.
+            let less = leb-false (frame .least) i e in
+            ⊎-elim (λ behind. omega arith) (λ at. let least = at .1 in omega arith) fits;
+      }
+
+  pub new-behind-first : (stop ≡ st .minute → ⊥) → TellsNew numbers frame st i (ltb stop (st .minute))
+  new-behind-first other =
+      record {
+        new = λ e. let l = ltb-true stop (st .minute) e in inl (omega arith);
+        notNew = λ e fits.
+            let l = ltb-false stop (st .minute) e in
+            ⊎-elim (λ behind. omega arith) (λ at. other (is ∙ at .0)) fits;
+      }
+
 -- ---- an action taken
 module _ (J : Job) (sets numbers : List ℕ) (frame : Frame) (described : Describes J sets numbers frame) (st : State)
     (known-steps : Known (frame .actions) (st .steps)) (i : ℕ) (known : i < frame .actions)
-    (room : st .steps .count < 32) (fits : frame .first + durationAt numbers i ≤ st .minute)
+    (room : st .steps .count < 32) (fits : Fits numbers frame st i)
     (r : State) (taken : Taken sets numbers st i r) where
   same-start : startOf numbers st i ≡ st .minute - actionOf J i .duration
   same-start = ap (λ (d : ℕ). st .minute - d) (described .each i known .duration)
@@ -96,8 +130,9 @@ module _ (J : Job) (sets numbers : List ℕ) (frame : Frame) (described : Descri
 
   module _ (stands : Stands J frame st) (apart : meets (clashesAt sets i) (st .at .running) ≡ false)
       (ordered : st .since ≤ st .steps .count) where
-    fits-in-job : frame .first + actionOf J i .duration ≤ st .minute
-    fits-in-job = let d = described .each i known .duration in omega arith
+    fits-in-job : FitsFrom (fromOf frame) i (actionOf J i .duration) (st .minute)
+    fits-in-job =
+        subst (λ (d : ℕ). FitsFrom (fromOf frame) i d (st .minute)) (described .each i known .duration) fits
 
     abbrev x : Step
     x = nextStep J st i
@@ -149,6 +184,7 @@ module _ (J : Job) (sets numbers : List ℕ) (frame : Frame) (described : Descri
         let n = known-steps .numbers in
         let m = known-steps .starts in
         let d = described .each i known .duration in
+        let l = fits-in-time numbers frame st i fits in
         ⊎-elim
         (λ e.
         let same : k ≡ st .steps .count = omega arith in
@@ -157,7 +193,7 @@ module _ (J : Job) (sets numbers : List ℕ) (frame : Frame) (described : Descri
           getD-set-same (st .steps .numbers) (st .steps .count) i 0 (omega arith),
           getD-set-same (st .steps .starts) (st .steps .count) (startOf numbers st i) 0 (omega arith),
         )
-        (omega arith, omega arith))
+        (new-when-fits numbers frame st i fits J, omega arith))
         (λ less.
         let other : k ≡ st .steps .count → ⊥ = λ e. omega arith in
         rw (

@@ -16,7 +16,8 @@ use Rattle.job.specs.Job.{Job}
 use Rattle.timeline.specs.Step.{Step, unionOf}
 use Rattle.timeline.specs.Timeline.{held}
 use Rattle.timeline.proofs.Tests.{and-both, decided}
-use Rattle.timeline.proofs.Places.{Member, append-cases}
+use Rattle.timeline.proofs.Places.{Member}
+use Rattle.timeline.proofs.NewSteps.{new-both-from-minute}
 use Rattle.times.proofs.PlanSteps.{PlanOf}
 use Rattle.earliest.specs.Numbers.{setNumber}
 use Rattle.landmarks.specs.Bounds.{TimesBound}
@@ -28,7 +29,7 @@ use Rattle.regression.proofs.Gathered.{in-unionOf, in-unionOf-from}
 use Rattle.regression.proofs.DeadEnds.{dead-when-not-sole-provider, dead-when-running-too-early}
 use Rattle.regression.proofs.DeadEnds.{Bounds}
 use Rattle.regression.proofs.Carried.{EventBefore, Carried, dead-when-carried-late}
-use Rattle.tables.specs.Tables.{Describes, Known, chosen, addsAt, keptOf, KeepsKept}
+use Rattle.tables.specs.Tables.{Describes, Known, chosen, addsAt, keptOf, fromOf, KeepsKept}
 use Rattle.tables.specs.declared.Steps.{Steps}
 use Rattle.tables.specs.declared.Frame.{Frame}
 use Rattle.search.specs.declared.state.State.{State}
@@ -99,11 +100,11 @@ module _ (J : Job) (sets numbers : List ℕ) (frame : Frame) (described : Descri
 
   pub dead-when-adding-nothing-alone :
       meets (difference (addsAt sets number) (union (st .at .held) (st .twice))) (st .wanted) ≡ false
-      → DeadFor J frame (Until (frame .first) (st .minute)) L
+      → DeadFor J frame (Until (fromOf frame) (st .minute)) L
   unfolding solelyProvides
   dead-when-adding-nothing-alone h =
       let s = stops-now in
-      dead-when-not-sole-provider J (frame .first) (frame .goal) (frame .horizon) t L (place .1) (omega arith)
+      dead-when-not-sole-provider J (fromOf frame) (frame .goal) (frame .horizon) t L (place .1) (omega arith)
       (stands .enders k ender inside .0)
       (no-common-member _ _
       (λ n a w.
@@ -120,7 +121,7 @@ module _ (J : Job) (frame : Frame) (times : List ℕ)
     (timely : TimesBound J (frame .first) (keptOf J frame) (frame .origin) times) (facts : J .facts ≡ frame .facts)
     (inTime : frame .first ≤ frame .horizon) (steps : Steps) (keeps : KeepsKept frame steps) where
   -- the bound of the table, with the chosen steps
-  bounds : Bounds J (frame .first) (frame .goal) (frame .horizon) (chosen J steps)
+  bounds : Bounds J (fromOf frame) (frame .goal) (frame .horizon) (chosen J steps)
       (λ set m. setNumber times set (J .facts) + frame .origin ≤ m)
   bounds E new p set m after holds =
       let split = chosen-splits J frame steps keeps in
@@ -129,7 +130,7 @@ module _ (J : Job) (frame : Frame) (times : List ℕ)
       let same : E ++ chosen J steps ≡ (E ++ D) ++ keptOf J frame =
       ap (λ (P : List Step). E ++ P) (split .1) ∙ sym (append-assoc E D (keptOf J frame)) in
       timely (frame .horizon) (frame .goal) inTime (E ++ D)
-      (λ x Q i. ⊎-elim (λ r. new x (r .0) (r .1)) (λ r. late x (r .0) (r .1)) (append-cases E D i))
+      (new-both-from-minute (fromOf frame) E D new late)
       (subst (PlanOf J (frame .horizon) (frame .goal)) same (p .plan)) set m after
       (subst (λ (P : List Step). Subset set (held (J .start) P m)) same holds) .0
 
@@ -138,17 +139,17 @@ module _ (J : Job) (frame : Frame) (times : List ℕ)
   not-by set m late h = let f = ap (setNumber times set) facts in omega arith
 
   pub dead-when-carried : (st : State) → st .steps ≡ steps → Stands J frame st → (left s set : ℕ) → frame .first ≤ s
-      → EventBefore J (frame .first) (st .minute) s (λ a. not (has left a)) (chosen J steps)
+      → EventBefore J (st .minute) s (λ a. not (has left a)) (chosen J steps)
       → ((n : ℕ) → has set n ≡ true
       → Carried J (frame .goal) (frame .horizon) (st .minute) s (λ a. not (has left a)) (chosen J steps) n)
       → s < setNumber times set (frame .facts) + frame .origin → DeadFor J frame (OpenIn frame st left) (chosen J steps)
   dead-when-carried st e stands left s set after event carried late =
-      dead-when-carried-late J (frame .first) (frame .goal) (frame .horizon) (st .minute) s (stands .inTime)
+      dead-when-carried-late J (fromOf frame) (frame .goal) (frame .horizon) (st .minute) s (stands .inTime)
       (λ a. not (has left a)) (chosen J steps) after event _ bounds set carried (not-by set s late)
 
   pub dead-when-rushed : (m : ℕ) → frame .first ≤ m
       → m < setNumber times (runningNeeds m (chosen J steps)) (frame .facts) + frame .origin → (t : ℕ)
-      → DeadFor J frame (Until (frame .first) t) (chosen J steps)
+      → DeadFor J frame (Until (fromOf frame) t) (chosen J steps)
   dead-when-rushed m after late t =
-      dead-when-running-too-early J (frame .first) (frame .goal) (frame .horizon) (chosen J steps) _ bounds t m after
+      dead-when-running-too-early J (fromOf frame) (frame .goal) (frame .horizon) (chosen J steps) _ bounds t m after
       (not-by (runningNeeds m (chosen J steps)) m late)

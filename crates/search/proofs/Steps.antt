@@ -1,6 +1,6 @@
 -- The steps of the search: what is ready stays ready, and a dead end after a step is one before it.
 -- Assumes nothing.
-use Prim.Native.Nat.{ℕ, _≤_, _<_}
+use Prim.Native.Nat.{ℕ, _+_, _≤_, _<_}
 use mathlib.Core.Path.{_≡_, refl, sym, ap, _∙_}
 use mathlib.Core.Bool.{true, false, not}
 use mathlib.Core.List.{List, _∷_}
@@ -10,7 +10,7 @@ use Rattle.job.specs.Job.{Job}
 use Rattle.timeline.specs.Step.{Step}
 use Rattle.regression.specs.DeadEnd.{Until, Open}
 use Rattle.regression.proofs.Decisions.{dead-open}
-use Rattle.tables.specs.Tables.{Known, chosen}
+use Rattle.tables.specs.Tables.{Known, chosen, durationAt, fromOf}
 use Rattle.tables.specs.declared.Frame.{Frame}
 use Rattle.tables.specs.declared.Steps.{Steps}
 use Rattle.leaf.specs.declared.Answer.{Answer}
@@ -21,8 +21,14 @@ use Rattle.search.specs.Moves.{Taken, Back, NoStartBetween}
 use Rattle.search.specs.Missing.{Fresh}
 use Rattle.search.specs.Search.{TaskOf, Ready, OpenIn}
 use Rattle.search.proofs.Chosen.{known-pushed, keeps-pushed, starts-pushed}
-use Rattle.search.proofs.StateLaws.{chosen-taken, taken-stands, back-stands}
+use Rattle.search.proofs.StateLaws.{fits-in-time, new-when-fits, chosen-taken, taken-stands}
+use Rattle.search.proofs.StateLaws.{back-stands}
 use Rattle.search.proofs.Completeness.{dead-back}
+
+-- an action that may stop at the state's minute starts at the first free minute or later
+pub starts-in-time : {sets numbers : List ℕ} {frame : Frame} {st : State} {i : ℕ}
+    → MayStop sets numbers frame st i true → frame .first + durationAt numbers i ≤ st .minute
+starts-in-time {sets} {numbers} {frame} {st} {i} may = fits-in-time numbers frame st i (may .fits refl)
 
 -- ---- an action taken
 module _ (sets numbers times : List ℕ) (frame : Frame) (st : State) (ready : Ready sets numbers times frame st) (i : ℕ)
@@ -57,7 +63,7 @@ module _ (sets numbers times : List ℕ) (frame : Frame) (st : State) (ready : R
             (let m = ready .minute in omega arith));
         kept = rw (taken .steps)
             (keeps-pushed frame (st .steps) (frame .actions) i _ (ready .safe .known) (may .room refl) (ready .kept)
-            (let f = may .fits refl in omega arith));
+            (new-when-fits numbers frame st i (may .fits refl)));
         keptKnown = ready .keptKnown;
         origin = ready .origin;
       }
@@ -80,13 +86,13 @@ module _ (sets numbers times : List ℕ) (frame : Frame) (st : State) (ready : R
     pub dead-when-taken-open : (left : ℕ) → DeadFor J frame (OpenIn frame r left) (chosen J (r .steps))
         → DeadFor J frame (OpenIn frame st left) (nextStep J st i ∷ chosen J (st .steps))
     dead-when-taken-open left dead =
-        dead-as (λ t. Open (frame .first) t (λ a. not (has left a))) (taken .minute) steps-taken dead
+        dead-as (λ t. Open (fromOf frame) t (λ a. not (has left a))) (taken .minute) steps-taken dead
 
-    pub dead-when-taken-until : (left : ℕ) → DeadFor J frame (Until (frame .first) (r .minute)) (chosen J (r .steps))
+    pub dead-when-taken-until : (left : ℕ) → DeadFor J frame (Until (fromOf frame) (r .minute)) (chosen J (r .steps))
         → DeadFor J frame (OpenIn frame st left) (nextStep J st i ∷ chosen J (st .steps))
     dead-when-taken-until left dead =
-        dead-open J (frame .first) (frame .goal) (frame .horizon) (st .minute) (λ a. not (has left a)) _
-        (dead-as (Until (frame .first)) (taken .minute) steps-taken dead)
+        dead-open J (fromOf frame) (frame .goal) (frame .horizon) (st .minute) (λ a. not (has left a)) _
+        (dead-as (Until (fromOf frame)) (taken .minute) steps-taken dead)
 
 -- ---- back to the event before
 module _ (sets numbers times : List ℕ) (frame : Frame) (st : State) (ready : Ready sets numbers times frame st)
@@ -124,7 +130,7 @@ module _ (sets numbers times : List ℕ) (frame : Frame) (st : State) (ready : R
       back-stands J sets numbers frame (task .described) st r (r .minute) back stands earlier none
 
   pub dead-when-back : (J : Job) (file : List ℕ) → TaskOf J file sets numbers times frame → Stands J frame st
-      → DeadFor J frame (Until (frame .first) (r .minute)) (chosen J (r .steps))
+      → DeadFor J frame (Until (fromOf frame) (r .minute)) (chosen J (r .steps))
       → DeadFor J frame (OpenIn frame st 0) (chosen J (st .steps))
   dead-when-back J file task stands dead =
       dead-back J frame st (stands .inTime) (r .minute) earlier none
@@ -134,7 +140,7 @@ module _ (sets numbers times : List ℕ) (frame : Frame) (st : State) (ready : R
 pub dead-when-unfinished : (J : Job) (file sets numbers times : List ℕ) (frame : Frame) (st : State) (r : Answer)
     → Ready sets numbers times frame st → TaskOf J file sets numbers times frame → Finishes file frame (st .steps) r
     → st .minute ≤ frame .first → r .found ≡ false
-    → DeadFor J frame (Until (frame .first) (st .minute)) (chosen J (st .steps))
+    → DeadFor J frame (Until (fromOf frame) (st .minute)) (chosen J (st .steps))
 dead-when-unfinished J file sets numbers times frame st r ready task finishes early none =
     finishes .dead none J (task .inFile)
     (record {
@@ -142,4 +148,4 @@ dead-when-unfinished J file sets numbers times frame st r ready task finishes ea
       inTime = task .described .inTime;
       known = rw (task .described .actions) (ready .safe .known);
     })
-    (frame .first) (st .minute) early
+    (fromOf frame) (st .minute) early

@@ -29,6 +29,7 @@ until frame T =
       start = frame .start;
       goal = frame .goal;
       first = frame .first;
+      least = frame .least;
       horizon = T;
       kept = frame .kept;
       origin = frame .origin;

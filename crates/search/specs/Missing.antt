@@ -10,7 +10,7 @@ use Rattle.facts.specs.FactSet.{union, difference}
 use Rattle.job.specs.Job.{Job}
 use Rattle.regression.specs.DeadEnd.{Until}
 use Rattle.timeline.specs.Step.{total}
-use Rattle.tables.specs.Tables.{Describes, DescribesEach, chosenTo, chosen, keptOf, KeepsKept}
+use Rattle.tables.specs.Tables.{Describes, DescribesEach, chosenTo, chosen, keptOf, fromOf, KeepsKept}
 use Rattle.tables.specs.declared.Steps.{Steps}
 use Rattle.tables.specs.declared.Frame.{Frame}
 use Rattle.landmarks.specs.Landmarks.{marksOf, sumOver, Shares, minutesIn}
@@ -48,7 +48,7 @@ abbrev pub DeadUnlessSuffices : List ℕ → List ℕ → Frame → State → Bo
 DeadUnlessSuffices sets numbers frame st test =
     test ≡ false → (J : Job) → Describes J sets numbers frame → Marked J sets numbers frame → KeepsKept frame (st .steps)
     → Stands J frame st
-    → DeadFor J frame (Until (frame .first) (st .minute)) (chosen J (st .steps))
+    → DeadFor J frame (Until (fromOf frame) (st .minute)) (chosen J (st .steps))
 
 -- the row's shares of a set, and what is used besides, are at most so much
 abbrev pub fits : List ℕ → ℕ → ℕ → ℕ → ℕ → Bool

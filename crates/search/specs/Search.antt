@@ -2,18 +2,17 @@
 -- Assumes nothing.
 use Prim.Native.Nat.{ℕ, _≤_, _<_}
 use mathlib.Core.Path.{_≡_}
-use mathlib.Core.Bool.{true, false, not}
-use mathlib.Core.List.{List, _++_}
+use mathlib.Core.Bool.{true, false, cond, not}
+use mathlib.Core.List.{List, [], _∷_, _++_}
 use lib.ListN.{length, getD}
 use Rattle.facts.specs.FactSet.{has, foreign}
 use Rattle.job.specs.Job.{Job}
 use Rattle.timeline.specs.Step.{Step, stepsIn}
-use Rattle.timeline.specs.Timeline.{end}
+use Rattle.timeline.specs.From.{From, IsNew, isKept}
 use Rattle.timeline.specs.Accepted.{Accepted}
-use Rattle.makespan.specs.Makespan.{Counts}
 use Rattle.landmarks.specs.Bounds.{TimesBound}
 use Rattle.regression.specs.DeadEnd.{Open}
-use Rattle.tables.specs.Tables.{Describes, Known, keptOf, KeepsKept}
+use Rattle.tables.specs.Tables.{Describes, Known, keptOf, fromOf, KeepsKept}
 use Rattle.tables.specs.declared.Frame.{Frame}
 use Rattle.leaf.specs.declared.Answer.{Answer}
 use Rattle.timeline.proofs.Places.{EachStep}
@@ -24,9 +23,14 @@ use Rattle.search.specs.declared.state.State.{State}
 use Rattle.search.specs.Missing.{Marked}
 use Rattle.search.specs.States.{Stands, Safe, DeadFor}
 
--- the plan counts: its steps before the first free minute are exactly the kept ones
+-- the steps of a plan before a place
+abbrev pub stepsBefore : From → List Step → List Step
+stepsBefore b [] = []
+stepsBefore b (x ∷ P) = cond (isKept b x) (x ∷ stepsBefore b P) (stepsBefore b P)
+
+-- the plan counts: its steps before the frame's place are exactly the kept ones
 abbrev pub CountsFor : Job → Frame → List ℕ → Type 0
-CountsFor J frame bytes = Counts J (frame .first) (inOrder J (frame .kept)) bytes
+CountsFor J frame bytes = stepsBefore (fromOf frame) (stepsIn J bytes) ≡ inOrder J (frame .kept)
 
 -- everything that is lent is of this job
 pub record TaskOf (J : Job) (file sets numbers times : List ℕ) (frame : Frame) : Type 0 where
@@ -50,14 +54,14 @@ pub record Ready (sets numbers times : List ℕ) (frame : Frame) (st : State) : 
 
 -- the actions of the set are not decided at the minute
 abbrev pub OpenIn : Frame → State → ℕ → Step → Type 0
-OpenIn frame st left = Open (frame .first) (st .minute) (λ a. not (has left a))
+OpenIn frame st left = Open (fromOf frame) (st .minute) (λ a. not (has left a))
 
--- the plan found is accepted, and has the kept steps and else steps from the first free minute on
+-- the plan found is accepted, and has the kept steps and else new ones
 pub record FoundFor (J : Job) (frame : Frame) (r : Answer) : Type 0 where
   pub plan : Found J (frame .goal) (frame .horizon) r
   pub new : List Step
   pub same : Permutation (stepsIn J (bytesIn r)) (new ++ keptOf J frame)
-  pub after : EachStep (λ x. frame .first ≤ x .start) new
+  pub after : EachStep (IsNew (fromOf frame)) new
 
 -- for every job in the file that has the frame's number of actions
 abbrev pub FoundIn : List ℕ → Frame → Answer → Type 0

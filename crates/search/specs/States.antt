@@ -8,12 +8,13 @@ use mathlib.Core.List.{List, _∷_}
 use lib.ListN.{getD}
 use Rattle.facts.specs.FactSet.{has, union, single, meets, Subset}
 use Rattle.job.specs.Job.{Job}
-use Rattle.timeline.specs.Step.{Step}
+use Rattle.timeline.specs.Step.{Step, stepOf}
+use Rattle.timeline.specs.From.{IsNew, FitsFrom}
 use Rattle.timeline.proofs.Places.{Member}
 use Rattle.times.specs.Earliest.{actionOf}
 use Rattle.regression.specs.Wanted.{wantedAt}
 use Rattle.regression.specs.DeadEnd.{Until, Dead, stepStopping}
-use Rattle.tables.specs.Tables.{Describes, Known, chosen, durationAt, clashesAt, Lent}
+use Rattle.tables.specs.Tables.{Describes, Known, chosen, durationAt, clashesAt, Lent, fromOf}
 use Rattle.tables.specs.declared.Frame.{Frame}
 use Rattle.search.specs.declared.state.State.{State}
 use Rattle.search.specs.Minutes.{MinuteOf}
@@ -39,14 +40,14 @@ pub record Stands (J : Job) (frame : Frame) (st : State) : Type 0 where
   pub uses : UsesOf J (st .minute) (chosen J (st .steps)) (st .uses)
   pub twice : (n : ℕ) → has (st .twice) n ≡ true → AddedTwice (st .minute) n (chosen J (st .steps))
   pub enders : (k : ℕ) → st .since ≤ k → k < st .steps .count
-      → (frame .first ≤ getD (st .steps .starts) k 0)
+      → IsNew (fromOf frame) (stepOf J (getD (st .steps .numbers) k 0) (getD (st .steps .starts) k 0))
       × (getD (st .steps .starts) k 0 + actionOf J (getD (st .steps .numbers) k 0) .duration ≡ st .minute)
   pub later : (k : ℕ) → frame .kept .count ≤ k → k < st .since
       → st .minute < getD (st .steps .starts) k 0 + actionOf J (getD (st .steps .numbers) k 0) .duration
 
 -- no normal plan has the chosen steps and else only steps that are X
 abbrev pub DeadFor : Job → Frame → (Step → Type 0) → List Step → Type 0
-DeadFor J frame X L = Dead J (frame .first) (frame .goal) (frame .horizon) X L
+DeadFor J frame X L = Dead J (fromOf frame) (frame .goal) (frame .horizon) X L
 
 -- the step of action i that stops at the state's minute
 abbrev pub nextStep : Job → State → ℕ → Step
@@ -55,8 +56,8 @@ nextStep J st i = stepStopping J i (st .minute)
 -- action i does not stop at the state's minute in any normal plan with the chosen steps
 abbrev pub Barred : Job → Frame → State → ℕ → Type 0
 Barred J frame st i =
-    frame .first + actionOf J i .duration ≤ st .minute
-    → DeadFor J frame (Until (frame .first) (st .minute)) (nextStep J st i ∷ chosen J (st .steps))
+    FitsFrom (fromOf frame) i (actionOf J i .duration) (st .minute)
+    → DeadFor J frame (Until (fromOf frame) (st .minute)) (nextStep J st i ∷ chosen J (st .steps))
 
 -- the same for each job that the tables describe
 abbrev pub BarredBy : List ℕ → List ℕ → Frame → State → ℕ → Type 0
@@ -66,7 +67,7 @@ BarredBy sets numbers frame st i = (J : Job) → Describes J sets numbers frame 
 abbrev pub DeadBy : List ℕ → List ℕ → Frame → State → Type 0
 DeadBy sets numbers frame st =
     (J : Job) → Describes J sets numbers frame → Stands J frame st
-    → DeadFor J frame (Until (frame .first) (st .minute)) (chosen J (st .steps))
+    → DeadFor J frame (Until (fromOf frame) (st .minute)) (chosen J (st .steps))
 
 -- the tables and the state are safe to read
 pub record Safe (sets numbers : List ℕ) (frame : Frame) (st : State) : Type 0 where
@@ -86,11 +87,20 @@ pub record SetsAllow (sets : List ℕ) (st : State) (i : ℕ) (allow : Bool) : T
       → Known (frame .actions) (st .steps)
       → BarredBy sets numbers frame st i
 
--- an action that may stop at the state's minute has room, fits and does not run in the minute before; one that may not
--- is barred
+-- by the table of numbers, the step of action i that stops at the state's minute is new
+abbrev pub Fits : List ℕ → Frame → State → ℕ → Type 0
+Fits numbers frame st i = FitsFrom (fromOf frame) i (durationAt numbers i) (st .minute)
+
+-- the test is whether it is
+pub record TellsNew (numbers : List ℕ) (frame : Frame) (st : State) (i : ℕ) (test : Bool) : Type 0 where
+  pub new : test ≡ true → Fits numbers frame st i
+  pub notNew : test ≡ false → Fits numbers frame st i → ⊥
+
+-- an action that may stop at the state's minute has room, its step is new, and it does not run in the minute before; one
+-- that may not is barred
 pub record MayStop (sets numbers : List ℕ) (frame : Frame) (st : State) (i : ℕ) (may : Bool) : Type 0 where
   pub room : may ≡ true → st .steps .count < 32
-  pub fits : may ≡ true → frame .first + durationAt numbers i ≤ st .minute
+  pub fits : may ≡ true → Fits numbers frame st i
   pub apart : may ≡ true → meets (clashesAt sets i) (st .at .running) ≡ false
   pub barred : may ≡ false → BarredBy sets numbers frame st i
 

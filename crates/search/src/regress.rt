@@ -3,7 +3,7 @@ ghost use mathlib.Core.Bool.{true};
 ghost use mathlib.Core.List.{_∷_};
 ghost use Prim.Native.Nat.{_<_};
 ghost use Rattle.regression.specs.DeadEnd.{Until};
-ghost use Rattle.tables.specs.Tables.{chosen};
+ghost use Rattle.tables.specs.Tables.{chosen, fromOf};
 ghost use Rattle.search.specs.States.{nextStep, MayStop};
 ghost use Rattle.search.specs.Missing.{Fresh};
 ghost use Rattle.search.specs.Search.{Ready, OpenIn, Answered, NoneFrom};
@@ -89,7 +89,7 @@ pub fn regress(
     requires { ⌜ Ready (now sets) (now numbers) (now times) frame st × Fresh st ⌝ }
     ensures { λ r. ⌜ Answered (now (file .entry)) frame
         (NoneFrom (now (file .entry)) (now (sets .entry)) (now (numbers .entry)) (now (times .entry)) frame st
-        (Until (frame .first) (st .minute)) (λ J. chosen J (st .steps))) r ⌝ }
+        (Until (fromOf frame) (st .minute)) (λ J. chosen J (st .steps))) r ⌝ }
 {
     if st.minute <= frame.first {
         let steps = st.steps;

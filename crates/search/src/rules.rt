@@ -5,7 +5,8 @@ ghost use mathlib.Core.Logic.{_⊎_};
 ghost use Prim.Native.Nat.{_+_, _<_};
 ghost use lib.ListN.{length};
 ghost use Rattle.facts.specs.FactSet.{has};
-ghost use Rattle.search.specs.States.{Safe, BarredBy, SetsAllow, MayStop, WithCandidate, Candidates};
+ghost use Rattle.tables.specs.Tables.{Numbers};
+ghost use Rattle.search.specs.States.{Safe, BarredBy, SetsAllow, TellsNew, MayStop, WithCandidate, Candidates};
 use crate::amounts;
 use crate::beside;
 use crate::minute;
@@ -30,6 +31,20 @@ fn sets_allow(sets: &[u64], st: State, i: u8) -> bool
         return false;
     }
     !facts::meets(sets[at + 2], st.wanted)
+}
+
+// Whether the step of action i that stops at the state's minute is new: it starts after the first free minute, or at it
+// with a number that is not below the least.
+fn new_step(numbers: &[u32], frame: Frame, st: State, i: u8) -> bool
+    requires { ⌜ Numbers (now numbers) (frame .actions) × (i < frame .actions) ⌝ }
+    ensures { λ r. ⌜ TellsNew (now (numbers .entry)) frame st i r ⌝ }
+{
+    let minute = minute::wide(st.minute);
+    let stop = minute::stop(numbers, i, frame.first);
+    if stop == minute {
+        return frame.least <= i;
+    }
+    stop < minute
 }
 
 // Whether nothing keeps action i from stopping a minute later.
@@ -79,7 +94,7 @@ fn may_stop(sets: &[u64], numbers: &[u32], frame: Frame, st: State, i: u8) -> bo
     if 32 <= st.steps.count {
         return false;
     }
-    if minute::wide(st.minute) < minute::stop(numbers, i, frame.first) {
+    if !new_step(numbers, frame, st, i) {
         return false;
     }
     if movable(sets, numbers, frame, st, i) {

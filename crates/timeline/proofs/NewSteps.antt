@@ -1,8 +1,8 @@
 -- New and kept steps: every step is one of both, and none is both.
 -- Assumes nothing.
 use Prim.Native.Nat.{ℕ, _+_, _<_, _≤_}
-use mathlib.Core.Path.{_≡_, refl}
-use mathlib.Core.Bool.{Bool, true, false, or-true}
+use mathlib.Core.Path.{_≡_}
+use mathlib.Core.Bool.{true, or-true}
 use mathlib.Core.Logic.{_⊎_, inl, inr, ⊎-elim}
 use mathlib.Core.List.{List, _++_}
 use native.Mathlib.Nat.{eq-or-lt-of-le}
@@ -12,7 +12,7 @@ use borrow.Author.Tests.{eqb-true, eq-eqb, ltb-true, lt-ltb}
 use Rattle.lists.proofs.Bools.{and-left, and-right}
 use Rattle.timeline.specs.Step.{Step}
 use Rattle.timeline.specs.From.{From, fromMinute, IsNew, IsKept, isKept, FitsFrom}
-use Rattle.timeline.proofs.Tests.{decided, or-cases, and-both, trichotomy, le-or-lt}
+use Rattle.timeline.proofs.Tests.{or-cases, and-both, trichotomy, le-or-lt}
 use Rattle.timeline.proofs.Places.{EachStep, append-cases}
 use Rattle.timeline.proofs.Shift.{later}
 

@@ -16,7 +16,8 @@ use Rattle.search.proofs.AmountLaws.{small-with-more}
 use Rattle.search.proofs.Completeness.{dead-past-barred, dead-either, dead-until}
 use Rattle.search.proofs.CandidateLaws.{subset-at-most, less-without}
 use Rattle.search.proofs.Counted.{found-when-finished}
-use Rattle.search.proofs.Steps.{ready-taken, stands-taken, dead-when-taken-open, dead-when-taken-until}
+use Rattle.search.proofs.Steps.{starts-in-time, ready-taken, stands-taken, dead-when-taken-open}
+use Rattle.search.proofs.Steps.{dead-when-taken-until}
 use Rattle.search.proofs.Steps.{ready-back, fresh-back, stands-back, dead-when-back, dead-when-unfinished}
 use Prim.Native.Nat.{ℕ, _<_}
 use borrow.Fn.Kinds.{In}
@@ -94,7 +95,7 @@ attempt-take-requires t c κs =
     let lent = ready .safe .lent in
     let few = lent .amounts .few in
     let known = h .1 in
-    let fits = h .2 .fits refl in
+    let fits = starts-in-time (h .2) in
     let small = small-with-more _ 32 _ (ready .safe .known .few) (ready .safe .small) in (
       lent .setCount,
       lent .amounts .numberCount,
@@ -194,7 +195,7 @@ attempt-start-of-requires t c κs =
     let lent = h .0 .safe .lent in
     let few = lent .amounts .few in
     let known = h .1 in
-    let fits = h .2 .fits refl in
+    let fits = starts-in-time (h .2) in
     (lent .amounts .numberCount, omega arith, omega arith)
 
 attempt-all-reached-requires : (t : ℕ) → attempt-lts.Need-all-reached-requires (
@@ -217,7 +218,7 @@ attempt-all-reached-requires t c κs =
     let c-take = c .before .before .before .take in
     let h = c-pre .1 in
     let next = ready-taken _ _ _ (c-args .frame) (c-args .st) (h .0) _ (h .1) (h .2) _ (c-take .ensures) in
-    let fits = h .2 .fits refl in
+    let fits = starts-in-time (h .2) in
     let start = c .start-of .ensures in
     (next .safe .lent, next .safe .known, next .timeCount, next .facts, next .origin, omega arith)
 
@@ -427,7 +428,7 @@ choose-in-time-requires t c κs =
       ready .safe .known,
       ready .timeCount,
       ready .facts,
-      (λ a member. let may = inv .1 a member in let fits = may .1 .fits refl in (may .0, omega arith)),
+      (λ a member. let may = inv .1 a member in let fits = starts-in-time (may .1) in (may .0, omega arith)),
       h .1,
       ready .keptKnown,
       ready .origin,

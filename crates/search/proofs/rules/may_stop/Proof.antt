@@ -1,8 +1,11 @@
 -- `may_stop` meets its contract, test by test.
 -- Assumes nothing.
-use mathlib.Core.Path.{sym}
+use Prim.Native.Nat.{ℕ}
+use mathlib.Core.Path.{sym, subst}
 use mathlib.Core.Bool.{true≢false}
 use borrow.Author.Tests.{not-true, not-false}
+use Rattle.timeline.specs.From.{FitsFrom}
+use Rattle.tables.specs.Tables.{fromOf}
 use Rattle.search.proofs.BarredActions.{barred-when-full}
 use native.Mathlib.Omega.{arith}
 use Rattle.search.proofs.rules.may_stop.Statement.{statement}
@@ -43,37 +46,34 @@ returns-2 c =
           (at .i) (h .1) fits (omega arith);
     }
 
-wide-requires : tie.Need-wide-requires
-wide-requires c κs = tt
-
-stop-requires : tie.Need-stop-requires
-stop-requires c κs =
-    let c-pre = c .before .before .before .before .before .before .before .pre in
-    let h = c-pre in
-    let n = h .0 .lent .amounts .numberCount in
-    let f = h .0 .lent .amounts .few in
-    (omega arith, h .0 .lent .amounts .short _ (h .1))
+new-step-requires : tie.Need-new-step-requires
+new-step-requires c κs =
+    let c-pre = c .before .before .before .before .before .before .pre in
+    let h = c-pre in (h .0 .lent .amounts, h .1)
 
 returns-3 : tie.Need-returns-3
 returns-3 c =
     let at8 = c .before .before .before .before .before .before .before .before in
-    let c-pre = at8 .before .pre in
-    let c-args = at8 .before .args in
+    let c-pre = at8 .pre in
+    let c-args = at8 .args in
+    let c-new-step = c .before .new-step in
     let h = c-pre in
     let at = c-args in
-    let w = c .before .before .wide .ensures .0 in
-    let s = c .before .stop .ensures .0 in
     record {
       room = λ e. absurd (true≢false (sym e));
       fits = λ e. absurd (true≢false (sym e));
       apart = λ e. absurd (true≢false (sym e));
-      barred = λ e J described stands fits. let d = described .each (at .i) (h .1) .duration in absurd (omega arith);
+      barred = λ e J described stands fits.
+          absurd
+          (c-new-step .ensures .notNew (not-true (c-new-step .result) (c .if3 .taken))
+          (subst (λ (d : ℕ). FitsFrom (fromOf (at .frame)) (at .i) d (at .st .minute))
+          (sym (described .each (at .i) (h .1) .duration)) fits));
     }
 
 movable-requires : tie.Need-movable-requires
 movable-requires c κs =
     let at8 = c .before .before .before .before .before .before .before .before in
-    let c-pre = at8 .before .pre in
+    let c-pre = at8 .pre in
     let h = c-pre in (h .0, h .1)
 
 returns-4 : tie.Need-returns-4
@@ -88,7 +88,7 @@ returns-4 c =
 affordable-requires : tie.Need-affordable-requires
 affordable-requires c κs =
     let at8 = c .before .before .before .before .before .before .before .before in
-    let c-pre = at8 .before .before .before .pre in
+    let c-pre = at8 .before .before .pre in
     c-pre
 
 returns-5 : tie.Need-returns-5
@@ -104,21 +104,21 @@ returns-5 c =
 beside-kept-requires : tie.Need-beside-kept-requires
 beside-kept-requires c κs =
     let at8 = c .before .before .before .before .before .before .before .before in
-    let c-pre = at8 .before .before .before .before .before .pre in
+    let c-pre = at8 .before .before .before .before .pre in
     (c-pre .0, c-pre .1)
 
 returns-6 : tie.Need-returns-6
 returns-6 c =
     let at8 = c .before .before .before .before .before .before .before .before in
-    let c-sets-allow = at8 .before .before .before .sets-allow in
-    let c-if1 = at8 .before .before .if1 in
-    let c-wide = c .before .before .before .before .before .before .before .wide in
-    let c-stop = c .before .before .before .before .before .before .stop in
-    let w = c-wide .ensures .0 in
-    let s = c-stop .ensures .0 in
+    let c-sets-allow = at8 .before .before .sets-allow in
+    let c-if1 = at8 .before .if1 in
+    let c-new-step = c .before .before .before .before .before .before .new-step in
+    let c-if2 = c .before .before .before .before .before .before .before .if2 in
+    let c-if3 = c .before .before .before .before .before .if3 in
+    let free = c-if2 .left in
     record {
       room = λ e. omega arith;
-      fits = λ e. omega arith;
+      fits = λ e. c-new-step .ensures .new (not-false (c-new-step .result) (c-if3 .left));
       apart = λ e. c-sets-allow .ensures .apart (not-false (c-sets-allow .result) (c-if1 .left));
       barred = c .beside-kept .ensures;
     }
@@ -130,8 +130,7 @@ may-stop-spec =
     sets-allow-requires
     returns
     returns-2
-    wide-requires
-    stop-requires
+    new-step-requires
     returns-3
     movable-requires
     returns-4
