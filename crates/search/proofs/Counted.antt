@@ -1,11 +1,10 @@
 -- An accepted plan that counts is the kept steps, and new ones.
 -- Assumes nothing.
-use Prim.Native.Nat.{ℕ, _≤_, _<_}
+use Prim.Native.Nat.{ℕ, _<_}
 use mathlib.Core.Bool.{true}
 use mathlib.Core.Path.{_≡_, refl, sym, ap, subst, _∙_}
 use mathlib.Core.Logic.{⊎-elim}
 use mathlib.Core.List.{List, [], _∷_, _++_}
-use native.Mathlib.Omega.{arith}
 use lib.ListN.{length, getD}
 use Rattle.lists.proofs.Bools.{and-left, and-right}
 use Rattle.job.specs.Job.{Job}
@@ -21,6 +20,7 @@ use Rattle.timeline.proofs.Permutations.{permutation-append, permutation-each, 
 use Rattle.timeline.proofs.Rising.{rising-same-members}
 use Rattle.timeline.proofs.NewSteps.{not-new-and-kept}
 use Rattle.times.proofs.PlanSteps.{PlanOf}
+use Rattle.makespan.specs.Makespan.{begun, Counts}
 use Rattle.tables.specs.Tables.{Known, keptOf, fromOf, KeepsKept}
 use Rattle.tables.specs.declared.Steps.{Steps}
 use Rattle.tables.specs.declared.Frame.{Frame}
@@ -30,7 +30,7 @@ use Rattle.leaf.specs.declared.Answer.{Answer}
 use Rattle.leaf.specs.Answer.{FileOf, Finishes, bytesIn}
 use Rattle.search.specs.Search.{stepsBefore, CountsFor, FoundFor}
 use Rattle.search.proofs.Chosen.{chosen-splits, since-new}
-use Rattle.search.proofs.StepsBefore.{rising-splits, before-are-kept}
+use Rattle.search.proofs.StepsBefore.{rising-splits, before-are-kept, before-minute-begun}
 
 place-behind : (x : Step) (N K : List Step) → Place x (N ++ K) (N ++ (x ∷ K))
 place-behind x [] K = here
@@ -92,6 +92,19 @@ found-when-finished J file frame steps r keeps known starts finishes e have coun
       after = since-new J frame steps keeps (split .0) (split .2);
     }
 
+-- ---- where a minute alone tells new steps from kept ones, a plan counts as it does for the makespan
+module _ (J : Job) (frame : Frame) (plain : frame .least ≡ 0) (bytes : List ℕ) where
+  begun-before : stepsBefore (fromOf frame) (stepsIn J bytes) ≡ begun (frame .first) (stepsIn J bytes)
+  begun-before =
+      ap (λ (n : ℕ). stepsBefore (record { minute = frame .first; number = n }) (stepsIn J bytes)) plain
+      ∙ before-minute-begun (frame .first) (stepsIn J bytes)
+
+  pub counts-by-minute : CountsFor J frame bytes → Counts J (frame .first) (inOrder J (frame .kept)) bytes
+  counts-by-minute counts = sym begun-before ∙ counts
+
+  pub counts-by-place : Counts J (frame .first) (inOrder J (frame .kept)) bytes → CountsFor J frame bytes
+  counts-by-place counts = begun-before ∙ counts
+
 -- ---- a plan that is found counts
 rising-front : (P N : List Step) → strictlyRising (P ++ N) ≡ true → strictlyRising P ≡ true
 rising-front [] N h = refl
@@ -117,7 +130,9 @@ found-counts J frame r found early rising =
     let inPlan = place-append (split .0) i in
     let m = permutation-member (found .same) (subst (Place x (Q ++ split .0)) (sym (split .1)) inPlan) in
     ⊎-elim
-    (λ n. absurd (not-new-and-kept (fromOf frame) x (found .after x (n .0) (n .1)) (before-are-kept (fromOf frame) P x Q i)))
+    (λ n.
+    let kept = before-are-kept (fromOf frame) P x Q i in
+    absurd (not-new-and-kept (fromOf frame) x (found .after x (n .0) (n .1)) kept))
     (λ k. permutation-member (permutation-sym kept) (k .1))
     (append-cases (found .new) (keptOf J frame) (m .1)))
     (λ x Q i.

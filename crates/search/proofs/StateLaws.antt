@@ -3,14 +3,14 @@
 use Prim.Native.Nat.{ℕ, _+_, _-_, _≤_, _<_}
 use mathlib.Core.Path.{_≡_, refl, sym, ap, ap₂, subst, _∙_}
 use mathlib.Core.Bool.{true, false, cond, true≢false}
-use mathlib.Core.Logic.{inl, inr, ⊎-elim}
+use mathlib.Core.Logic.{⊎-elim}
 use mathlib.Core.List.{List, _∷_}
 use native.Mathlib.Nat.{eq-or-lt-of-le}
 use native.Mathlib.Omega.{arith}
-use lib.Dec.{eqb, leb, ltb}
+use lib.Dec.{eqb}
 use lib.ListN.{getD, set}
 use lib.Seq.{getD-set-same, getD-set-other}
-use borrow.Author.Tests.{eqb-true, lt-ltb, le-leb, leb-true, leb-false, ltb-true, ltb-false}
+use borrow.Author.Tests.{eqb-true, lt-ltb, le-leb}
 use Rattle.lists.proofs.Bools.{and-left, and-right}
 use Rattle.facts.specs.FactSet.{has, union, difference, meets, single}
 use Rattle.facts.proofs.Membership.{has-zero}
@@ -33,7 +33,7 @@ use Rattle.search.specs.declared.minute.Minute.{Minute}
 use Rattle.search.specs.declared.amounts.Uses.{Uses}
 use Rattle.search.specs.Minutes.{runsInto, MinuteOf}
 use Rattle.search.specs.Amounts.{UsesOf}
-use Rattle.search.specs.States.{AddedTwice, Stands, nextStep, Fits, TellsNew}
+use Rattle.search.specs.States.{AddedTwice, Stands, nextStep, Fits}
 use Rattle.search.specs.Moves.{startOf, Taken, NoStartBetween, Back}
 use Rattle.search.proofs.Chosen.{place-of-chosen, chosen-pushed}
 use Rattle.search.proofs.BarredActions.{stops, wanted-still, lasting, not-running}
@@ -92,27 +92,6 @@ module _ (numbers : List ℕ) (frame : Frame) (st : State) (i : ℕ) (fits : Fit
       let l = fits-in-time in
       new-of-fits (fromOf frame) i (durationAt numbers i) (st .minute) (stepOf J i (startOf numbers st i)) refl
       (omega arith) fits
-
--- ---- whether it is, for the step that would stop so if it started at the first free minute
-module _ (numbers : List ℕ) (frame : Frame) (st : State) (i stop : ℕ)
-    (is : stop ≡ frame .first + durationAt numbers i) where
-  pub new-at-first : stop ≡ st .minute → TellsNew numbers frame st i (leb (frame .least) i)
-  new-at-first same =
-      record {
-        new = λ e. inr (omega arith, leb-true (frame .least) i e);
-        notNew = λ e fits.
-            let less = leb-false (frame .least) i e in
-            ⊎-elim (λ behind. omega arith) (λ at. let least = at .1 in omega arith) fits;
-      }
-
-  pub new-behind-first : (stop ≡ st .minute → ⊥) → TellsNew numbers frame st i (ltb stop (st .minute))
-  new-behind-first other =
-      record {
-        new = λ e. let l = ltb-true stop (st .minute) e in inl (omega arith);
-        notNew = λ e fits.
-            let l = ltb-false stop (st .minute) e in
-            ⊎-elim (λ behind. omega arith) (λ at. other (is ∙ at .0)) fits;
-      }
 
 -- ---- an action taken
 module _ (J : Job) (sets numbers : List ℕ) (frame : Frame) (described : Describes J sets numbers frame) (st : State)

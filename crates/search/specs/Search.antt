@@ -9,7 +9,6 @@ use Rattle.facts.specs.FactSet.{has, foreign}
 use Rattle.job.specs.Job.{Job}
 use Rattle.timeline.specs.Step.{Step, stepsIn}
 use Rattle.timeline.specs.From.{From, IsNew, isKept}
-use Rattle.timeline.specs.Accepted.{Accepted}
 use Rattle.landmarks.specs.Bounds.{TimesBound}
 use Rattle.regression.specs.DeadEnd.{Open}
 use Rattle.tables.specs.Tables.{Describes, Known, keptOf, fromOf, KeepsKept}

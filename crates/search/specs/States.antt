@@ -96,8 +96,8 @@ pub record TellsNew (numbers : List ℕ) (frame : Frame) (st : State) (i : ℕ) 
   pub new : test ≡ true → Fits numbers frame st i
   pub notNew : test ≡ false → Fits numbers frame st i → ⊥
 
--- an action that may stop at the state's minute has room, its step is new, and it does not run in the minute before; one
--- that may not is barred
+-- an action that may stop at the state's minute has room, its step is new, and it does not run in the minute before;
+-- one that may not is barred
 pub record MayStop (sets numbers : List ℕ) (frame : Frame) (st : State) (i : ℕ) (may : Bool) : Type 0 where
   pub room : may ≡ true → st .steps .count < 32
   pub fits : may ≡ true → Fits numbers frame st i

@@ -3,6 +3,7 @@
 use Prim.Native.Nat.{ℕ, _<_, _≤_}
 use mathlib.Core.Path.{_≡_}
 use mathlib.Core.Bool.{true, false}
+use mathlib.Core.Logic.{inl}
 use mathlib.Core.List.{List}
 use native.Mathlib.Omega.{arith}
 use lib.ListN.{length, getD}
@@ -23,11 +24,13 @@ use Rattle.leaf.specs.Order.{placed, inOrder}
 use Rattle.leaf.proofs.InOrder.{in-order-own, in-order-permutes, each-chosen}
 use Rattle.search.specs.Search.{FoundFor}
 use Rattle.search.specs.Horizons.{NoneBefore, NoneBy}
-use Rattle.search.proofs.Counted.{found-counts}
+use Rattle.search.proofs.Counted.{found-counts, counts-by-minute, counts-by-place}
 use Rattle.solver.specs.Task.{Solved}
 
--- the kept steps of the frame are known, start before the first free minute and stand in rising order
-module _ (J : Job) (frame : Frame) (passed : Passed J) (known : Known (length (J .actions)) (frame .kept))
+-- the kept steps of the frame are known, start before the first free minute and stand in rising order; each step that
+-- starts then or later is new
+module _ (J : Job) (frame : Frame) (plain : frame .least ≡ 0) (passed : Passed J)
+    (known : Known (length (J .actions)) (frame .kept))
     (early : (k : ℕ) → k < frame .kept .count → getD (frame .kept .starts) k 0 < frame .first)
     (rising : strictlyRising (inOrder J (frame .kept)) ≡ true) where
   early-steps : EachStep (λ x. x .start < frame .first) (keptOf J frame)
@@ -51,11 +54,15 @@ module _ (J : Job) (frame : Frame) (passed : Passed J) (known : Known (length (J
       record {
         found = λ e.
             let f = found e .0 in
-            let counts = found-counts J frame r f early-steps rising in
+            let counts = counts-by-minute J frame plain (bytesIn r)
+            (found-counts J frame r f (λ x Q i. inl (early-steps x Q i)) rising) in
             let plan = f .plan in
             let inTime = plan .inTime in
             let least : LeastEnd J (frame .goal) (frame .first) (inOrder J (frame .kept)) (r .end) =
-            record { plan = (bytesIn r, plan .accepted, counts, plan .end); least = found e .1 } in (
+            record {
+              plan = (bytesIn r, plan .accepted, counts, plan .end);
+              least = λ bytes a c. found e .1 bytes a (counts-by-place J frame plain bytes c);
+            } in (
               record {
                 few = plan .few;
                 whole = plan .whole;
@@ -69,7 +76,7 @@ module _ (J : Job) (frame : Frame) (passed : Passed J) (known : Known (length (J
         none = λ e.
             makespan-when-none-accepted J (frame .goal) (frame .first) _ passed begun-steps
             (λ bytes accepted counts.
-            let late = none e bytes accepted counts in
+            let late = none e bytes accepted (counts-by-place J frame plain bytes counts) in
             let inTime = ends-by-deadline J (frame .goal) bytes accepted in
             absurd (omega arith));
       }

@@ -212,6 +212,6 @@ module _ (day : held.Job) (task : Task) (fits : TaskFits (jobIn day) task) (give
   pub solved-task : (r : Answer) → (r .found ≡ true → FoundFor J frame r × NoneBefore J frame (r .end))
       → (r .found ≡ false → NoneBy J frame) → Solved J (task .goal) (task .first) (inOrder J (task .kept)) r
   solved-task r found none =
-      solved J whole (passed J passes) (fits .known) (fits .early) (fits .rising) r refl
+      solved J whole refl (passed J passes) (fits .known) (fits .early) (fits .rising) r refl
       (subst (λ (f : Frame). r .found ≡ true → FoundFor J f r × NoneBefore J f (r .end)) same found)
       (subst (λ (f : Frame). r .found ≡ false → NoneBy J f) same none)

@@ -1,8 +1,8 @@
--- `new_step` meets its contract: it starts at the first free minute, or it does not.
+-- `new_step` meets its contract: at the first free minute the number decides, else the start does.
 -- Assumes nothing.
-use mathlib.Core.Path.{_∙_}
+use mathlib.Core.Logic.{inl, inr, ⊎-elim}
 use native.Mathlib.Omega.{arith}
-use Rattle.search.proofs.StateLaws.{new-at-first, new-behind-first}
+use borrow.Author.Tests.{leb-true, leb-false, ltb-true, ltb-false}
 use Rattle.search.proofs.rules.new_step.Statement.{statement}
 use Rattle.search.proofs.rules.new_step.Tie as tie
 
@@ -18,16 +18,25 @@ stop-requires c κs =
 
 returns : tie.Need-returns
 returns c =
-    let at = c .before .before .before .before .before .args in
     let minute = c .before .before .before .wide .ensures .0 in
-    new-at-first _ (at .frame) (at .st) (at .i) _ (c .before .before .stop .ensures .0) (c .before .if1 .taken ∙ minute)
+    let stop = c .before .before .stop .ensures .0 in
+    let same = c .before .if1 .taken in
+    record {
+      new = λ e. inr (omega arith, omega (arith, leb-true, ltb-true));
+      notNew = λ e fits.
+          ⊎-elim (λ behind. omega arith) (λ at. let least = at .1 in omega (arith, leb-false, ltb-false)) fits;
+    }
 
 returns-2 : tie.Need-returns-2
 returns-2 c =
-    let at = c .before .before .before .before .args in
     let minute = c .before .before .wide .ensures .0 in
+    let stop = c .before .stop .ensures .0 in
     let other = c .if1 .left in
-    rw minute (new-behind-first _ (at .frame) (at .st) (at .i) _ (c .before .stop .ensures .0) (λ e. omega arith))
+    record {
+      new = λ e. inl (omega (arith, leb-true, ltb-true));
+      notNew = λ e fits.
+          ⊎-elim (λ behind. omega (arith, leb-false, ltb-false)) (λ at. let same = at .0 in omega arith) fits;
+    }
 
 pub new-step-spec : {M : Type 1} → statement M
 new-step-spec = tie.close (tie.spec wide-requires stop-requires returns returns-2)
