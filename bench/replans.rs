@@ -1,6 +1,6 @@
 //! Plans begun days anew with the plain search, ten seconds each: the questions of TABLE.tsv in a folder, whose days
-//! are job files in `days` beside it. Prints a line for each: the end (35: no plan; -: none in time), the known one, the
-//! nodes and the seconds.
+//! are job files in `days` beside it. Prints a line for each: the end (35: no plan; -: none in time), the known one,
+//! the nodes and the seconds.
 mod landmarks;
 #[allow(dead_code)]
 mod plain;

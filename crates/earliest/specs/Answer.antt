@@ -24,8 +24,8 @@ abbrev pub answerOf : Time → EarliestTime
 answerOf (at x) = answer.At x
 answerOf unreachable = answer.Unreachable
 
--- the first refusal that holds. Otherwise "only one table solves this": there is one, and by every table that solves the
--- equations the answer is the time of the set
+-- the first refusal that holds. Otherwise "only one table solves this": there is one, and by every table that solves
+-- the equations the answer is the time of the set
 abbrev pub AnswersBy : Verdict → Job → ℕ → EarliestTime → Type 0
 AnswersBy Pass J set r =
     ((T : Table) × Solves J T) × ((T : Table) → Solves J T → r ≡ answerOf (timeOf J T set))

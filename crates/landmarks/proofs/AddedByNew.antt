@@ -40,7 +40,8 @@ added-by-new-rest J M K n marks landmarks T goal N new plan set t after holds p 
           in-union-right (held (J .start) K M) (unionOf (λ x. x .action .adds) (running M K)) q
           (in-unionOf (λ x. x .action .adds) q (member-of-running M i later .1) h);
     } in
-    let a = landmarks-added J M t (atHand J M K) goal T N K plan lasting base n marks landmarks set after holds p mark in
+    let a = landmarks-added J M t (atHand J M K) goal T N K plan lasting base n marks landmarks set after holds p
+    mark in
     ((a .0 .by, a .0 .rest, a .0 .place, a .0 .stops, a .0 .adds), a .1)
 
 -- of the whole day: what the kept steps add is given

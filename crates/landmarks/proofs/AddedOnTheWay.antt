@@ -75,7 +75,13 @@ module _ (J : Job) (b t atHand goal T : ℕ) (E L : List Step) (plan : PlanOf J 
         let own = own-action J T goal (E ++ L) plan inPlan in
         ⊎-elim
         (λ same. (
-          record { by = x; rest = a .1; place = a .2; stops = omega arith; adds = ap (has (x .action .adds)) same ∙ a .4 },
+          record {
+            by = x;
+            rest = a .1;
+            place = a .2;
+            stops = omega arith;
+            adds = ap (has (x .action .adds)) same ∙ a .4;
+          },
           ap (has atHand) same ∙ fresh,
         ))
         (λ each.

@@ -26,8 +26,8 @@ pub opens-of-tables : (J : Job) (sets numbers times : List ℕ) (frame : Frame) 
     → (b : ℕ) (K : List Step) (origin : ℕ) → TimesBound J b K origin times → (pool minute : ℕ)
     → pool < length (J .pools) → OpenTo sets numbers times frame (frame .actions) pool minute
     → OpensAt J b K pool (minute + origin)
-opens-of-tables J sets numbers times frame described b K origin bounds pool minute inside opening T goal E new plan x Q i
-    uses =
+opens-of-tables J sets numbers times frame described b K origin bounds pool minute inside opening T goal E new plan x
+    Q i uses =
     let inPlan = place-append K i in
     let known : x .number < frame .actions = rw (described .actions) at (plan .known x _ inPlan) in
     let each = described .each (x .number) known in

@@ -59,7 +59,8 @@ module _ (share : ℕ → ℕ) where
 
   -- what steps of the job's actions add takes no more than the steps weigh
   pub shares-of-added : (J : Job) (atHand n : ℕ) (weight : Action → ℕ) → Shares J atHand share n weight
-      → (E : List Step) (t : ℕ) → EachStep (λ x. (x .number < length (J .actions)) × (x .action ≡ actionOf J (x .number))) E
+      → (E : List Step) (t : ℕ)
+      → EachStep (λ x. (x .number < length (J .actions)) × (x .action ≡ actionOf J (x .number))) E
       → (set : ℕ) → ((p : ℕ) → has set p ≡ true → AddedIn E t p × (has atHand p ≡ false))
       → sumOver share n set ≤ total (λ x. weight (x .action)) E
   shares-of-added J atHand n weight shares E t own set added =

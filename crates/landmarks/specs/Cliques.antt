@@ -24,8 +24,8 @@ NeverHolds J b K set =
     (T goal : ℕ) → b ≤ T → (N : List Step) → EachStep (λ x. b ≤ x .start) N → PlanOf J T goal (N ++ K)
     → (m : ℕ) → b ≤ m → Subset set (held (J .start) (N ++ K) m) → ⊥
 
--- Actions i and j are different and no such plan has both in one minute from b on: they clash, or use more of some pool together than
--- there is, or what they need never holds together.
+-- Actions i and j are different and no such plan has both in one minute from b on: they clash, or use more of some pool
+-- together than there is, or what they need never holds together.
 pub record NeverOverlap (J : Job) (b : ℕ) (K : List Step) (i j : ℕ) : Type 0 where
   pub different : i ≡ j → ⊥
   pub why : (clashes J i j ≡ true)

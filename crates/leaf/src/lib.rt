@@ -58,8 +58,8 @@ fn as_plan(job: Job, goal: u64, horizon: u16, steps: Steps) -> Answer
     }
 }
 
-// The chosen steps as a plan of the file's job, begun with the frame's facts and stocks; or nothing, and then they are a
-// dead end.
+// The chosen steps as a plan of the file's job, begun with the frame's facts and stocks; or nothing, and then they are
+// a dead end.
 pub fn finish(file: &[u8], frame: Frame, steps: Steps) -> Answer
     requires { ⌜ steps .count ≤ 32 ⌝ }
     ensures { λ r. ⌜ Finishes (now (file .entry)) frame steps r ⌝ }

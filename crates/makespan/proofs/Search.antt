@@ -124,7 +124,8 @@ module _ (J : Job) (goal minute T : ℕ) where
   passes-alone P pass = ap (passes J goal) (sym (append-nil P)) ∙ ap isPass pass
 
   -- what the search finds completes P, and the search finds whatever completes P
-  completion-of-completable : (n : ℕ) (P : List Step) → completable J goal minute T n P ≡ true → Completion J goal minute T n P
+  completion-of-completable : (n : ℕ) (P : List Step) → completable J goal minute T n P ≡ true
+      → Completion J goal minute T n P
   completion-of-completable zero P h = completion-of-pass 0 P h
   completion-of-completable (suc n) P h =
       ⊎-elim (λ now. completion-of-pass (suc n) P now)
@@ -159,7 +160,8 @@ module _ (J : Job) (goal minute T : ℕ) where
       (each-rest (λ y. y .stop ≤ T) x F inTime) (each-rest (λ y. minute ≤ y .start) x F late)
       (ap (λ (Q : List Step). first (stepRows J goal Q)) (append-snoc P x F) ∙ pass) in
       let next = next-found J minute T P (λ y. completable J goal minute T n (P ++ (y ∷ []))) x (own x F here)
-      (steps .known x (P ++ F) (place-after P here)) (omega arith) (can-follow J goal minute T P x F (late x F here) m pass) rest in
+      (steps .known x (P ++ F) (place-after P here)) (omega arith)
+      (can-follow J goal minute T P x F (late x F here) m pass) rest in
       either-passes (passes J goal P) _ (inr next)
 
 -- ---- begun steps
@@ -190,8 +192,12 @@ rising-begun minute (x ∷ P) h = go (ltb (x .start) minute) refl (rising-begun 
     go false e r =
         let l = ltb-false (x .start) minute e in
         let new : EachStep (λ y. minute ≤ y .start) P =
-        λ y Q i. let c = before-reads x y (rising-before x P h y Q i) in ⊎-elim (λ a. omega arith) (λ a. let z = a .0 in omega arith) c in
-        (x ∷ P, sym (ap (λ (Q : List Step). Q ++ (x ∷ P)) (none-begun minute P new)), each-cons (λ y. minute ≤ y .start) x P l new)
+        λ y Q i. let c = before-reads x y (rising-before x P h y Q i) in
+        ⊎-elim (λ a. omega arith) (λ a. let z = a .0 in omega arith) c in (
+          x ∷ P,
+          sym (ap (λ (Q : List Step). Q ++ (x ∷ P)) (none-begun minute P new)),
+          each-cons (λ y. minute ≤ y .start) x P l new,
+        )
 
 pub begun-are-begun : (minute : ℕ) (P : List Step) → EachStep (λ x. x .start < minute) (begun minute P)
 begun-are-begun minute [] = each-step (λ x. x .start < minute) [] tt
@@ -204,7 +210,8 @@ begun-are-begun minute (x ∷ P) = go (ltb (x .start) minute) refl (begun-are-be
 
 -- ---- accepted plans
 -- where an accepted plan that counts ends by minute T, the search finds a plan
-pub solvable-of-accepted : (J : Job) (goal minute T : ℕ) (K : List Step) (bytes : List ℕ) → Passed J → Accepted J goal bytes
+pub solvable-of-accepted : (J : Job) (goal minute T : ℕ) (K : List Step) (bytes : List ℕ) → Passed J
+    → Accepted J goal bytes
     → Counts J minute K bytes → end (stepsIn J bytes) ≤ T → solvable J goal minute K T ≡ true
 solvable-of-accepted J goal minute T K bytes passed accepted counts by =
     let P : List Step = stepsIn J bytes in

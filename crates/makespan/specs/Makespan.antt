@@ -25,7 +25,8 @@ abbrev pub begun : ℕ → List Step → List Step
 begun minute [] = []
 begun minute (x ∷ P) = cond (ltb (x .start) minute) (x ∷ begun minute P) (begun minute P)
 
--- "a plan then counts if its own steps that start before that minute are exactly these": with minute 0 every plan counts
+-- "a plan then counts if its own steps that start before that minute are exactly these": with minute 0 every plan
+-- counts
 abbrev pub Counts : Job → ℕ → List Step → List ℕ → Type 0
 Counts J minute K bytes = begun minute (stepsIn J bytes) ≡ K
 

@@ -1,5 +1,5 @@
--- What follows from the planner's promise: the plan handed out is a shortest one, 22 means that there is none, and where
--- there is one a plan is handed out.
+-- What follows from the planner's promise: the plan handed out is a shortest one, 22 means that there is none, and
+-- where there is one a plan is handed out.
 -- Assumes nothing.
 use Prim.Native.Nat.{ℕ, _/_, _≤_}
 use mathlib.Core.Path.{_≡_, refl, sym, ap, _∙_, subst}

@@ -49,7 +49,8 @@ module _ (J : Job) (slice : List ℕ) where
       (first-append-pass (jobRows J) _ passes ∙ first-here PlanSlice _ [] (lt-ltb (length slice) 96 short))
       (refl, refl)
 
-  module _ (passes : first (jobRows J) ≡ Pass) (room : 96 ≤ length slice) (r : Answer) (answered : Solved J (J .goal) 0 [] r) where
+  module _ (passes : first (jobRows J) ≡ Pass) (room : 96 ≤ length slice) (r : Answer)
+      (answered : Solved J (J .goal) 0 [] r) where
     -- no plan
     pub plans-none : r .found ≡ false → Plans J slice (planned.Refused NoPlan) slice
     plans-none e = by-makespan noPlan _ slice passes room (answered .none e) (refl, refl)

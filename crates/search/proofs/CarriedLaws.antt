@@ -89,7 +89,8 @@ module _ (J : Job) (sets numbers : List ℕ) (frame : Frame) (described : Descri
       let same : x ≡ stepAt J (frame .kept) (k .0) =
       k .2 ∙ ap₂ (stepOf J) (keeps .numbers (k .0) old) (keeps .starts (k .0) old) in
       let m = chosen-at-place J (frame .kept) (frame .kept .count) (k .0) old in
-      let inKept : Place x (m .0) (keptOf J frame) = subst (λ (y : Step). Place y (m .0) (keptOf J frame)) (sym same) (m .1) in
+      let inKept : Place x (m .0) (keptOf J frame) =
+      subst (λ (y : Step). Place y (m .0) (keptOf J frame)) (sym same) (m .1) in
       not-both
       (ap (λ (set : ℕ). has set n) is
       ∙ in-unionOf (λ y. cond (ltb s (y .stop) && leb (y .stop) t) (y .action .adds) 0) n inKept

@@ -147,7 +147,8 @@ keeps-pushed frame steps actions number start known room keeps new =
     let s = known .starts in
     record {
       count = omega arith;
-      numbers = λ k m. getD-set-other (steps .numbers) (steps .count) k number 0 (λ e. omega arith) ∙ keeps .numbers k m;
+      numbers = λ k m.
+          getD-set-other (steps .numbers) (steps .count) k number 0 (λ e. omega arith) ∙ keeps .numbers k m;
       starts = λ k m. getD-set-other (steps .starts) (steps .count) k start 0 (λ e. omega arith) ∙ keeps .starts k m;
       new = λ J k m inside.
           ⊎-elim

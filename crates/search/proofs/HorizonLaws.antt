@@ -137,8 +137,8 @@ pub solved-by-finish : (file sets numbers times : List ℕ) (frame : Frame) (r :
 solved-by-finish file sets numbers times frame r whole early finishes =
     record {
       found = λ e J have count.
-          found-when-finished J file frame (frame .kept) r (keeps-kept frame) (whole .kept) (whole .starts) finishes e have
-          count;
+          found-when-finished J file frame (frame .kept) r (keeps-kept frame) (whole .kept) (whole .starts) finishes
+          e have count;
       none = λ n J task passed.
           none-when-dead J frame passed
           (finishes .dead n J (task .inFile)

@@ -103,7 +103,8 @@ module _ (J : Job) (sets numbers : List ℕ) (frame : Frame) (described : Descri
   dead-when-minutes-exceeded missing minutes is clique exceeds =
       back
       (dead-when-clique-too-long J (fromOf frame) (frame .goal) (frame .horizon) t notBefore (stands .inTime) since
-      (keptOf J frame) later-steps new-steps (frame .given) (marked .hand) 64 (markAt sets) (marked .landmarks) (apartAt sets)
+      (keptOf J frame) later-steps new-steps (frame .given) (marked .hand) 64 (markAt sets) (marked .landmarks)
+      (apartAt sets)
       (leastAt numbers) (marked .cliques) (clique .0) minutes (rw (is ∙ missing-of) at (clique .1)) exceeds)
 
   pub dead-when-pool-exceeded : (pool missing used : ℕ) → pool < 4 → pool < frame .pools → Missing sets frame st missing

@@ -75,7 +75,8 @@ abbrev Later : Job → ℕ → Steps → ℕ → ℕ → Type 0
 Later J kept steps t since =
     (k : ℕ) → kept ≤ k → k < since → t < getD (steps .starts) k 0 + actionOf J (getD (steps .numbers) k 0) .duration
 
-later-as : (J : Job) (kept : ℕ) {steps steps′ : Steps} {t t′ since since′ : ℕ} → steps ≡ steps′ → t ≡ t′ → since ≡ since′
+later-as : (J : Job) (kept : ℕ) {steps steps′ : Steps} {t t′ since since′ : ℕ} → steps ≡ steps′ → t ≡ t′
+    → since ≡ since′
     → Later J kept steps t since → Later J kept steps′ t′ since′
 later-as J kept e f g h = rw (← e, ← f, ← g) h
 
@@ -208,7 +209,8 @@ module _ (J : Job) (sets numbers : List ℕ) (frame : Frame) (described : Descri
               (taken .uses .joins J sets (described .each i known) L (stands .uses));
           twice = λ n h. twice-as (sym (taken .minute)) (sym chosen-taken) n (twice-now n h);
           enders = enders-as J frame (sym (taken .steps)) (sym (taken .minute)) (sym (taken .since)) enders-now;
-          later = later-as J (frame .kept .count) (sym (taken .steps)) (sym (taken .minute)) (sym (taken .since)) later-now;
+          later = later-as J (frame .kept .count) (sym (taken .steps)) (sym (taken .minute)) (sym (taken .since))
+              later-now;
         }
 
 -- ---- back to an event minute

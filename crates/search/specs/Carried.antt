@@ -28,5 +28,6 @@ pub record LatestStart (numbers : List ℕ) (left t from n m : ℕ) : Type 0 whe
 abbrev pub DeadUnlessCarried : List ℕ → List ℕ → List ℕ → Frame → State → ℕ → Bool → Type 0
 DeadUnlessCarried sets numbers times frame st left test =
     test ≡ false → (J : Job) → Describes J sets numbers frame
-    → TimesBound J (frame .first) (keptOf J frame) (frame .origin) times → KeepsKept frame (st .steps) → Stands J frame st
+    → TimesBound J (frame .first) (keptOf J frame) (frame .origin) times → KeepsKept frame (st .steps)
+    → Stands J frame st
     → DeadFor J frame (OpenIn frame st left) (chosen J (st .steps))

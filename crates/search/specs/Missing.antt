@@ -46,8 +46,8 @@ Missing sets frame st missing =
 -- a fresh state of which the test is false is a dead end
 abbrev pub DeadUnlessSuffices : List ℕ → List ℕ → Frame → State → Bool → Type 0
 DeadUnlessSuffices sets numbers frame st test =
-    test ≡ false → (J : Job) → Describes J sets numbers frame → Marked J sets numbers frame → KeepsKept frame (st .steps)
-    → Stands J frame st
+    test ≡ false → (J : Job) → Describes J sets numbers frame → Marked J sets numbers frame
+    → KeepsKept frame (st .steps) → Stands J frame st
     → DeadFor J frame (Until (fromOf frame) (st .minute)) (chosen J (st .steps))
 
 -- the row's shares of a set, and what is used besides, are at most so much

@@ -64,7 +64,8 @@ pub record FoundFor (J : Job) (frame : Frame) (r : Answer) : Type 0 where
 
 -- for every job in the file that has the frame's number of actions
 abbrev pub FoundIn : List ℕ → Frame → Answer → Type 0
-FoundIn file frame r = (J : Job) → FileOf J file (frame .start) (frame .stocks) → length (J .actions) ≡ frame .actions → FoundFor J frame r
+FoundIn file frame r =
+    (J : Job) → FileOf J file (frame .start) (frame .stocks) → length (J .actions) ≡ frame .actions → FoundFor J frame r
 
 -- the answer of a search: a plan found is accepted and has the kept steps; none found makes a dead end
 pub record Answered (file : List ℕ) (frame : Frame) (Dead : Type 0) (r : Answer) : Type 0 where

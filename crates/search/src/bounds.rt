@@ -8,8 +8,8 @@ use crate::minute;
 use earliest::set_time;
 use tables::Frame;
 
-// A minute before which no plan ends, where none ends by the first free minute: the one after that, or the earliest time
-// of the goal.
+// A minute before which no plan ends, where none ends by the first free minute: the one after that, or the earliest
+// time of the goal.
 pub fn lowest(times: &[u32], frame: Frame) -> u32
     requires { ⌜ (length (now times) ≡ 2080) × (frame .facts ≤ 64) ⌝ }
     ensures { λ r. ⌜ ((file sets numbers : List ℕ)

@@ -40,8 +40,8 @@ fn latest_start(numbers: &[u32], frame: Frame, st: State, left: u64, from: u16) 
     m
 }
 
-// Whether what is wanted, and added neither now nor by the actions left nor by kept steps since the event minute before,
-// and what the steps that run in the minute before need, can hold at that event minute.
+// Whether what is wanted, and added neither now nor by the actions left nor by kept steps since the event minute
+// before, and what the steps that run in the minute before need, can hold at that event minute.
 pub fn in_time(
     sets: &[u64],
     numbers: &[u32],

@@ -21,8 +21,8 @@ fn until(frame: Frame, horizon: u16) -> Frame
     other
 }
 
-// A plan that ends by the frame's horizon. With no free minute left there are the kept steps; this second call of `finish` also
-// keeps its large frame out of the recursion, where a function called once would be inlined.
+// A plan that ends by the frame's horizon. With no free minute left there are the kept steps; this second call of
+// `finish` also keeps its large frame out of the recursion, where a function called once would be inlined.
 pub fn solve(sets: &[u64], numbers: &[u32], times: &[u32], file: &[u8], frame: Frame) -> Answer
     requires { ⌜ Whole (now sets) (now numbers) (now times) frame ⌝ }
     ensures { λ r. ⌜ Solves (now (file .entry)) (now (sets .entry)) (now (numbers .entry)) (now (times .entry))

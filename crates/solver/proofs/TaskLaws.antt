@@ -141,7 +141,8 @@ module _ (day : held.Job) (task : Task) (fits : TaskFits (jobIn day) task) (give
     given-of-tables set by = by J numbers (rw (described .actions) (described .each)) (fits .known)
 
     pub numbers-of-frame : Numbers numbers (frame .actions)
-    numbers-of-frame = subst (λ (f : Frame). Numbers numbers (f .actions)) (sym same) (numbers-of-job day sets numbers passes filled)
+    numbers-of-frame =
+        subst (λ (f : Frame). Numbers numbers (f .actions)) (sym same) (numbers-of-job day sets numbers passes filled)
 
     module _ (times : List ℕ) (timed : earliest.Filled J times) where
       -- what the landmarks are filled for
@@ -186,7 +187,8 @@ module _ (day : held.Job) (task : Task) (fits : TaskFits (jobIn day) task) (give
             goal = fits .goal;
             marked = record {
               hand = day .start;
-              landmarks = subst (λ (set : ℕ). AddedByNew J (task .first) (chosen J (task .kept)) set (day .start) 64 (markAt sets))
+              landmarks = subst
+                  (λ (set : ℕ). AddedByNew J (task .first) (chosen J (task .kept)) set (day .start) 64 (markAt sets))
                   (sym adds)
                   (added-by-new-whole J (task .first) (chosen J (task .kept)) 64 (markAt sets)
                   (landmarks-when-closed J sets numbers _ (day .start) (described .actions) (described .each)

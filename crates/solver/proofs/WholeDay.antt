@@ -31,7 +31,8 @@ module _ (job : held.Job) (task : Task) (is : task ≡ wholeDay job) where
         minute = omega arith;
       }))
 
-  pub whole-day-solved : (r : Answer) → Solved (dayOf job task) (task .goal) (task .first) (inOrder (dayOf job task) (task .kept)) r
+  pub whole-day-solved : (r : Answer)
+      → Solved (dayOf job task) (task .goal) (task .first) (inOrder (dayOf job task) (task .kept)) r
       → Solved (jobIn job) (job .goal) 0 [] r
   unfolding tabulate
   whole-day-solved r solved =

@@ -29,8 +29,8 @@ wholeDay job = record { start = job .start; stocks = job .stores; goal = job .go
 abbrev pub dayOf : held.Job → Task → Job
 dayOf job task = resumed (jobIn job) (task .start) (task .stocks)
 
--- what may be asked of the job J: it passes its tests, the goal has its facts only, and the kept steps are its own, start
--- before the first free minute and stand in rising order
+-- what may be asked of the job J: it passes its tests, the goal has its facts only, and the kept steps are its own,
+-- start before the first free minute and stand in rising order
 pub record TaskFits (J : Job) (task : Task) : Type 0 where
   pub passes : first (jobRows J) ≡ Pass
   pub goal : foreign (J .facts) (task .goal) ≡ false

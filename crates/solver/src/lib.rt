@@ -62,8 +62,8 @@ fn given(sets: &[u64], kept: Steps) -> u64
     set
 }
 
-// A shortest plan of the task that counts, from the tables of the day with landmarks, its earliest times and the file of
-// the job.
+// A shortest plan of the task that counts, from the tables of the day with landmarks, its earliest times and the file
+// of the job.
 pub fn solve(job: Job, task: Task) -> Answer
     requires { ⌜ (first (jobRows (jobIn job)) ≡ Pass) × TaskFits (dayOf job task) task ⌝ }
     ensures { λ r. ⌜ Solved (dayOf job task) (task .goal) (task .first) (inOrder (dayOf job task) (task .kept)) r ⌝ }

@@ -8,10 +8,10 @@ ghost use Rattle.tables.specs.Filled.{frameOf};
 use job::Job;
 use timeline::Plan;
 
-// What of the job is no table, and what is asked of it. The search is for the goal, from the first free minute up to the
-// horizon, with the kept steps. New steps that start at the first free minute have the action's number `least` or a later
-// one; kept steps stand before them in the plan's order. The table of times counts from its origin; `given` are facts
-// that kept steps may have added, which no step has to add on the way to another fact.
+// What of the job is no table, and what is asked of it. The search is for the goal, from the first free minute up to
+// the horizon, with the kept steps. New steps that start at the first free minute have the action's number `least` or
+// a later one; kept steps stand before them in the plan's order. The table of times counts from its origin; `given` are
+// facts that kept steps may have added, which no step has to add on the way to another fact.
 pub struct Frame {
     pub facts: u8,
     pub actions: usize,

@@ -38,7 +38,8 @@ returns-2 c =
     let c-pre = c .before .before .before .before .before .before .before .before .pre in
     let c-read = c .before .before .before .before .before .before .read in
     let c-in-order = c .before .in-order in
-    finishes-read _ (c-args .frame) (c-args .steps) _ _ _ (c-read .ensures) _ (c .before .before .resumed .ensures) (c-pre)
+    finishes-read _ (c-args .frame) (c-args .steps) _ _ _ (c-read .ensures) _ (c .before .before .resumed .ensures)
+    (c-pre)
     (c-in-order .ensures .0) (c-in-order .ensures .1) (c .as-plan .ensures)
 
 pub finish-spec : {M : Type 1} → statement M

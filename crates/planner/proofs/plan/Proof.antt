@@ -49,7 +49,8 @@ returns-3 c =
     let c-if1 = c .before .before .before .if1 in
     let c-solve = c .before .solve in
     let pass = sym (c-validate .ensures) ∙ c-enum-told .given .1 in
-    let solved = whole-day-solved (c-args .job) _ (c .before .before .whole-day .ensures) (c-solve .result) (c-solve .ensures) in
+    let solved = whole-day-solved (c-args .job) _ (c .before .before .whole-day .ensures) (c-solve .result)
+    (c-solve .ensures) in
     plans-none (jobIn (c-args .job)) (c-args .out .now) pass (c-if1 .left) (c-solve .result) solved
     (not-true (c-solve .result .found) (c .if2 .taken))
 

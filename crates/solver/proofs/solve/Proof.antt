@@ -193,8 +193,10 @@ returns-2 c =
     let durations = job-durations job day task is (byte-durations day _ _ (c-fill .ensures)) in
     let file = file-of-job job _ (c-write .result) _ (c-write .ensures) durations _ (c-written .given .1) (day .start)
     (day .stores) (jobIn day) (day-resumes job day task is) (fits .passes) in
-    let adds = given-of-tables day task fits (c-given .result) (c-of .result) (c-of .ensures) _ _ (c-fill .ensures) _ (c-given .ensures) in
-    let asked = task-of-tables day task fits _ (c-of .result) (c-of .ensures) _ _ filled _ (c-fill2 .ensures) (put .2) adds _ file in
+    let adds = given-of-tables day task fits (c-given .result) (c-of .result) (c-of .ensures) _ _ (c-fill .ensures) _
+    (c-given .ensures) in
+    let asked = task-of-tables day task fits _ (c-of .result) (c-of .ensures) _ _ filled _ (c-fill2 .ensures) (put .2)
+    adds _ file in
     subst (λ (J : Job). Solved J (task .goal) (task .first) (inOrder J (task .kept)) (c .shortest .result))
     (job-in-day job day task is)
     (solved-task day task fits _ (c-of .result) (c-of .ensures) (c .shortest .result)

@@ -21,7 +21,8 @@ cast-result c = search needs
 
 returns-2 : tie.Need-returns-2
 returns-2 c =
-    c .read-number .ensures .0 ∙ sym (amount-there (c .before .before .before .args .bytes .now) (c .before .before .before .args .i) (c .before .if1 .left))
+    let c-args = c .before .before .before .args in
+    c .read-number .ensures .0 ∙ sym (amount-there (c-args .bytes .now) (c-args .i) (c .before .if1 .left))
 
 pub amount-spec : {M : Type 1} → statement M
 amount-spec =

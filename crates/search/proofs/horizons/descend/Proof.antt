@@ -48,7 +48,8 @@ returns c =
     let inv = c .before .before .loop .inv in
     record {
       found = inv .3;
-      raised = λ J task passed before bytes accepted counts. let l = inv .2 J task passed before bytes accepted counts in omega arith;
+      raised = λ J task passed before bytes accepted counts.
+          let l = inv .2 J task passed before bytes accepted counts in omega arith;
       still = inv .1;
     }
 

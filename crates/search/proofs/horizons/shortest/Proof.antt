@@ -20,7 +20,8 @@ solve-requires : tie.Need-solve-requires
 solve-requires c κs =
     let c-args = c .before .before .before .before .before .before .args in
     let c-pre = c .before .before .before .before .before .before .pre in
-    whole-when-begun (c-args .file .now) _ _ _ (c-args .frame) _ (c .before .earlier .ensures) _ (c .until .ensures) (c-pre)
+    whole-when-begun (c-args .file .now) _ _ _ (c-args .frame) _ (c .before .earlier .ensures) _ (c .until .ensures)
+    (c-pre)
 
 returns : tie.Need-returns
 returns c =

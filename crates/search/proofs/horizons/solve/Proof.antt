@@ -30,7 +30,8 @@ regress-requires c κs =
     let c-args = at8 .before .before .args in
     let c-pre = at8 .before .before .pre in
     let later = c .before .before .before .if1 .left in
-    let begins = begins-with-goal _ _ (c-args .frame) _ _ _ (c .before .before .wide .ensures .0) (c .before .look .ensures)
+    let begins = begins-with-goal _ _ (c-args .frame) _ _ _ (c .before .before .wide .ensures .0)
+    (c .before .look .ensures)
     (c .look2 .ensures) in (
       ready-at-first _ _ _ (c-args .frame) c-pre later _ begins,
       fresh-at-first _ _ _ (c-args .frame) c-pre later _ begins,

@@ -28,16 +28,20 @@ loop-holds : tie.Need-loop-holds Inv-loop μ-loop
 loop-holds c = let few = c .before .wide .ensures .1 in let same = c .wide2 .ensures .0 in (omega arith, omega arith)
 
 opening-requires : tie.Need-opening-requires Inv-loop μ-loop
-opening-requires c κs = let h = c .before .before .before .before .before .before .before .before .pre in (h .0 .numberCount, omega arith)
+opening-requires c κs =
+    let h = c .before .before .before .before .before .before .before .before .pre in (h .0 .numberCount, omega arith)
 
 used-requires : tie.Need-used-requires Inv-loop μ-loop
-used-requires c κs = let h = c .before .before .before .before .before .before .before .before .before .pre in (h .0, h .1, omega arith)
+used-requires c κs =
+    let h = c .before .before .before .before .before .before .before .before .before .pre in
+    (h .0, h .1, omega arith)
 
 mul-supply : tie.Need-mul-supply Inv-loop μ-loop
 mul-supply c = omega arith
 
 array-read-supply : tie.Need-array-read-supply Inv-loop μ-loop
-array-read-supply c = let h = c .before .before .before .before .before .before .before .before .before .before .pre in omega arith
+array-read-supply c =
+    let h = c .before .before .before .before .before .before .before .before .before .before .pre in omega arith
 
 supply-requires : tie.Need-supply-requires Inv-loop μ-loop
 supply-requires c κs = c .before .before .before .before .loop .inv .1
@@ -46,12 +50,17 @@ add-fits : tie.Need-add-fits Inv-loop μ-loop
 add-fits c = omega arith
 
 fits-requires : tie.Need-fits-requires Inv-loop μ-loop
-fits-requires c κs = let h = c .before .before .before .before .before .before .before .before .before .before .before .pre in let used = c .before .used .ensures .1 in (h .0 .numberCount, omega arith, omega arith, c .supply .ensures .1)
+fits-requires c κs =
+    let at8 = c .before .before .before .before .before .before .before .before in
+    let h = at8 .before .before .before .pre in
+    let used = c .before .used .ensures .1 in
+    (h .0 .numberCount, omega arith, omega arith, c .supply .ensures .1)
 
 returns : tie.Need-returns Inv-loop μ-loop
 returns c =
-    let h = c .before .before .before .before .before .before .before .before .before .before .before .before .before .pre in
-    let at = c .before .before .before .before .before .before .before .before .before .before .before .before .before .args in
+    let at8 = c .before .before .before .before .before .before .before .before in
+    let h = at8 .before .before .before .before .before .pre in
+    let at = at8 .before .before .before .before .before .args in
     let c-wide = c .before .before .before .before .before .before .before .before .before .wide in
     let c-wide2 = c .before .before .before .before .before .before .before .before .wide2 in
     let c-loop = c .before .before .before .before .before .before .before .loop in

@@ -38,7 +38,8 @@ returns c =
     let c-union = c .before .before .before .before .union in
     let c-of-set = c .before .before .before .of-set in
     let c-stores-suffice = c .before .stores-suffice in
-    let missing = missing-is (c-args .sets .now) (c-args .frame) (c-args .st) _ _ _ (c-union .ensures .0) (c-of-set .ensures) (c .before .before .difference .ensures .0) in
+    let missing = missing-is (c-args .sets .now) (c-args .frame) (c-args .st) _ _ _ (c-union .ensures .0)
+    (c-of-set .ensures) (c .before .before .difference .ensures .0) in
     λ e. c-stores-suffice .ensures (c-args .sets .now) missing (not-true (c-stores-suffice .result) (c .if1 .taken))
 
 pools-suffice-requires : tie.Need-pools-suffice-requires
@@ -54,7 +55,8 @@ returns-2 c =
     let c-of-set = c .before .before .before .before .before .of-set in
     let c-difference = c .before .before .before .before .difference in
     let c-pools-suffice = c .before .pools-suffice in
-    let missing = missing-is (c-args .sets .now) (c-args .frame) (c-args .st) _ _ _ (c-union .ensures .0) (c-of-set .ensures) (c-difference .ensures .0) in
+    let missing = missing-is (c-args .sets .now) (c-args .frame) (c-args .st) _ _ _ (c-union .ensures .0)
+    (c-of-set .ensures) (c-difference .ensures .0) in
     λ e. c-pools-suffice .ensures (c-args .sets .now) missing (not-true (c-pools-suffice .result) (c .if2 .taken))
 
 minutes-suffice-requires : tie.Need-minutes-suffice-requires
@@ -71,7 +73,8 @@ returns-3 c =
     let c-of-set = c .before .before .before .before .before .before .of-set in
     let c-difference = c .before .before .before .before .before .difference in
     c .minutes-suffice .ensures
-    (missing-is (c-args .sets .now) (c-args .frame) (c-args .st) _ _ _ (c-union .ensures .0) (c-of-set .ensures) (c-difference .ensures .0))
+    (missing-is (c-args .sets .now) (c-args .frame) (c-args .st) _ _ _ (c-union .ensures .0) (c-of-set .ensures)
+    (c-difference .ensures .0))
 
 pub suffices-spec : {M : Type 1} → statement M
 suffices-spec =

@@ -70,7 +70,8 @@ loop-again c =
           let d = described _ below in
           rw next
           (ap₂ _+_
-          (r .0 ∙ ap₂ (λ (amount minutes : ℕ). amount * (min (start + minutes) (c-args .t) - max start (c-args .from))) (d .pools _ inside)
+          (r .0 ∙ ap₂ (λ (amount minutes : ℕ). amount * (min (start + minutes) (c-args .t) - max start (c-args .from)))
+          (d .pools _ inside)
           (d .duration))
           (inv .2 J sets described inside)),
     )

@@ -73,8 +73,10 @@ returns c =
     let a = c .wide4 .ensures .1 in
     let b = c-minutes-in .ensures in
     let most = mul-le-mul {n₁ = c .wide4 .result} {m₁ = c-minutes-in .result} {n₂ = 2 ^ 32} {m₂ = 255} (omega arith)
-    (omega arith) in
-    (ap₂ _*_ (c .wide4 .ensures .0) (b ∙ ap₂ (λ (s e : ℕ). min e (c-args .t) - max s (c-args .from)) start stop), omega arith)
+    (omega arith) in (
+      ap₂ _*_ (c .wide4 .ensures .0) (b ∙ ap₂ (λ (s e : ℕ). min e (c-args .t) - max s (c-args .from)) start stop),
+      omega arith,
+    )
 
 pub used-by-spec : {M : Type 1} → statement M
 used-by-spec =

@@ -11,7 +11,8 @@ use Rattle.search.proofs.rules.pick.Statement.{statement}
 use Rattle.search.proofs.rules.pick.Tie as tie
 
 abbrev Inv-loop : tie.InvT-loop
-Inv-loop numbers left longest₀ k₀ longest k = (k ≤ 64) × (k < 64 → has left k ≡ true) × (longest < 64) × (has left longest ≡ true)
+Inv-loop numbers left longest₀ k₀ longest k =
+    (k ≤ 64) × (k < 64 → has left k ≡ true) × (longest < 64) × (has left longest ≡ true)
 
 abbrev μ-loop : tie.MeasureT-loop
 μ-loop numbers left longest₀ k₀ longest k = 64 - k
