@@ -53,8 +53,10 @@ module _ (J : Job) (set : ℕ) where
       let time : timeOf J (tableIn xs) set ≡ cond (ltb 530400 n) unreachable (at n) =
       time-of-set J xs (filled .able) set ∙ sym (same-time n (setNumber xs set (J .facts)) g) in
       let positive = durations-of-passed J (passed J e) in
-      answers-by Pass
-      (first-append-pass (jobRows J) last e ∙ first-next ForeignAskedFact (foreign (J .facts) set) [] f ∙ first-none) r (
+      let pass = first-append-pass (jobRows J) last e
+      ∙ first-next ForeignAskedFact (foreign (J .facts) set) [] f
+      ∙ first-none in
+      answers-by Pass pass r (
         (tableIn xs, filled .solves),
         λ T solves.
             h ∙ ap answerOf (sym time ∙ one-solution-of-sets J positive (tableIn xs) T (filled .solves) solves set),

@@ -1,13 +1,11 @@
 -- Two tables of landmarks that serve a begun day: those of what is left, and those of the whole day.
 -- Assumes nothing.
 use Prim.Native.Nat.{ℕ, _+_, _<_, _≤_}
-use mathlib.Core.Path.{_≡_, refl, sym, ap, _∙_}
-use mathlib.Core.Bool.{true, false}
 use mathlib.Core.Logic.{⊎-elim}
 use mathlib.Core.List.{List, [], _++_, append-nil}
 use native.Mathlib.Nat.{le-refl}
 use native.Mathlib.Omega.{arith}
-use Rattle.facts.specs.FactSet.{has, Subset}
+use Rattle.facts.specs.FactSet.{Subset}
 use Rattle.facts.proofs.SetLaws.{in-union-left, in-union-right}
 use Rattle.job.specs.Job.{Job}
 use Rattle.timeline.specs.Step.{Step, unionOf}

@@ -1,17 +1,17 @@
 -- Minutes of a pool: what steps use of it before a minute, each minute for itself, is within what there is in all.
 -- Assumes nothing.
-use Prim.Native.Nat.{ℕ, zero, suc, _+_, _*_, _-_, _<_, _≤_}
+use Prim.Native.Nat.{ℕ, zero, suc, _+_, _*_, _-_, _≤_}
 use mathlib.Core.Path.{_≡_, refl}
 use mathlib.Core.Logic.{⊎-elim}
 use mathlib.Core.List.{List, [], _∷_}
-use native.Mathlib.Nat.{mul-suc, mul-zero, zero-mul, mul-le-mul-left}
+use native.Mathlib.Nat.{mul-suc, mul-zero, mul-le-mul-left}
 use native.Mathlib.Omega.{arith}
 use lib.ListN.{getD}
 use Rattle.job.specs.Job.{Job}
 use Rattle.timeline.specs.Step.{Step, total}
 use Rattle.timeline.specs.Timeline.{inUse}
 use Rattle.timeline.proofs.Tests.{le-or-lt}
-use Rattle.timeline.proofs.Places.{EachStep, total-mono}
+use Rattle.timeline.proofs.Places.{total-mono}
 use Rattle.timeline.proofs.Shares.{useAt, share-when, use-of-share}
 use Rattle.landmarks.specs.Landmarks.{minutesIn}
 

@@ -15,9 +15,6 @@ use Rattle.timeline.specs.Accepted.{clashing}
 use Rattle.timeline.proofs.Tests.{not-both}
 use Rattle.timeline.proofs.Places.{Place, EachStep, place-after}
 use Rattle.timeline.proofs.Parts.{part-right, part-in-use, part-used-up, part-length, part-no-clash}
-use Rattle.times.specs.Earliest.{Table, timeOf, Solves}
-use Rattle.times.proofs.Times.{By}
-use Rattle.times.proofs.Admissible.{held-set-not-before-its-time}
 use Rattle.regression.specs.Normal.{blocked}
 use Rattle.regression.specs.Tests.{solelyProvides, deletesWanted, runningNeeds}
 use Rattle.regression.specs.DeadEnd.{NormalPlan, Until, Dead}
@@ -89,11 +86,6 @@ module _ (J : Job) (b : From) (goal T : ℕ) where
   Bounds L bound =
       (E : List Step) → EachStep (IsNew b) E → NormalPlan J b goal T (E ++ L) → (set m : ℕ) → b .minute ≤ m
       → Subset set (held (J .start) (E ++ L) m) → bound set m
-
-  -- the earliest times are one
-  pub times-bound : (times : Table) → Solves J times → (L : List Step) → Bounds L (λ set m. By (timeOf J times set) m)
-  times-bound times solves L E new p set m after =
-      held-set-not-before-its-time J times solves T goal (E ++ L) (p .plan) set m
 
   module _ (L : List Step) (bound : ℕ → ℕ → Type 0) (bounds : Bounds L bound) where
     pub dead-when-running-too-early : (t m : ℕ) → b .minute ≤ m → (bound (runningNeeds m L) m → ⊥)

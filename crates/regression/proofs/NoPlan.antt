@@ -11,17 +11,16 @@ use Rattle.job.specs.Job.{Job}
 use Rattle.job.specs.Refusal.{first}
 use Rattle.job.specs.declared.refusal.Verdict.the-variants.{Pass}
 use Rattle.job.proofs.Passed.{Passed}
-use Rattle.timeline.specs.Step.{Step, stepsIn, strictlyRising}
-use Rattle.timeline.specs.From.{From, fromMinute, IsNew, IsKept}
+use Rattle.timeline.specs.Step.{Step, strictlyRising}
+use Rattle.timeline.specs.From.{From, IsNew, IsKept}
 use Rattle.timeline.specs.Timeline.{end}
-use Rattle.timeline.specs.Accepted.{Accepted, stepRows}
-use Rattle.timeline.proofs.Places.{here, Member, EachStep, each-step, place-append}
-use Rattle.timeline.proofs.NewSteps.{new-from-minute, new-of-minute}
+use Rattle.timeline.specs.Accepted.{stepRows}
+use Rattle.timeline.proofs.Places.{here, Member, EachStep, place-append}
+use Rattle.timeline.proofs.NewSteps.{new-from-minute}
 use Rattle.timeline.proofs.AcceptedSteps.{accepted-steps}
 use Rattle.timeline.proofs.Keeps.{keeps-of-accepted}
-use Rattle.timeline.proofs.JobSteps.{OfJob, lasting-of-known, steps-in-bytes, steps-of-accepted}
-use Rattle.timeline.proofs.PlanBytes.{few-steps-of-accepted}
-use Rattle.timeline.proofs.Permutations.{Permutation, empty, next-step, permutation-sym, permutation-each}
+use Rattle.timeline.proofs.JobSteps.{OfJob, lasting-of-known}
+use Rattle.timeline.proofs.Permutations.{Permutation, permutation-sym, permutation-each}
 use Rattle.timeline.proofs.Permutations.{permutation-keeps, permutation-length, permutation-of-members}
 use Rattle.timeline.proofs.Rising.{AllApart, rising-apart, apart-distinct}
 use Rattle.times.proofs.PlanSteps.{PlanOf}
@@ -84,18 +83,3 @@ module _ (J : Job) (b : From) (goal T : ℕ) where
       let j = place-append K i in
       (normal .1 x Q i, n .lasting x (Q ++ K) j, n .inTime x (Q ++ K) j))
       (normal .2)
-
--- ---- an ordinary call: no kept steps, and every minute is free
-append-nothing : (P : List Step) → Permutation P (P ++ [])
-append-nothing [] = empty
-append-nothing (x ∷ P) = next-step here (append-nothing P)
-
--- no accepted plan ends by T
-pub no-accepted-plan-when-dead : (J : Job) (goal T : ℕ) → Passed J
-    → Dead J (fromMinute 0) goal T (Until (fromMinute 0) T) [] → (bytes : List ℕ) → Accepted J goal bytes
-    → end (stepsIn J bytes) ≤ T → ⊥
-no-accepted-plan-when-dead J goal T passed dead bytes accepted l =
-    no-plan-when-dead J (fromMinute 0) goal T passed (stepsIn J bytes) [] (stepsIn J bytes)
-    (append-nothing (stepsIn J bytes)) (steps-in-bytes J bytes) (λ x Q i. new-of-minute 0 x (omega arith))
-    (each-step (IsKept (fromMinute 0)) [] tt) (few-steps-of-accepted J goal bytes accepted)
-    (steps-of-accepted J goal bytes accepted) l dead

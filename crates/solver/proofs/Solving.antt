@@ -1,16 +1,15 @@
 -- From the answer of the search to the makespan.
 -- Assumes nothing.
-use Prim.Native.Nat.{ℕ, _<_, _≤_}
+use Prim.Native.Nat.{ℕ, _<_}
 use mathlib.Core.Path.{_≡_}
 use mathlib.Core.Bool.{true, false}
 use mathlib.Core.Logic.{inl}
-use mathlib.Core.List.{List}
 use native.Mathlib.Omega.{arith}
 use lib.ListN.{length, getD}
 use Rattle.lists.proofs.Tabulate.{length-tabulate}
 use Rattle.job.specs.Job.{Job}
 use Rattle.job.proofs.Passed.{Passed}
-use Rattle.timeline.specs.Step.{Step, strictlyRising}
+use Rattle.timeline.specs.Step.{strictlyRising}
 use Rattle.timeline.proofs.Places.{EachStep}
 use Rattle.timeline.proofs.Permutations.{permutation-each}
 use Rattle.makespan.specs.Makespan.{LeastEnd}

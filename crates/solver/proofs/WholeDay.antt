@@ -1,7 +1,7 @@
 -- The whole day of a job is a task that fits, and every plan counts.
 -- Assumes nothing.
-use mathlib.Core.Path.{_≡_, refl, sym, _∙_, subst}
-use mathlib.Core.List.{List, []}
+use mathlib.Core.Path.{_≡_, refl, sym, subst}
+use mathlib.Core.List.{[]}
 use native.Mathlib.Omega.{arith}
 use Rattle.lists.specs.Lists.{tabulate}
 use Rattle.job.specs.declared.Job as held

@@ -1,11 +1,10 @@
 -- `pools_suffice` meets its contract: the pool that does not makes a dead end.
 -- Assumes nothing.
 use Prim.Native.Nat.{ℕ, _+_, _*_, _-_, _≤_, _<_}
-use mathlib.Core.Path.{_≡_, sym, ap, ap₂, _∙_}
+use mathlib.Core.Path.{sym, ap, ap₂, _∙_}
 use mathlib.Core.Bool.{true≢false}
 use lib.ListN.{getD}
 use borrow.Author.Tests.{not-true}
-use Rattle.landmarks.specs.Openings.{openAt}
 use Rattle.search.specs.Missing.{fits}
 use Rattle.search.proofs.MissingLaws.{dead-when-pool-exceeded}
 use native.Mathlib.Omega.{arith}

@@ -1,11 +1,7 @@
 -- `suffices` meets its contract: the tests are of the landmarks of what must hold, less what is given.
 -- Assumes nothing.
-use Prim.Native.Nat.{ℕ}
-use mathlib.Core.Path.{ap, _∙_}
 use borrow.Author.Tests.{not-true}
 use Rattle.facts.specs.FactSet.{difference}
-use Rattle.landmarks.specs.Landmarks.{marksOf}
-use Rattle.landmarks.specs.Tables.{markAt}
 use Rattle.search.proofs.AmountLaws.{sums-of-more}
 use Rattle.search.proofs.MissingLaws.{missing-is}
 use borrow.Author.Needs.{needs}

@@ -2,7 +2,7 @@
 -- Assumes nothing.
 use mathlib.Core.Bool.{true≢false}
 use native.Mathlib.Omega.{arith}
-use Prim.Native.Nat.{ℕ, _+_, _<_}
+use Prim.Native.Nat.{ℕ}
 use mathlib.Core.Path.{ap}
 use Rattle.earliest.specs.Numbers.{setNumber}
 use Rattle.search.proofs.StateTests.{dead-when-rushed}
