@@ -2,6 +2,7 @@
 use job::Action;
 use job::Counts;
 use job::Job;
+use job::same::same;
 
 // A job without pools, stores and actions.
 pub fn empty(facts: u8, deadline: u16, start: u64, goal: u64) -> Job {
@@ -80,4 +81,17 @@ pub fn with_counts(mut job: Job, pools: usize, stores: usize, actions: usize) ->
     };
     job.counts = counts;
     job
+}
+
+// The job as if it had every pool, store and action.
+fn whole(job: Job) -> Job {
+    with_counts(job, Job::POOLS, Job::STORES, Job::ACTIONS)
+}
+
+// Whether two jobs agree in every place, also beyond their counts.
+pub fn same_everywhere(a: Job, b: Job) -> bool {
+    (a.counts.pools == b.counts.pools)
+        & (a.counts.stores == b.counts.stores)
+        & (a.counts.actions == b.counts.actions)
+        & same(whole(a), whole(b))
 }

@@ -1,0 +1,153 @@
+// The calls, and what is printed of their answers.
+use crate::Record;
+use crate::lent;
+use crate::lent::front;
+use checker::Checked;
+use earliest::EarliestTime;
+use job::Job;
+use job::refusal::Refusal;
+use job::refusal::Verdict;
+use jobfile::Written;
+use libc::STDOUT_FILENO;
+use made_jobs::parts::same_everywhere;
+use output::number;
+use output::text;
+use planner::Planned;
+use timeline::Plan;
+
+fn refused(why: Refusal) {
+    text(b"refused ");
+    number(job::refusal::number(why) as u64);
+}
+
+// One of two words.
+fn choose(is_first: bool, first: &[u8], second: &[u8]) {
+    if is_first {
+        text(first);
+    } else {
+        text(second);
+    }
+}
+
+// The answer to a record. Each call begins with the reader: a file that it refuses leaves a job of zeros.
+pub fn answer(record: Record, file: &[u8], input: &[u8]) {
+    let reading = reader::read(file);
+    let verdict = reading.verdict;
+    let job = reading.job;
+    match verdict {
+        Verdict::Pass => answer_for(job, record, file, input),
+        Verdict::Refused(why) => {
+            refused(why);
+            choose(same_everywhere(job, Job::zero()), b"", b", job not zero");
+        }
+    }
+}
+
+// The answer to a record whose file holds this job.
+fn answer_for(job: Job, record: Record, file: &[u8], input: &[u8]) {
+    let call = record.call;
+    match call {
+        b'r' => text(b"accepted"),
+        b'w' => print_rewritten(job, file, record.room),
+        b'b' => print_bytes(job, record.set as usize, record.room),
+        b'c' => print_checked(checker::check(job, input)),
+        b'g' => print_checked(checker::check_for(job, record.set, input)),
+        b'e' => print_earliest(job, record.set),
+        b'p' => print_plan(job, record.room),
+        _ => text(b"no such call"),
+    }
+}
+
+// The job is written into a slice of so many bytes.
+fn print_rewritten(job: Job, file: &[u8], length: usize) {
+    let mut slice = [lent::FILL; lent::ROOM];
+    match lent::write(&mut slice, length, job) {
+        Written::Length(size) => {
+            number(size as u64);
+            choose(
+                check::same(front(&slice, size), file),
+                b" bytes, file same",
+                b" bytes, file different",
+            );
+            choose(lent::kept(&slice, size), b", rest kept", b", rest changed");
+        }
+        Written::Refused(why) => {
+            refused(why);
+            choose(lent::kept(&slice, 0), b", slice kept", b", slice changed");
+        }
+    }
+}
+
+// The bytes that the writer makes, from one place up to another, in hexadecimal digits.
+fn print_bytes(job: Job, from: usize, to: usize) {
+    let mut slice = [lent::FILL; lent::ROOM];
+    lent::write(&mut slice, lent::ROOM, job);
+    digits(lent::rest(front(&slice, to), from));
+}
+
+fn digits(bytes: &[u8]) {
+    let mut at = 0;
+    while at < bytes.len() {
+        digit_pair(at == 0, bytes[at]);
+        at += 1;
+    }
+}
+
+fn digit_pair(is_first: bool, byte: u8) {
+    choose(is_first, b"", b" ");
+    io::print_hex(STDOUT_FILENO, byte as u64, 2);
+}
+
+fn print_checked(checked: Checked) {
+    match checked {
+        Checked::Ends(end) => {
+            text(b"ends ");
+            number(end as u64);
+        }
+        Checked::Refused(why) => refused(why),
+    }
+}
+
+fn print_earliest(job: Job, set: u64) {
+    match earliest::earliest(job, set) {
+        EarliestTime::At(minute) => number(minute as u64),
+        EarliestTime::Unreachable => text(b"unreachable"),
+        EarliestTime::Refused(why) => refused(why),
+    }
+}
+
+// Whether the checker accepts the plan with this end.
+fn accepted(job: Job, plan: &[u8], end: u32) -> bool {
+    match checker::check(job, plan) {
+        Checked::Ends(last) => last == end,
+        Checked::Refused(_) => false,
+    }
+}
+
+// Whether so many steps at the front of the slice are accepted with this end, and the rest is as before.
+fn handed_out(job: Job, slice: &[u8], end: u32, steps: usize) -> bool {
+    if Plan::STEPS < steps {
+        return false;
+    }
+    let size = steps * Plan::STEP;
+    accepted(job, front(slice, size), end) & lent::kept(slice, size)
+}
+
+// The planner is lent a slice of so many bytes.
+fn print_plan(job: Job, length: usize) {
+    let mut slice = [lent::FILL; lent::ROOM];
+    match lent::plan(&mut slice, length, job) {
+        Planned::Ends(end, steps) => {
+            text(b"ends ");
+            number(end as u64);
+            text(b", ");
+            number(steps as u64);
+            text(b" steps");
+            choose(handed_out(job, &slice, end, steps), b"", b", wrong bytes");
+        }
+        Planned::Refused(why) => {
+            refused(why);
+            choose(lent::kept(&slice, 0), b"", b", wrong bytes");
+        }
+    }
+}

@@ -1,0 +1,58 @@
+// A slice that is lent to the writer or the planner, and what it holds afterwards.
+use job::Job;
+use jobfile::Written;
+use planner::Planned;
+
+// What a byte of the slice holds before.
+pub const FILL: u8 = 170;
+
+// The bytes of the longest slice.
+pub const ROOM: usize = 4_200;
+
+// The first bytes, so many, or all where there are fewer.
+pub fn front(bytes: &[u8], length: usize) -> &[u8] {
+    if length <= bytes.len() {
+        &bytes[0..length]
+    } else {
+        bytes
+    }
+}
+
+// The bytes from a place on, or all where it is past the end.
+pub fn rest(bytes: &[u8], from: usize) -> &[u8] {
+    if from <= bytes.len() {
+        &bytes[from..]
+    } else {
+        bytes
+    }
+}
+
+// Whether every byte from a place on is as before.
+pub fn kept(slice: &[u8], from: usize) -> bool {
+    let mut i = from;
+    while i < slice.len() {
+        if slice[i] != FILL {
+            return false;
+        }
+        i += 1;
+    }
+    true
+}
+
+// The writer with the first bytes of a slice, so many.
+pub fn write(slice: &mut [u8], length: usize, job: Job) -> Written {
+    if length <= slice.len() {
+        writer::write(job, &mut slice[0..length])
+    } else {
+        writer::write(job, slice)
+    }
+}
+
+// The planner with the first bytes of a slice, so many.
+pub fn plan(slice: &mut [u8], length: usize, job: Job) -> Planned {
+    if length <= slice.len() {
+        planner::plan(job, &mut slice[0..length])
+    } else {
+        planner::plan(job, slice)
+    }
+}
