@@ -44,11 +44,6 @@ pub fn case_7(store: u32) -> Job {
     with_two(with_store(empty(2, 4, 0b00, 0b11), store), first, second)
 }
 
-// Case 12: one action of this length adds the one fact, the goal.
-pub fn single(deadline: u16, length: u8) -> Job {
-    with_action(empty(1, deadline, 0, 1), action(length, 0, 1, 0))
-}
-
 // Case 13: no action adds fact 1, the goal.
 pub fn case_13(deadline: u16) -> Job {
     with_action(empty(2, deadline, 0b00, 0b10), action(1, 0, 0b01, 0))

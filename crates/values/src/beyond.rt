@@ -1,0 +1,127 @@
+// Other numbers beyond the counts of a job.
+use crate::calls::ROOM;
+use crate::jobs;
+use checker::Checked;
+use earliest::EarliestTime;
+use job::Job;
+use job::refusal::number;
+use job::same::same;
+use made_jobs::parts;
+use output::text;
+use planner::Planned;
+
+// The shortest day of this job is action 0 at 0 and 1 at 3.
+fn day() -> Job {
+    let job = parts::with_store(parts::with_pool(parts::empty(3, 10, 0b001, 0b110), 2), 3);
+    parts::with_two(
+        job,
+        jobs::action(3, 0b001, 0b010, 0, 1, 1),
+        jobs::action(2, 0b010, 0b100, 0, 1, 1),
+    )
+}
+
+// The day with these numbers in the places beyond its one pool and one store.
+fn day_with(availability: u32, amount: u32) -> Job {
+    let mut job = day();
+    job.pools = [2, availability, availability, availability];
+    job.stores = [3, availability, availability, availability];
+    let mut action = job.actions[0];
+    action.pools = [1, amount, amount, amount];
+    action.stores = [1, amount, amount, amount];
+    job.actions[0] = action;
+    job
+}
+
+// The day with an action beyond its two, which 8, 9 and 10 would refuse.
+fn day_with_action() -> Job {
+    let three = parts::with_action(day(), parts::action(0, 8, 8, 8));
+    parts::with_counts(three, 1, 1, 2)
+}
+
+fn show(word: &[u8], number: u64) {
+    text(word);
+    output::number(number);
+}
+
+fn checked(answer: Checked) {
+    match answer {
+        Checked::Ends(end) => show(b"check ends ", end as u64),
+        Checked::Refused(why) => show(b"check refused ", number(why) as u64),
+    }
+}
+
+fn planned(job: Job) {
+    let mut slice = [0u8; ROOM];
+    match planner::plan(job, &mut slice) {
+        Planned::Ends(end, _) => show(b", plan ends ", end as u64),
+        Planned::Refused(why) => show(b", plan refused ", number(why) as u64),
+    }
+}
+
+fn timed(answer: EarliestTime) {
+    match answer {
+        EarliestTime::At(minute) => show(b", earliest ", minute as u64),
+        EarliestTime::Unreachable => text(b", unreachable"),
+        EarliestTime::Refused(why) => show(b", earliest refused ", number(why) as u64),
+    }
+}
+
+// What is answered to the job, with this plan for the checker and the goal for the earliest time.
+fn answers(case: &[u8], job: Job, plan: &[u8]) {
+    output::name(case);
+    checked(checker::check(job, plan));
+    planned(job);
+    timed(earliest::earliest(job, job.goal));
+    text(b"\n");
+}
+
+pub fn ignored() {
+    output::heading(b"What is beyond its counts is ignored.");
+    let plan = [0u8, 0, 0, 1, 3, 0];
+    answers(b"zeros beyond", day(), &plan);
+    answers(b"9 of 0 beyond", day_with(0, 9), &plan);
+    answers(
+        b"4,000,000,000 beyond",
+        day_with(4_000_000_000, 4_000_000_000),
+        &plan,
+    );
+    answers(b"length 0 beyond", day_with_action(), &plan);
+    answers(
+        b"a step beyond",
+        day_with_action(),
+        &[0, 0, 0, 1, 3, 0, 2, 5, 0],
+    );
+}
+
+// Whether two values hold the same job.
+fn compare(case: &[u8], a: Job, b: Job) {
+    output::name(case);
+    if same(a, b) {
+        text(b"same\n");
+    } else {
+        text(b"different\n");
+    }
+}
+
+pub fn same_jobs() {
+    output::heading(b"Two jobs are the same if their counts and all within them agree.");
+    compare(b"9 of 0 beyond", day(), day_with(0, 9));
+    compare(
+        b"4,000,000,000 beyond",
+        day(),
+        day_with(4_000_000_000, 4_000_000_000),
+    );
+    compare(b"length 0 beyond", day(), day_with_action());
+    compare(b"a pool of 0 more", day(), parts::with_pool(day(), 0));
+    compare(b"a pool of 3 for 2", day(), jobs::with_first_pool(day(), 3));
+    compare(
+        b"deadline 11 for 10",
+        day(),
+        jobs::with_head(day(), 3, 11, 0b001, 0b110),
+    );
+    compare(b"another use by action 1", day(), other_use());
+}
+
+fn other_use() -> Job {
+    jobs::with_action(day(), 1, jobs::action(2, 0b010, 0b100, 0, 1, 2))
+}

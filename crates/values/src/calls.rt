@@ -1,0 +1,96 @@
+// What the calls answer to a job value.
+use checker::Checked;
+use earliest::EarliestTime;
+use job::Job;
+use job::refusal::number;
+use jobfile::Written;
+use output::text;
+use planner::Planned;
+
+// What a byte of a lent slice holds before, and the bytes of the longest slice.
+pub const FILL: u8 = 170;
+
+pub const ROOM: usize = 4_200;
+
+// The number of a refusal, 0 for none.
+fn written(answer: Written) -> u8 {
+    match answer {
+        Written::Length(_) => 0,
+        Written::Refused(why) => number(why),
+    }
+}
+
+fn checked(answer: Checked) -> u8 {
+    match answer {
+        Checked::Ends(_) => 0,
+        Checked::Refused(why) => number(why),
+    }
+}
+
+fn planned(answer: Planned) -> u8 {
+    match answer {
+        Planned::Ends(_, _) => 0,
+        Planned::Refused(why) => number(why),
+    }
+}
+
+fn timed(answer: EarliestTime) -> u8 {
+    match answer {
+        EarliestTime::At(_) => 0,
+        EarliestTime::Unreachable => 0,
+        EarliestTime::Refused(why) => number(why),
+    }
+}
+
+// Whether every byte is as before.
+fn kept(slice: &[u8]) -> bool {
+    let mut i = 0;
+    while i < slice.len() {
+        if slice[i] != FILL {
+            return false;
+        }
+        i += 1;
+    }
+    true
+}
+
+// The writer and the planner, lent the same slice.
+fn lend(job: Job, slice: &mut [u8]) {
+    show(b"write ", written(writer::write(job, slice)));
+    show(b", plan ", planned(planner::plan(job, slice)));
+}
+
+// The same with the first bytes of a slice, so many.
+fn lend_front(job: Job, slice: &mut [u8], length: usize) {
+    if length <= slice.len() {
+        lend(job, &mut slice[0..length]);
+    } else {
+        lend(job, slice);
+    }
+}
+
+// The same, and whether the slice is as before.
+fn lent(job: Job, length: usize) {
+    let mut slice = [FILL; ROOM];
+    lend_front(job, &mut slice, length);
+    if kept(&slice) {
+        text(b", slice kept");
+    } else {
+        text(b", slice changed");
+    }
+}
+
+fn show(call: &[u8], number: u8) {
+    text(call);
+    output::number(number as u64);
+}
+
+// The refusal of each call: with a slice of so many bytes, this plan and this set.
+pub fn refusals(case: &[u8], job: Job, length: usize, plan: &[u8], set: u64) {
+    output::name(case);
+    lent(job, length);
+    show(b", check ", checked(checker::check(job, plan)));
+    show(b", check for ", checked(checker::check_for(job, set, plan)));
+    show(b", earliest ", timed(earliest::earliest(job, set)));
+    text(b"\n");
+}
