@@ -321,17 +321,17 @@ fn row(line: &str, names: &Names) -> Result<(Record, String), Fault> {
     Ok((record, answer.to_string()))
 }
 
+// A record as the program reads it: the head, then the title, the file and the input.
 fn record_bytes(record: &Record) -> Result<Vec<u8>, Fault> {
     let title = record.title.as_bytes();
     if title.len() > 255 || record.file.len() > 4_200 || record.input.len() > 255 || record.room > 4_200 {
-        return fault("a title, file, input or slice is too long", &record.title);
+        return fault("a title, file, plan or slice is too long", &record.title);
     }
+    let body = [title, &record.file, &record.input].concat();
     let mut bytes = vec![record.call, title.len() as u8];
-    bytes.extend(bytes_of(record.file.len() as u64, 2));
-    bytes.push(record.input.len() as u8);
-    bytes.extend(bytes_of(record.room, 2));
+    bytes.extend([record.file.len(), body.len(), record.room as usize].iter().flat_map(|x| bytes_of(*x as u64, 2)));
     bytes.extend(bytes_of(record.set, 8));
-    bytes.extend([title, &record.file, &record.input].concat());
+    bytes.extend(body);
     Ok(bytes)
 }
 

@@ -30,30 +30,39 @@ fn choose(is_first: bool, first: &[u8], second: &[u8]) {
 }
 
 // The answer to a record. Each call begins with the reader: a file that it refuses leaves a job of zeros.
-pub fn answer(record: Record, file: &[u8], input: &[u8]) {
+pub fn answer(record: Record, file: &[u8], plan: &[u8]) {
     let reading = reader::read(file);
     let verdict = reading.verdict;
     let job = reading.job;
     match verdict {
-        Verdict::Pass => answer_for(job, record, file, input),
-        Verdict::Refused(why) => {
-            refused(why);
-            choose(same_everywhere(job, Job::zero()), b"", b", job not zero");
-        }
+        Verdict::Pass => answer_for(job, record, file, plan),
+        Verdict::Refused(why) => refused_file(why, job),
     }
 }
 
-// The answer to a record whose file holds this job.
-fn answer_for(job: Job, record: Record, file: &[u8], input: &[u8]) {
+fn refused_file(why: Refusal, job: Job) {
+    refused(why);
+    choose(same_everywhere(job, Job::zero()), b"", b", job not zero");
+}
+
+// The answer to a record whose file holds this job: of the reader, the writer and the planner.
+fn answer_for(job: Job, record: Record, file: &[u8], plan: &[u8]) {
     let call = record.call;
     match call {
         b'r' => text(b"accepted"),
         b'w' => print_rewritten(job, file, record.room),
         b'b' => print_bytes(job, record.set as usize, record.room),
-        b'c' => print_checked(checker::check(job, input)),
-        b'g' => print_checked(checker::check_for(job, record.set, input)),
-        b'e' => print_earliest(job, record.set),
         b'p' => print_plan(job, record.room),
+        _ => answer_asked(job, call, record.set, plan),
+    }
+}
+
+// Of the checker and of the earliest time.
+fn answer_asked(job: Job, call: u8, set: u64, plan: &[u8]) {
+    match call {
+        b'c' => print_checked(checker::check(job, plan)),
+        b'g' => print_checked(checker::check_for(job, set, plan)),
+        b'e' => print_time(earliest::earliest(job, set)),
         _ => text(b"no such call"),
     }
 }
@@ -108,8 +117,8 @@ fn print_checked(checked: Checked) {
     }
 }
 
-fn print_earliest(job: Job, set: u64) {
-    match earliest::earliest(job, set) {
+fn print_time(time: EarliestTime) {
+    match time {
         EarliestTime::At(minute) => number(minute as u64),
         EarliestTime::Unreachable => text(b"unreachable"),
         EarliestTime::Refused(why) => refused(why),
@@ -137,17 +146,21 @@ fn handed_out(job: Job, slice: &[u8], end: u32, steps: usize) -> bool {
 fn print_plan(job: Job, length: usize) {
     let mut slice = [lent::FILL; lent::ROOM];
     match lent::plan(&mut slice, length, job) {
-        Planned::Ends(end, steps) => {
-            text(b"ends ");
-            number(end as u64);
-            text(b", ");
-            number(steps as u64);
-            text(b" steps");
-            choose(handed_out(job, &slice, end, steps), b"", b", wrong bytes");
-        }
-        Planned::Refused(why) => {
-            refused(why);
-            choose(lent::kept(&slice, 0), b"", b", wrong bytes");
-        }
+        Planned::Ends(end, steps) => print_day(job, &slice, end, steps),
+        Planned::Refused(why) => print_no_day(why, &slice),
     }
+}
+
+fn print_day(job: Job, slice: &[u8], end: u32, steps: usize) {
+    text(b"ends ");
+    number(end as u64);
+    text(b", ");
+    number(steps as u64);
+    text(b" steps");
+    choose(handed_out(job, slice, end, steps), b"", b", wrong bytes");
+}
+
+fn print_no_day(why: Refusal, slice: &[u8]) {
+    refused(why);
+    choose(lent::kept(slice, 0), b"", b", wrong bytes");
 }

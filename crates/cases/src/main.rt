@@ -4,23 +4,20 @@ mod calls; // the calls and their answers
 mod lent; // a lent slice, and what it holds afterwards
 
 use lent::front;
+use lent::rest;
 
-// The bytes of a record's head, and of the longest title, file and input.
-const HEAD: usize = 15;
+// The bytes of a record's head, and room for the longest body.
+const HEAD: usize = 16;
 
-const TITLE: usize = 255;
+const BODY: usize = 4_800;
 
-const FILE: usize = 4_200;
-
-const INPUT: usize = 255;
-
-// A record: the letter of its call, the lengths of its title, file and input, which follow in this order, and the
-// numbers that the call is given.
+// The head of a record: the letter of its call, the lengths of its title, its file and its body, and the numbers that
+// the call is given. The body is the title, the file and, behind them, a plan.
 pub struct Record {
     pub call: u8,
     pub title: usize,
     pub file: usize,
-    pub input: usize,
+    pub body: usize,
     pub room: usize, // the length of the lent slice
     pub set: u64,
 }
@@ -30,9 +27,9 @@ fn record_in(bytes: &[u8; HEAD]) -> Record {
         call: bytes[0],
         title: encoding::read_number(bytes, 1, 1) as usize,
         file: encoding::read_number(bytes, 2, 2) as usize,
-        input: encoding::read_number(bytes, 4, 1) as usize,
-        room: encoding::read_number(bytes, 5, 2) as usize,
-        set: encoding::read_number(bytes, 7, 8),
+        body: encoding::read_number(bytes, 4, 2) as usize,
+        room: encoding::read_number(bytes, 6, 2) as usize,
+        set: encoding::read_number(bytes, 8, 8),
     }
 }
 
@@ -44,37 +41,39 @@ fn load(fd: i32, buffer: &mut [u8], length: usize) -> bool {
     io::read_full(fd, &mut buffer[0..length]) == length
 }
 
-fn print(record: Record, title: &[u8], file: &[u8], input: &[u8]) {
+// The line of a record, or its title alone where that is a heading.
+fn print(record: Record, title: &[u8], given: &[u8]) {
     if record.call == b'h' {
         output::heading(title);
         return;
     }
     output::name(title);
-    calls::answer(record, file, input);
+    calls::answer(record, front(given, record.file), rest(given, record.file));
     output::text(b"\n");
 }
 
 // The next record. False where the file ends.
 fn run(fd: i32) -> bool {
-    let mut bytes = [0u8; HEAD];
-    if !load(fd, &mut bytes, HEAD) {
+    let mut head = [0u8; HEAD];
+    if !load(fd, &mut head, HEAD) {
         return false;
     }
-    let record = record_in(&bytes);
-    let mut title = [0u8; TITLE];
-    let mut file = [0u8; FILE];
-    let mut input = [0u8; INPUT];
-    let titled = load(fd, &mut title, record.title);
-    let whole = load(fd, &mut file, record.file) & load(fd, &mut input, record.input);
-    if titled & whole {
-        print(
-            record,
-            front(&title, record.title),
-            front(&file, record.file),
-            front(&input, record.input),
-        );
+    run_body(fd, record_in(&head))
+}
+
+// The record with this head.
+fn run_body(fd: i32, record: Record) -> bool {
+    let mut body = [0u8; BODY];
+    if !load(fd, &mut body, record.body) {
+        return false;
     }
-    titled & whole
+    let whole = front(&body, record.body);
+    print(
+        record,
+        front(whole, record.title),
+        rest(whole, record.title),
+    );
+    true
 }
 
 // So many records, or fewer where the file ends.
