@@ -336,30 +336,37 @@ fn record_bytes(record: &Record) -> Result<Vec<u8>, Fault> {
 }
 
 // The names of all tables: `job NAME: changes` or `change NAME: changes`, and the indented lines below.
-fn names_in(lines: &[(String, String)]) -> Names {
+fn names_in(lines: &[(String, String)]) -> Result<Names, Fault> {
     let mut names = Names::new();
     let mut open = String::new();
-    for (_, line) in lines {
+    for (place, line) in lines {
         let defined = line.strip_prefix("job ").or(line.strip_prefix("change "));
         if let Some((name, changes)) = defined.map(|text| text.split_once(':').unwrap_or((text, ""))) {
             open = name.trim().to_string();
-            names.insert(open.clone(), vec![]);
-            add_changes(&mut names, &open, changes);
+            if names.insert(open.clone(), vec![]).is_some() {
+                return Err(format!("{place}: the name '{open}' is taken"));
+            }
+            add_changes(&mut names, &open, changes).map_err(|what| format!("{place}: {what}"))?;
         } else if line.starts_with(' ') {
-            add_changes(&mut names, &open, line);
+            add_changes(&mut names, &open, line).map_err(|what| format!("{place}: {what}"))?;
         }
     }
-    names
+    Ok(names)
 }
 
-fn add_changes(names: &mut Names, name: &str, text: &str) {
-    let changes = text.split(';').map(|part| part.trim().to_string()).filter(|part| !part.is_empty());
-    names.entry(name.to_string()).or_default().extend(changes);
+fn add_changes(names: &mut Names, name: &str, text: &str) -> Result<(), Fault> {
+    for change in text.split(';').map(str::trim).filter(|change| !change.is_empty()) {
+        if change == name {
+            return fault("a job that is made from itself", name);
+        }
+        names.entry(name.to_string()).or_default().push(change.to_string());
+    }
+    Ok(())
 }
 
 // The records of the tables, and what they are to print.
 fn tables(lines: &[(String, String)]) -> Result<(Vec<u8>, String), Fault> {
-    let names = names_in(lines);
+    let names = names_in(lines)?;
     let mut records = vec![];
     let mut output = String::new();
     for (place, line) in lines {
