@@ -19,6 +19,8 @@ use pairs::Pair;
 use search::horizons;
 use tables::Frame;
 use tables::Steps;
+use tables::layout::NumberTable;
+use tables::layout::SetTable;
 
 // What is asked of a job: with which facts the day starts and what its stores have, the goal, the first minute at which
 // new steps may start, and the kept steps, which start before it.
@@ -56,7 +58,7 @@ fn given(sets: &[u64], kept: Steps) -> u64
     let mut k = 0;
     while k < kept.count {
         let i = kept.numbers[k] as usize;
-        set = facts::union(sets[i * 4 + 1], set);
+        set = facts::union(sets[i * SetTable::ROW + SetTable::ADDS], set);
         k += 1;
     }
     set
@@ -71,8 +73,8 @@ pub fn solve(job: Job, task: Task) -> Answer
     let stocks = task.stocks;
     let kept = task.kept;
     let day = resumed::resumed(job, task.start, stocks);
-    let mut sets = [0u64; Frame::SETS];
-    let mut numbers = [0u32; Frame::NUMBERS];
+    let mut sets = [0u64; SetTable::ENTRIES];
+    let mut numbers = [0u32; NumberTable::ENTRIES];
     tables::fill::fill(&mut sets, &mut numbers, day);
     let mut times = [set_time::NONE; Pair::COUNT];
     earliest::sweep::fill(&mut times, day);

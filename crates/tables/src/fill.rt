@@ -5,6 +5,8 @@ ghost use lib.ListN.{length};
 ghost use Rattle.job.specs.Job.{jobIn, Fits};
 ghost use Rattle.tables.specs.Filled.{SetsFilled, NumbersFilled, EachFilled, Filled};
 ghost use Rattle.tables.specs.Filled.{Clash, ClashSet, SameBefore, ValuesPut};
+use crate::layout::NumberTable;
+use crate::layout::SetTable;
 use job::Action;
 use job::Job;
 
@@ -48,11 +50,11 @@ fn put_sets(sets: &mut [u64], job: Job, i: usize)
 {
     let action = job.actions[i];
     let clashing = clash_set(job, i);
-    let at = i * 4;
+    let at = i * SetTable::ROW;
     sets[at] = action.needs;
-    sets[at + 1] = action.adds;
-    sets[at + 2] = action.deletes;
-    sets[at + 3] = clashing;
+    sets[at + SetTable::ADDS] = action.adds;
+    sets[at + SetTable::DELETES] = action.deletes;
+    sets[at + SetTable::CLASHES] = clashing;
 }
 
 // Puts the sets of all actions into the table.
@@ -75,7 +77,7 @@ fn put_amounts(numbers: &mut [u32], at: usize, amounts: [u32; Job::POOLS])
     ensures { λ r. ⌜ ValuesPut (now (numbers .entry)) at 4 amounts (now (numbers .exit)) ⌝ }
 {
     let mut k = 0;
-    while k < 4 {
+    while k < Job::POOLS {
         numbers[at + k] = amounts[k];
         k += 1;
     }
@@ -90,10 +92,10 @@ fn put_numbers(numbers: &mut [u32], job: Job, i: usize)
     let action = job.actions[i];
     let pools = action.pools;
     let stores = action.stores;
-    let at = i * 9;
+    let at = i * NumberTable::ROW;
     numbers[at] = minutes(action.duration);
-    put_amounts(numbers, at + 1, pools);
-    put_amounts(numbers, at + 5, stores);
+    put_amounts(numbers, at + NumberTable::POOLS, pools);
+    put_amounts(numbers, at + NumberTable::STORES, stores);
 }
 
 // Puts the numbers of all actions into the table.

@@ -1,4 +1,5 @@
 // A job in tables of numbers, for the search to borrow; the steps that it has chosen.
+pub mod layout; // where the tables have what
 pub mod fill; // the tables of a job
 
 ghost use mathlib.Core.Path.{_≡_};
@@ -30,12 +31,6 @@ pub struct Frame {
 }
 
 impl Frame {
-    // How many entries the tables have: four sets for each action and two for each fact; nine numbers for each of both,
-    // and one for each pool.
-    pub const SETS: usize = 384;
-
-    pub const NUMBERS: usize = 1156;
-
     // The frame of a job up to its deadline, for tables of the whole day.
     pub fn of(job: Job, goal: u64, first: u16, kept: Steps, given: u64) -> Frame
         ensures { λ r. ⌜ r ≡ frameOf job goal first kept given ⌝ }
