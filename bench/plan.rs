@@ -63,13 +63,12 @@ fn print(name: &str, day: &Day, known: &Known) {
     let more = if day.plain_end == "-" { "+" } else { "" };
     let ratio = day.ratio().map_or("-".to_string(), |ratio| format!("{ratio:.2}"));
     println!(
-        "{name}\t{}{}\t{:.3}\t{:.3}\t{}{more}\t{}\t{ratio}",
+        "{name}\t{}{}\t{}{more}\t{:.3}\t{:.3}\t{ratio}",
         day.end,
         day.mark(name, known),
+        day.nodes,
         day.seconds,
         day.plain_seconds,
-        day.nodes,
-        known.ratio(name, &day.plain_end, day.nodes),
     );
 }
 
@@ -86,9 +85,9 @@ fn median(mut numbers: Vec<f64>) -> f64 {
 
 fn main() {
     let folder = std::env::args().nth(1).expect("a folder of job files");
-    let known = Known::beside(&folder);
+    let known = Known::of(&folder);
     let (mut all, mut solved, mut wrong, mut ratios) = (0, 0, 0, Vec::new());
-    println!("day\tend\tseconds\tplain\tnodes\tnodes/prototype\tseconds/plain");
+    println!("day\tend\tnodes\tseconds\tplain\tseconds/plain");
     for path in known::job_files(&folder) {
         let name = known::day(&path);
         let day = Day::plan(&path);

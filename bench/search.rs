@@ -14,15 +14,15 @@ use std::time::Instant;
 
 /// Plans every job file of a folder, and prints a line for each.
 fn table(folder: &str) {
-    println!("day\tend\tseconds\tnodes\tratio");
-    let known = Known::beside(folder);
+    println!("day\tend\tseconds\tnodes");
+    let known = Known::of(folder);
     for path in known::job_files(folder) {
         let file = std::fs::read(&path).expect("a job file");
         let begin = Instant::now();
         let (end, nodes) = plan(&file);
         let seconds = begin.elapsed().as_secs_f64();
         let day = known::day(&path);
-        println!("{day}\t{end}{}\t{seconds:.3}\t{nodes}\t{}", known.mark(&day, &end), known.ratio(&day, &end, nodes));
+        println!("{day}\t{end}{}\t{seconds:.3}\t{nodes}", known.mark(&day, &end));
     }
 }
 
