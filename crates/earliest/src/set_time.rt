@@ -4,12 +4,14 @@ ghost use mathlib.Core.Bool.{false};
 ghost use Prim.Native.Nat.{max, suc, _≤_, _<_};
 ghost use lib.ListN.{length};
 ghost use Rattle.earliest.specs.Numbers.{rowNumber, setNumber, SameTime};
+use job::Action;
+use pairs::Pair;
 
 // The number that stands for unreachable.
 pub const NONE: u32 = 4_294_967_295;
 
-// No finite entry is later: 255 minutes for each of the 2,080 entries.
-pub const LATEST: u32 = 530_400;
+// No finite entry is later: the longest duration for each of the entries.
+pub const LATEST: u32 = Action::DURATION as u32 * Pair::COUNT as u32;
 
 // The later of two times.
 pub fn later(a: u32, b: u32) -> u32

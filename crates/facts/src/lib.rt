@@ -7,11 +7,19 @@ ghost use Rattle.facts.specs.FactSet.{subset, Subset, meets, Disjoint, f
 ghost use Rattle.facts.specs.FactSet.{single, NextFact};
 ghost use Prim.Native.Nat.{_<_};
 
+// How many facts a set can have: the bits of a word.
+pub const BITS: u8 = 64;
+
+const WORD: u32 = BITS as u32;
+
+// The set of all of them.
+pub const ALL: u64 = 18_446_744_073_709_551_615;
+
 // Whether fact n is in the set.
 pub fn has(set: u64, n: u8) -> bool
     ensures { λ r. ⌜ r ≡ has set n ⌝ }
 {
-    if 64 <= n {
+    if BITS <= n {
         return false;
     }
     (set >> n) % 2 == 1
@@ -66,7 +74,7 @@ pub fn meets(a: u64, b: u64) -> bool
 pub fn foreign(facts: u8, set: u64) -> bool
     ensures { λ r. ⌜ (r ≡ foreign facts set) × Decides (not r) (Within facts set) ⌝ }
 {
-    if 64 <= facts {
+    if BITS <= facts {
         return false;
     }
     (set >> facts) != 0
@@ -84,12 +92,12 @@ pub fn single(n: u8) -> u64
 pub fn next(set: u64, from: u8) -> u8
     ensures { λ r. ⌜ NextFact set from r ⌝ }
 {
-    if 64 <= from {
-        return 64;
+    if BITS <= from {
+        return BITS;
     }
     let rest = set >> from;
     if rest == 0 {
-        return 64;
+        return BITS;
     }
-    from + (u64::trailing_zeros(rest) % 64) as u8
+    from + (u64::trailing_zeros(rest) % WORD) as u8
 }

@@ -60,7 +60,7 @@ pub struct Job {
 
 impl Job {
     // The most facts.
-    pub const FACTS: u8 = 64;
+    pub const FACTS: u8 = facts::BITS;
 
     // The latest deadline, in minutes.
     pub const DEADLINE: u16 = 1_440;

@@ -23,7 +23,7 @@ impl Layout {
 
     pub const ENTRY: usize = 4;
 
-    pub const CONTENTS: usize = 16;
+    pub const CONTENTS: usize = Layout::BODIES * Layout::ENTRY;
 
     // The bytes of the head, of an amount, and of an action without its uses.
     pub const HEAD: usize = 19;

@@ -28,7 +28,7 @@ impl Plan {
     // The bytes of a step, and of the longest plan.
     pub const STEP: usize = 3;
 
-    pub const BYTES: usize = 96;
+    pub const BYTES: usize = Plan::STEPS * Plan::STEP;
 }
 
 // Whether a deletes a fact that b needs or adds.
