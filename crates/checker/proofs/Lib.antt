@@ -4,3 +4,4 @@ mod ShareLaws
 mod WatchLaws
 mod ChainLaws
 mod StepLaws
+mod PlanLaws

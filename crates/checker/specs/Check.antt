@@ -1,37 +1,69 @@
 -- What the checker answers.
 -- Assumes nothing.
-use Prim.Native.Nat.{ℕ}
+use Prim.Native.Nat.{ℕ, _≤_}
 use mathlib.Core.Path.{_≡_}
 use mathlib.Core.List.{List, _∷_, _++_}
 use Rattle.facts.specs.FactSet.{foreign}
 use Rattle.job.specs.declared.Job as held
 use Rattle.job.specs.Job.{Job, jobIn}
-use Rattle.job.specs.Refusal.{_when_, first}
+use Rattle.job.specs.Refusal.{Row, _when_, first, replyBy}
 use Rattle.job.specs.Valid.{jobRows}
 use Rattle.job.specs.declared.refusal.Refusal.the-variants.{ForeignAskedFact}
 use Rattle.job.specs.declared.refusal.Verdict.{Verdict}
 use Rattle.job.specs.declared.refusal.Verdict.the-variants.{Pass, Refused}
+use Rattle.timeline.specs.declared.Day.{Day}
+use Rattle.timeline.specs.declared.Plan.{Plan}
 use Rattle.timeline.specs.Step.{Step, stepsIn}
 use Rattle.timeline.specs.Timeline.{end}
 use Rattle.timeline.specs.Accepted.{planRows}
+use Rattle.timeline.specs.Day.{toldOf, tells, noDay, dayOf, dayReply}
+use Rattle.timeline.specs.Value.{stepsOf}
 use Rattle.checker.specs.declared.Checked.{Checked}
 use Rattle.checker.specs.declared.Checked.the-variants as checked
-
--- "the checker returns the end"
-abbrev pub checkedOf : Verdict → List Step → Checked
-checkedOf Pass P = checked.Ends (end P)
-checkedOf (Refused why) P = checked.Refused why
+use Rattle.checker.specs.declared.CheckedPlan.{CheckedPlan}
 
 -- tests 3 to 11 of the job, then 12 to 20 of the plan with the job's goal
-unfoldable pub checkPlan : Job → List ℕ → Checked
-checkPlan J bytes = checkedOf (first (jobRows J ++ planRows J (J .goal) bytes)) (stepsIn J bytes)
+unfoldable pub checkRows : Job → List ℕ → List Row
+checkRows J bytes = jobRows J ++ planRows J (J .goal) bytes
+
+-- "the checker returns the end", and the number of steps
+unfoldable pub checkPlan : Job → List ℕ → Day
+checkPlan J bytes = dayOf (first (checkRows J bytes)) (stepsIn J bytes)
+
+-- the answer to a job and a plan, and the paper's reply
+pub record Checks (J : Job) (bytes : List ℕ) (answer : Day) : Type 0 where
+  pub answers : answer ≡ checkPlan J bytes
+  pub replies : dayReply answer ≡ replyBy (first (checkRows J bytes)) (toldOf (stepsIn J bytes))
+
+-- ---- what inner functions promise
 
 -- with another goal, whose foreign bits are tested "after the job and before the plan"
-unfoldable pub checkFor : Job → ℕ → List ℕ → Checked
+unfoldable pub checkFor : Job → ℕ → List ℕ → Day
 checkFor J goal bytes =
-    checkedOf (first (jobRows J ++ (ForeignAskedFact when foreign (J .facts) goal ∷ planRows J goal bytes)))
+    dayOf (first (jobRows J ++ (ForeignAskedFact when foreign (J .facts) goal ∷ planRows J goal bytes)))
     (stepsIn J bytes)
 
 -- a job value that passes tests 3 to 11
 abbrev pub Valid : held.Job → Type 0
 Valid job = first (jobRows (jobIn job)) ≡ Pass
+
+-- tests 13 to 20 of a plan by value
+abbrev pub checkedOf : Verdict → List Step → Checked
+checkedOf Pass P = checked.Ends (end P)
+checkedOf (Refused why) P = checked.Refused why
+
+-- the day of a plan with so many steps
+abbrev pub dayBy : Checked → ℕ → Day
+dayBy (checked.Ends e) steps = tells (record { end = e; steps = steps })
+dayBy (checked.Refused why) steps = noDay why
+
+-- the plan has the steps of the bytes
+pub record Decodes (job : held.Job) (bytes : List ℕ) (plan : Plan) : Type 0 where
+  pub few : plan .length ≤ 32
+  pub counts : plan .counts ≡ job .counts
+  pub steps : stepsOf plan ≡ stepsIn (jobIn job) bytes
+
+-- tests 12 to 20 of the bytes; the plan of those that pass
+pub record ChecksPlan (job : held.Job) (goal : ℕ) (bytes : List ℕ) (r : CheckedPlan) : Type 0 where
+  pub day : r .day ≡ dayOf (first (planRows (jobIn job) goal bytes)) (stepsIn (jobIn job) bytes)
+  pub plan : r .day .verdict ≡ Pass → Decodes job bytes (r .plan)

@@ -1,4 +1,4 @@
-// The checker: a job and a plan's bytes in; the plan's end, or the first refusal of 3 to 20, out.
+// The checker: a job and a plan's bytes in; the plan's end and number of steps, or the first refusal of 3 to 20, out.
 mod decode; // the steps in a plan's bytes
 mod rules; // one check for each rule
 mod clock; // the facts that hold, minute by minute
@@ -10,21 +10,29 @@ ghost use Prim.Native.Nat.{_≤_, _<_};
 ghost use Rattle.lists.specs.Lists.{any, Each};
 ghost use Rattle.job.specs.Job.{jobIn, Fits};
 ghost use Rattle.job.specs.Refusal.{first};
-ghost use Rattle.timeline.specs.Step.{stepsIn};
-ghost use Rattle.timeline.specs.Accepted.{unknown, stepRows, planRows};
+ghost use Rattle.job.specs.declared.refusal.Verdict.the-variants as verdict;
+ghost use Rattle.timeline.specs.Accepted.{unknown, stepRows};
+ghost use Rattle.timeline.specs.Day.{noDay};
 ghost use Rattle.timeline.specs.Value.{stepsOf};
-ghost use Rattle.checker.specs.Check.{checkedOf, checkPlan, checkFor, Valid};
+ghost use Rattle.checker.specs.Check.{Checks, checkFor, Valid, checkedOf, dayBy, ChecksPlan};
 use job::Job;
 use job::refusal::Refusal;
 use job::refusal::Verdict;
 use job::validate::validate;
+use timeline::Day;
 use timeline::Plan;
 use watch::Watched;
 
-// What the checker answers: the plan's end, or why it is refused.
+// What tests 14 to 20 say of a plan: its end, or why it is refused.
 pub enum Checked {
     Ends(u32),
     Refused(Refusal),
+}
+
+// What is answered of a plan's bytes, and the plan by value for a call that goes on with it. A refused one is empty.
+pub struct CheckedPlan {
+    pub day: Day,
+    pub plan: Plan,
 }
 
 // Tests 14 to 20, of the steps of a plan whose actions are known.
@@ -58,42 +66,72 @@ fn check_steps(plan: Plan, job: Job, goal: u64) -> Checked
     Checked::Ends(last)
 }
 
-// Tests 12 to 20, of a job that passes 3 to 11.
-fn check_bytes(job: Job, goal: u64, bytes: &[u8]) -> Checked
-    requires { ⌜ Valid job ⌝ }
-    ensures { λ r. ⌜ r ≡ checkedOf (first (planRows (jobIn job) goal (now (bytes .entry))))
-        (stepsIn (jobIn job) (now (bytes .entry))) ⌝ }
+// No plan, and why there is none.
+fn refused_plan(job: Job, why: Refusal) -> CheckedPlan
+    ensures { λ r. ⌜ r .day ≡ noDay why ⌝ }
 {
-    let Verdict::Pass = decode::size(bytes) else {
-        return Checked::Refused(Refusal::PlanSize);
-    };
-    let Verdict::Pass = decode::known_actions(job, bytes) else {
-        return Checked::Refused(Refusal::UnknownAction);
-    };
-    check_steps(decode::plan(job, bytes), job, goal)
+    let counts = job.counts;
+    CheckedPlan {
+        day: Day::refused(why),
+        plan: Plan::none(counts),
+    }
 }
 
-// Whether the plan is accepted for the job's goal: its end, or the first refusal of 3 to 20.
-pub fn check(job: Job, plan: &[u8]) -> Checked
-    ensures { λ r. ⌜ r ≡ checkPlan (jobIn job) (now (plan .entry)) ⌝ }
+// The plan with its day, by what tests 14 to 20 say.
+fn with_day(job: Job, plan: Plan, checked: Checked) -> CheckedPlan
+    ensures { λ r. ⌜ (r .day ≡ dayBy checked (plan .length)) × (r .day .verdict ≡ verdict.Pass → r .plan ≡ plan) ⌝ }
+{
+    match checked {
+        Checked::Refused(why) => refused_plan(job, why),
+        Checked::Ends(end) => CheckedPlan {
+            day: Day {
+                verdict: Verdict::Pass,
+                end,
+                steps: plan.length,
+            },
+            plan,
+        },
+    }
+}
+
+// Tests 12 to 20 with a goal, of a job that passes 3 to 11.
+pub fn checked_plan(job: Job, goal: u64, bytes: &[u8]) -> CheckedPlan
+    requires { ⌜ Valid job ⌝ }
+    ensures { λ r. ⌜ ChecksPlan job goal (now (bytes .entry)) r ⌝ }
+{
+    let Verdict::Pass = decode::size(bytes) else {
+        return refused_plan(job, Refusal::PlanSize);
+    };
+    let Verdict::Pass = decode::known_actions(job, bytes) else {
+        return refused_plan(job, Refusal::UnknownAction);
+    };
+    let plan = decode::plan(job, bytes);
+    with_day(job, plan, check_steps(plan, job, goal))
+}
+
+// Whether the plan is accepted for the job's goal: its end and number of steps, or the first refusal of 3 to 20.
+pub fn check(job: Job, plan: &[u8]) -> Day
+    ensures { λ r. ⌜ Checks (jobIn job) (now (plan .entry)) r ⌝ }
 {
     let verdict = validate(job);
     if let Verdict::Refused(why) = verdict {
-        return Checked::Refused(why);
+        return Day::refused(why);
     }
-    check_bytes(job, job.goal, plan)
+    let checked = checked_plan(job, job.goal, plan);
+    checked.day
 }
 
 // Whether the plan is accepted for another goal: as above, with 24 for a foreign fact after 3 to 11.
-pub fn check_for(job: Job, goal: u64, plan: &[u8]) -> Checked
+pub fn check_for(job: Job, goal: u64, plan: &[u8]) -> Day
     ensures { λ r. ⌜ r ≡ checkFor (jobIn job) goal (now (plan .entry)) ⌝ }
 {
     let verdict = validate(job);
     if let Verdict::Refused(why) = verdict {
-        return Checked::Refused(why);
+        return Day::refused(why);
     }
     if facts::foreign(job.facts, goal) {
-        return Checked::Refused(Refusal::ForeignAskedFact);
+        return Day::refused(Refusal::ForeignAskedFact);
     }
-    check_bytes(job, goal, plan)
+    let checked = checked_plan(job, goal, plan);
+    checked.day
 }

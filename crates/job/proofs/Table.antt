@@ -44,6 +44,15 @@ pass-of-append [] more h = (refl, h)
 pass-of-append (why when true ∷ rows) more h = (h, cc)
 pass-of-append (why when false ∷ rows) more h = pass-of-append rows more h
 
+-- a row that does not hold changes nothing at the end of a table
+pub first-append-row : (rows : List Row) (why : Refusal) (test : Bool) → test ≡ false
+    → first (rows ++ (why when test ∷ [])) ≡ first rows
+unfolding first
+first-append-row [] why true h = cc
+first-append-row [] why false h = refl
+first-append-row (w when true ∷ rows) why test h = refl
+first-append-row (w when false ∷ rows) why test h = first-append-row rows why test h
+
 pub first-none : first [] ≡ Pass
 unfolding first
 first-none = refl

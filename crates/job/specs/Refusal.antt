@@ -1,4 +1,4 @@
--- The refusals: the number of each, and the first of a table that holds.
+-- The refusals: the number of each, the first of a table that holds, and the reply that it makes.
 -- Assumes nothing.
 use Prim.Native.Nat.{ℕ}
 use mathlib.Core.Bool.{Bool, true, false}
@@ -45,3 +45,13 @@ unfoldable pub first : List Row → Verdict
 first [] = Pass
 first (why when true ∷ rows) = Refused why
 first (why when false ∷ rows) = first rows
+
+-- a reply as the papers name it: a refusal by its number, or what the call returns
+pub data Reply (A : Type 0) : Type 0 where
+  refused : ℕ → Reply A
+  returned : A → Reply A
+
+-- the first refusal that holds, "alone", or else what the call returns
+abbrev pub replyBy : {A : Type 0} → Verdict → A → Reply A
+replyBy Pass value = returned value
+replyBy (Refused why) value = refused (number why)

@@ -19,3 +19,5 @@ pub mod Sorting
 pub mod Shorter
 pub mod Below
 pub mod PoolStarts
+pub mod RunRows
+pub mod DayLaws

@@ -3,7 +3,7 @@
 use Prim.Native.Nat.{ℕ, zero, suc, _%_}
 use mathlib.Core.Path.{_≡_}
 use mathlib.Core.Bool.{Bool, false, not, _&&_, _||_}
-use mathlib.Core.List.{List, [], _∷_}
+use mathlib.Core.List.{List, [], _∷_, _++_}
 use lib.Dec.{eqb, leb}
 use lib.ListN.{length, getD}
 use Rattle.lists.specs.Lists.{any}
@@ -50,22 +50,35 @@ lacksNeed J P x = not (subset (x .action .needs) (held (J .start) P (x .start)))
 abbrev pub lacksGoal : Job → ℕ → List Step → Bool
 lacksGoal J goal P = not (subset goal (held (J .start) P (end P)))
 
--- tests 13 to 20 of the steps
-unfoldable pub stepRows : Job → ℕ → List Step → List Row
-stepRows J goal P =
+-- tests 13 to 15: what two plans must pass to be joined
+abbrev pub orderRows : Job → List Step → List Row
+orderRows J P =
     UnknownAction when any (unknown J) P
     ∷ StepOrder when not (strictlyRising P)
     ∷ AfterDeadline when any (λ x. over (J .deadline) (x .stop)) P
-    ∷ Clash when anyPair clashing P
+    ∷ []
+
+-- tests 16 to 19: what the steps do to each other
+abbrev pub ruleRows : Job → List Step → List Row
+ruleRows J P =
+    Clash when anyPair clashing P
     ∷ PoolExceeded when anyBelow (length (J .pools)) (exceedsPool J P)
     ∷ StoreExceeded when anyBelow (length (J .stores)) (exceedsStore J P)
     ∷ NeedMissing when any (lacksNeed J P) P
-    ∷ GoalMissing when lacksGoal J goal P
     ∷ []
+
+-- tests 13 to 20 of the steps
+unfoldable pub stepRows : Job → ℕ → List Step → List Row
+stepRows J goal P = orderRows J P ++ (ruleRows J P ++ (GoalMissing when lacksGoal J goal P ∷ []))
 
 -- test 12 of the bytes, then those of the steps
 unfoldable pub planRows : Job → ℕ → List ℕ → List Row
 planRows J goal bytes = PlanSize when wrongSize bytes ∷ stepRows J goal (stepsIn J bytes)
+
+-- tests 12 to 19, of a plan that is asked for no goal
+unfoldable pub runRows : Job → List ℕ → List Row
+runRows J bytes =
+    PlanSize when wrongSize bytes ∷ (orderRows J (stepsIn J bytes) ++ ruleRows J (stepsIn J bytes))
 
 -- "A plan is accepted for a goal set exactly if, by these rules and with that set as the goal, none of 12 to 20 is
 -- true of it."

@@ -3,3 +3,4 @@ pub mod From
 pub mod Timeline
 pub mod Accepted
 pub mod Value
+pub mod Day

@@ -3,8 +3,11 @@ ghost use mathlib.Core.Path.{_≡_};
 ghost use Rattle.job.specs.Job.{actionIn};
 ghost use Rattle.job.specs.declared.Counts.{Counts};
 ghost use Rattle.timeline.specs.Timeline.{hinders};
+ghost use Rattle.timeline.specs.Day.{noDay};
 use job::Action;
 use job::Counts;
+use job::refusal::Refusal;
+use job::refusal::Verdict;
 
 // A step of a plan, with its action: it runs from `start` up to, and without, `stop`.
 pub struct Step {
@@ -29,6 +32,45 @@ impl Plan {
     pub const STEP: usize = 3;
 
     pub const BYTES: usize = Plan::STEPS * Plan::STEP;
+
+    // A plan with no steps.
+    pub fn none(counts: Counts) -> Plan
+        ensures { λ r. ⌜ (r .length ≡ 0) × (r .counts ≡ counts) ⌝ }
+    {
+        let action = Action::unused();
+        let unused = Step {
+            number: 0,
+            action,
+            start: 0,
+            stop: 0,
+        };
+        Plan {
+            counts,
+            length: 0,
+            steps: [unused; Plan::STEPS],
+        }
+    }
+}
+
+// What a call answers that checks a day or hands one out: its end and its number of steps. Beside a refusal both are
+// zero.
+pub struct Day {
+    pub verdict: Verdict,
+    pub end: u32,
+    pub steps: usize,
+}
+
+impl Day {
+    // No day, and why there is none.
+    pub fn refused(why: Refusal) -> Day
+        ensures { λ r. ⌜ r ≡ noDay why ⌝ }
+    {
+        Day {
+            verdict: Verdict::Refused(why),
+            end: 0,
+            steps: 0,
+        }
+    }
 }
 
 // Whether a deletes a fact that b needs or adds.

@@ -6,8 +6,9 @@ use Rattle.job.specs.declared.refusal.Verdict.{Verdict}
 use Rattle.job.specs.Job.{jobIn}
 use Rattle.job.specs.Valid.{jobRows}
 use Rattle.job.proofs.Table.{first-here, first-next, first-append-pass, first-append-refused}
+use Rattle.timeline.specs.Day.{dayOf}
 use Rattle.timeline.specs.Step.{stepsIn}
-use Rattle.checker.specs.Check.{checkedOf, checkFor}
+use Rattle.checker.specs.Check.{checkFor}
 use borrow.Author.Needs.{needs}
 use Rattle.checker.proofs.check_for.Statement.{statement}
 use Rattle.checker.proofs.check_for.Tie as tie
@@ -18,14 +19,18 @@ validate-requires c κs = search needs
 enum-known-verdict : tie.Need-enum-known-verdict
 enum-known-verdict c = search needs
 
+refused-requires : tie.Need-refused-requires
+refused-requires c κs = search needs
+
 returns : tie.Need-returns
 unfolding checkFor
 returns c =
-    let c-args = c .before .before .before .before .before .args in
-    let c-validate = c .before .before .before .validate in
+    let c-args = c .before .before .before .before .before .before .args in
+    let c-validate = c .before .before .before .before .validate in
     let J = jobIn (c-args .job) in
-    sym (ap (λ (v : Verdict). checkedOf v (stepsIn J (c-args .plan .now)))
-    (first-append-refused (jobRows J) _ _ (sym (c-validate .ensures) ∙ c .before .verdict .given .1)))
+    c .refused .ensures
+    ∙ sym (ap (λ (v : Verdict). dayOf v (stepsIn J (c-args .plan .now)))
+    (first-append-refused (jobRows J) _ _ (sym (c-validate .ensures) ∙ c .before .before .verdict .given .1)))
 
 enum-told : tie.Need-enum-told
 enum-told c = search needs
@@ -33,32 +38,38 @@ enum-told c = search needs
 foreign-requires : tie.Need-foreign-requires
 foreign-requires c κs = search needs
 
+refused-requires-2 : tie.Need-refused-requires-2
+refused-requires-2 c κs = search needs
+
 returns-2 : tie.Need-returns-2
 unfolding checkFor
 returns-2 c =
-    let c-args = c .before .before .before .before .before .before .args in
-    let c-validate = c .before .before .before .before .validate in
+    let c-args = c .before .before .before .before .before .before .before .args in
+    let c-validate = c .before .before .before .before .before .validate in
+    let c-enum-told = c .before .before .before .enum-told in
     let J = jobIn (c-args .job) in
-    sym (ap (λ (v : Verdict). checkedOf v (stepsIn J (c-args .plan .now)))
-    (first-append-pass (jobRows J) _ (sym (c-validate .ensures) ∙ c .before .before .enum-told .given .1)
-    ∙ first-here ForeignAskedFact _ _ (sym (c .before .foreign .ensures .0) ∙ c .if1 .taken)))
+    c .refused2 .ensures
+    ∙ sym (ap (λ (v : Verdict). dayOf v (stepsIn J (c-args .plan .now)))
+    (first-append-pass (jobRows J) _ (sym (c-validate .ensures) ∙ c-enum-told .given .1)
+    ∙ first-here ForeignAskedFact _ _ (sym (c .before .before .foreign .ensures .0) ∙ c .before .if1 .taken)))
 
-check-bytes-requires : tie.Need-check-bytes-requires
-check-bytes-requires c κs =
+checked-plan-requires : tie.Need-checked-plan-requires
+checked-plan-requires c κs =
     let c-validate = c .before .before .before .before .validate in
     sym (c-validate .ensures) ∙ c .before .before .enum-told .given .1
 
 returns-3 : tie.Need-returns-3
 unfolding checkFor
 returns-3 c =
-    let c-args = c .before .before .before .before .before .before .before .args in
-    let c-validate = c .before .before .before .before .before .validate in
-    let c-enum-told = c .before .before .before .enum-told in
+    let c-args = c .before .before .before .before .before .before .before .before .args in
+    let c-validate = c .before .before .before .before .before .before .validate in
+    let c-enum-told = c .before .before .before .before .enum-told in
+    let c-foreign = c .before .before .before .foreign in
     let J = jobIn (c-args .job) in
-    c .check-bytes .ensures
-    ∙ sym (ap (λ (v : Verdict). checkedOf v (stepsIn J (c-args .plan .now)))
+    c .before .checked-plan .ensures .day
+    ∙ sym (ap (λ (v : Verdict). dayOf v (stepsIn J (c-args .plan .now)))
     (first-append-pass (jobRows J) _ (sym (c-validate .ensures) ∙ c-enum-told .given .1)
-    ∙ first-next ForeignAskedFact _ _ (sym (c .before .before .foreign .ensures .0) ∙ c .before .if1 .left)))
+    ∙ first-next ForeignAskedFact _ _ (sym (c-foreign .ensures .0) ∙ c .before .before .if1 .left)))
 
 pub check-for-spec : {M : Type 1} → statement M
 check-for-spec =
@@ -66,9 +77,11 @@ check-for-spec =
     (tie.spec
     validate-requires
     enum-known-verdict
+    refused-requires
     returns
     enum-told
     foreign-requires
+    refused-requires-2
     returns-2
-    check-bytes-requires
+    checked-plan-requires
     returns-3)

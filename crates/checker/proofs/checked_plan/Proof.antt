@@ -1,21 +1,17 @@
--- `check_bytes` meets its contract: the size, the actions, then the steps.
+-- `checked_plan` meets its contract: the size, the actions, then the steps.
 -- Assumes nothing.
-use mathlib.Core.Path.{sym, ap, _∙_}
-use mathlib.Core.List.{List}
+use mathlib.Core.Path.{sym, _∙_}
 use Rattle.job.specs.declared.refusal.Refusal.the-variants.{PlanSize, UnknownAction}
-use Rattle.job.specs.declared.refusal.Verdict.{Verdict}
 use Rattle.job.specs.Job.{jobIn}
-use Rattle.job.specs.Refusal.{first}
 use Rattle.job.proofs.Passed.{passed}
 use Rattle.job.proofs.Rows.{fits-of-pass}
-use Rattle.timeline.specs.Step.{Step, stepsIn}
 use Rattle.timeline.specs.Accepted.{stepRows, planRows}
-use Rattle.checker.specs.Check.{checkedOf}
 use Rattle.checker.proofs.ChainLaws.{check-passes, check-fails, passed-test}
+use Rattle.checker.proofs.PlanLaws.{checks-refused, checks-decoded}
 use Rattle.checker.proofs.StepLaws.{known-steps-last}
 use borrow.Author.Needs.{needs}
-use Rattle.checker.proofs.check_bytes.Statement.{statement}
-use Rattle.checker.proofs.check_bytes.Tie as tie
+use Rattle.checker.proofs.checked_plan.Statement.{statement}
+use Rattle.checker.proofs.checked_plan.Tie as tie
 
 size-requires : tie.Need-size-requires
 size-requires c κs = search needs
@@ -26,12 +22,16 @@ enum-told c = search needs
 enum-told-2 : tie.Need-enum-told-2
 enum-told-2 c = search needs
 
+refused-plan-requires : tie.Need-refused-plan-requires
+refused-plan-requires c κs = search needs
+
 returns : tie.Need-returns
 unfolding planRows
 returns c =
-    let c-args = c .before .before .before .before .args in
-    sym (ap (λ (v : Verdict). checkedOf v (stepsIn (jobIn (c-args .job)) (c-args .bytes .now)))
-    (check-fails PlanSize _ _ _ (sym (c .before .before .size .ensures) ∙ c .enum-told2 .given .1)))
+    let c-args = c .before .before .before .before .before .args in
+    let c-size = c .before .before .before .size in
+    checks-refused (c-args .job) (c-args .goal) (c-args .bytes .now) _ _ (c .refused-plan .ensures)
+    (check-fails PlanSize _ _ _ (sym (c-size .ensures) ∙ c .before .enum-told2 .given .1))
 
 known-actions-requires : tie.Need-known-actions-requires
 known-actions-requires c κs = search needs
@@ -42,15 +42,19 @@ enum-told-3 c = search needs
 enum-told-4 : tie.Need-enum-told-4
 enum-told-4 c = search needs
 
+refused-plan-requires-2 : tie.Need-refused-plan-requires-2
+refused-plan-requires-2 c κs = search needs
+
 returns-2 : tie.Need-returns-2
 unfolding planRows stepRows
 returns-2 c =
-    let c-args = c .before .before .before .before .before .before .before .args in
-    let c-size = c .before .before .before .before .before .size in
-    let c-enum-told = c .before .before .before .enum-told in
-    sym (ap (λ (v : Verdict). checkedOf v (stepsIn (jobIn (c-args .job)) (c-args .bytes .now)))
+    let c-args = c .before .before .before .before .before .before .before .before .args in
+    let c-size = c .before .before .before .before .before .before .size in
+    let c-enum-told = c .before .before .before .before .enum-told in
+    let c-known-actions = c .before .before .before .known-actions in
+    checks-refused (c-args .job) (c-args .goal) (c-args .bytes .now) _ _ (c .refused-plan2 .ensures)
     (check-passes PlanSize _ _ (sym (c-size .ensures) ∙ c-enum-told .given .1)
-    ∙ check-fails UnknownAction _ _ _ (sym (c .before .before .known-actions .ensures) ∙ c .enum-told4 .given .1)))
+    ∙ check-fails UnknownAction _ _ _ (sym (c-known-actions .ensures) ∙ c .before .enum-told4 .given .1))
 
 plan-requires : tie.Need-plan-requires
 plan-requires c κs =
@@ -73,32 +77,37 @@ check-steps-requires c κs =
     let lasting = known-steps-last (jobIn j) (c-args .bytes .now) (passed (jobIn j) (c-pre)) known in
     ((e .0, e .1, fits-of-pass j (c-pre)), (rw (e .2) known, rw (e .2) lasting))
 
+with-day-requires : tie.Need-with-day-requires
+with-day-requires c κs = search needs
+
 returns-3 : tie.Need-returns-3
 unfolding planRows
 returns-3 c =
     let at8 = c .before .before .before .before .before .before .before .before in
-    let c-args = at8 .before .args in
-    let c-size = c .before .before .before .before .before .before .before .size in
-    let c-enum-told = c .before .before .before .before .before .enum-told in
-    let j = c-args .job in
-    let same = c .before .plan .ensures .2 in
-    c .check-steps .ensures
-    ∙ ap (λ (P : List Step). checkedOf (first (stepRows (jobIn j) (c-args .goal) P)) P) same
-    ∙ sym (ap (λ (v : Verdict). checkedOf v (stepsIn (jobIn j) (c-args .bytes .now)))
-    (check-passes PlanSize _ _ (sym (c-size .ensures) ∙ c-enum-told .given .1)))
+    let c-args = at8 .before .before .args in
+    let c-size = c .before .before .before .before .before .before .before .before .size in
+    let c-enum-told = c .before .before .before .before .before .before .enum-told in
+    let e = c .before .before .plan .ensures in
+    checks-decoded (c-args .job) (c-args .goal) (c-args .bytes .now) _ _
+    (record { few = e .0; counts = e .1; steps = e .2 })
+    (check-passes PlanSize _ _ (sym (c-size .ensures) ∙ c-enum-told .given .1)) _ (c .before .check-steps .ensures)
+    (c .with-day .ensures .0) (c .with-day .ensures .1)
 
-pub check-bytes-spec : {M : Type 1} → statement M
-check-bytes-spec =
+pub checked-plan-spec : {M : Type 1} → statement M
+checked-plan-spec =
     tie.close
     (tie.spec
     size-requires
     enum-told
     enum-told-2
+    refused-plan-requires
     returns
     known-actions-requires
     enum-told-3
     enum-told-4
+    refused-plan-requires-2
     returns-2
     plan-requires
     check-steps-requires
+    with-day-requires
     returns-3)
