@@ -25,13 +25,13 @@ use Rattle.timeline.specs.Timeline.{end}
 use Rattle.timeline.specs.Accepted.{Accepted}
 use Rattle.timeline.proofs.Tests.{not-both}
 use Rattle.timeline.proofs.PlanBytes.{length-plan-bytes}
-use Rattle.checker.specs.Check.{checkedOf, checkFor}
-use Rattle.checker.specs.declared.Checked.{Checked}
-use Rattle.checker.specs.declared.Checked.the-variants as checked
+use Rattle.timeline.specs.declared.Day.{Day}
+use Rattle.timeline.specs.Day.{toldOf, tells, dayOf}
+use Rattle.checker.specs.Check.{checkFor}
 use Rattle.tables.specs.declared.Steps.{Steps}
 use Rattle.leaf.specs.declared.Answer.{Answer}
 use Rattle.leaf.specs.Order.{placed, inOrder, WritesPlan}
-use Rattle.leaf.specs.Answer.{noAnswer, answerOf, planOf, Answers, bytesIn, Found}
+use Rattle.leaf.specs.Answer.{noAnswer, answerBy, planOf, Answers, bytesIn, Found}
 
 -- ---- the bytes of the steps stand in front
 pub length-bytes-in-order : (J : Job) (steps : Steps) → length (planBytes (inOrder J steps)) ≡ 3 * steps .count
@@ -57,99 +57,106 @@ front-whole J steps o w =
     omega arith
 
 -- ---- what the checker answers
-ends-passed : (v : Verdict) (P : List Step) (e : ℕ) → checkedOf v P ≡ checked.Ends e → (v ≡ Pass) × (end P ≡ e)
-ends-passed Pass P e h = (refl, cc)
-ends-passed (Refused why) P e h = (cc, cc)
+day-passed : (v : Verdict) (P : List Step) → dayOf v P .verdict ≡ Pass → (v ≡ Pass) × (end P ≡ dayOf v P .end)
+day-passed Pass P h = (refl, refl)
+day-passed (Refused why) P h = (h, cc)
 
-pub ends-accepted : (J : Job) (goal : ℕ) (bytes : List ℕ) (e : ℕ) → checkFor J goal bytes ≡ checked.Ends e
-    → Accepted J goal bytes × (end (stepsIn J bytes) ≡ e)
+pub passed-accepted : (J : Job) (goal : ℕ) (bytes : List ℕ) → checkFor J goal bytes .verdict ≡ Pass
+    → Accepted J goal bytes × (end (stepsIn J bytes) ≡ checkFor J goal bytes .end)
 unfolding checkFor
-ends-accepted J goal bytes e h =
-    let r = ends-passed _ (stepsIn J bytes) e h in
+passed-accepted J goal bytes h =
+    let r = day-passed _ (stepsIn J bytes) h in
     (first-pass _ _ _ (pass-of-append (jobRows J) _ (r .0) .1) .1, r .1)
 
-pub accepted-ends : (J : Job) (goal : ℕ) (bytes : List ℕ) → first (jobRows J) ≡ Pass → foreign (J .facts) goal ≡ false
-    → Accepted J goal bytes → checkFor J goal bytes ≡ checked.Ends (end (stepsIn J bytes))
+pub accepted-passes : (J : Job) (goal : ℕ) (bytes : List ℕ) → first (jobRows J) ≡ Pass → foreign (J .facts) goal ≡ false
+    → Accepted J goal bytes → checkFor J goal bytes ≡ tells (toldOf (stepsIn J bytes))
 unfolding checkFor
-accepted-ends J goal bytes job own accepted =
-    ap (λ (v : Verdict). checkedOf v (stepsIn J bytes))
+accepted-passes J goal bytes job own accepted =
+    ap (λ (v : Verdict). dayOf v (stepsIn J bytes))
     (first-append-pass (jobRows J) _ job ∙ first-next ForeignAskedFact _ _ own ∙ accepted)
 
 -- ---- the answer that is made of it
 module _ (J : Job) (goal T : ℕ) (steps : Steps) where
-  abbrev checks : Checked
+  abbrev checks : Day
   checks = checkFor J goal (planBytes (inOrder J steps))
 
-  same-checked : (o : List ℕ) (c : Checked) → WritesPlan steps (replicate 96 0) o
-      → c ≡ checkFor J goal (take (steps .count * 3) o) → checks ≡ c
-  same-checked o c w e =
+  same-checked : (o : List ℕ) (day : Day) → WritesPlan steps (replicate 96 0) o
+      → day ≡ checkFor J goal (take (steps .count * 3) o) → checks ≡ day
+  same-checked o day w e =
       sym (e ∙ ap (λ (bytes : List ℕ). checkFor J goal (take (steps .count * 3) bytes)) (w J)
       ∙ ap (checkFor J goal) (plan-in-front J steps (steps .count * 3) (omega arith)))
 
   -- the answer to what the checker says, and the steps as a plan that ends at minute e
-  abbrev answerTo : Checked → Answer
-  answerTo c = answerOf c T (steps .count) (planOf J steps)
+  abbrev answerTo : Verdict → ℕ → Answer
+  answerTo v e = answerBy v e T (steps .count) (planOf J steps)
 
   abbrev asPlan : ℕ → List ℕ → Answer
   asPlan e plan = record { found = true; end = e; count = steps .count; plan = plan }
 
-  plan-answered : (e : ℕ) → e ≤ T → answerTo (checked.Ends e) ≡ asPlan e (planOf J steps)
+  plan-answered : (e : ℕ) → e ≤ T → answerTo Pass e ≡ asPlan e (planOf J steps)
   plan-answered e l = ap (λ (b : Bool). cond b noAnswer (asPlan e (planOf J steps))) (le-ltb T e l)
 
-  nothing-answered : (e : ℕ) → T < e → answerTo (checked.Ends e) ≡ noAnswer
+  nothing-answered : (e : ℕ) → T < e → answerTo Pass e ≡ noAnswer
   nothing-answered e l = ap (λ (b : Bool). cond b noAnswer (asPlan e (planOf J steps))) (lt-ltb T e l)
 
-  -- o is the bytes that were written, and c what the checker says of them
-  module _ (o : List ℕ) (c : Checked) (w : WritesPlan steps (replicate 96 0) o)
-      (e : c ≡ checkFor J goal (take (steps .count * 3) o)) where
-    pub answers-refused : (why : Refusal) → c ≡ checked.Refused why → Answers J goal T steps noAnswer
-    answers-refused why h = sym (ap answerTo (same-checked o c w e ∙ h))
+  -- o is the bytes that were written, and day what the checker says of them
+  module _ (o : List ℕ) (day : Day) (w : WritesPlan steps (replicate 96 0) o)
+      (e : day ≡ checkFor J goal (take (steps .count * 3) o)) where
+    by-verdict : (v : Verdict) → day .verdict ≡ v → answerTo (checks .verdict) (checks .end) ≡ answerTo v (day .end)
+    by-verdict v h =
+        ap (λ (d : Day). answerTo (d .verdict) (d .end)) (same-checked o day w e)
+        ∙ ap (λ (x : Verdict). answerTo x (day .end)) h
 
-    pub answers-late : (last : ℕ) → c ≡ checked.Ends last → T < last → Answers J goal T steps noAnswer
-    answers-late last h l = sym (ap answerTo (same-checked o c w e ∙ h) ∙ nothing-answered last l)
+    pub answers-refused : (why : Refusal) → day .verdict ≡ Refused why → Answers J goal T steps noAnswer
+    answers-refused why h = sym (by-verdict (Refused why) h)
 
-    pub answers-plan : (last : ℕ) → c ≡ checked.Ends last → last ≤ T → Answers J goal T steps (asPlan last o)
-    answers-plan last h l =
-        ap (asPlan last) (w J) ∙ sym (ap answerTo (same-checked o c w e ∙ h) ∙ plan-answered last l)
+    pub answers-late : day .verdict ≡ Pass → T < day .end → Answers J goal T steps noAnswer
+    answers-late h l = sym (by-verdict Pass h ∙ nothing-answered (day .end) l)
+
+    pub answers-plan : day .verdict ≡ Pass → day .end ≤ T → Answers J goal T steps (asPlan (day .end) o)
+    answers-plan h l = ap (asPlan (day .end)) (w J) ∙ sym (by-verdict Pass h ∙ plan-answered (day .end) l)
 
   -- a plan that is found is accepted
   pub answer-found : steps .count ≤ 32 → (r : Answer) → Answers J goal T steps r → r .found ≡ true → Found J goal T r
-  answer-found few r a h = by-checks checks refl a
+  answer-found few r a h = by-verdict (checks .verdict) refl a
     where
-      by-end : (e : ℕ) (b : Bool) → ltb T e ≡ b → checks ≡ checked.Ends e
-          → r ≡ cond b noAnswer (asPlan e (planOf J steps)) → Found J goal T r
-      by-end e true l c q = not-both h (ap (λ (x : Answer). x .found) q)
-      by-end e false l c q =
+      by-end : (b : Bool) → ltb T (checks .end) ≡ b → checks .verdict ≡ Pass
+          → r ≡ cond b noAnswer (asPlan (checks .end) (planOf J steps)) → Found J goal T r
+      by-end true l c q = not-both h (ap (λ (x : Answer). x .found) q)
+      by-end false l c q =
           let front = plan-in-front J steps (3 * steps .count) refl in
-          let same = ends-accepted J goal (planBytes (inOrder J steps)) e c in
+          let same = passed-accepted J goal (planBytes (inOrder J steps)) c in
           subst (λ (x : Answer). Found J goal T x) (sym q)
           (record {
             few = few;
             whole = ap length front ∙ length-bytes-in-order J steps;
             accepted = subst (λ (bytes : List ℕ). Accepted J goal bytes) (sym front) (same .0);
             end = ap (λ (bytes : List ℕ). end (stepsIn J bytes)) front ∙ same .1;
-            inTime = ltb-false T e l;
+            inTime = ltb-false T (checks .end) l;
           })
 
-      by-checks : (c : Checked) → checks ≡ c → r ≡ answerTo c → Found J goal T r
-      by-checks (checked.Ends e) c q = by-end e (ltb T e) refl c q
-      by-checks (checked.Refused why) c q = not-both h (ap (λ (x : Answer). x .found) q)
+      by-verdict : (v : Verdict) → checks .verdict ≡ v → r ≡ answerTo v (checks .end) → Found J goal T r
+      by-verdict Pass c q = by-end (ltb T (checks .end)) refl c q
+      by-verdict (Refused why) c q = not-both h (ap (λ (x : Answer). x .found) q)
 
   -- its bytes are those of the steps
   pub answer-bytes : (r : Answer) → Answers J goal T steps r → r .found ≡ true → bytesIn r ≡ planBytes (inOrder J steps)
-  answer-bytes r a h = by-checks checks a
+  answer-bytes r a h = by-verdict (checks .verdict) a
     where
-      by-end : (e : ℕ) (b : Bool) → r ≡ cond b noAnswer (asPlan e (planOf J steps))
+      by-end : (b : Bool) → r ≡ cond b noAnswer (asPlan (checks .end) (planOf J steps))
           → bytesIn r ≡ planBytes (inOrder J steps)
-      by-end e true q = not-both h (ap (λ (x : Answer). x .found) q)
-      by-end e false q = ap bytesIn q ∙ plan-in-front J steps (3 * steps .count) refl
+      by-end true q = not-both h (ap (λ (x : Answer). x .found) q)
+      by-end false q = ap bytesIn q ∙ plan-in-front J steps (3 * steps .count) refl
 
-      by-checks : (c : Checked) → r ≡ answerTo c → bytesIn r ≡ planBytes (inOrder J steps)
-      by-checks (checked.Ends e) q = by-end e (ltb T e) q
-      by-checks (checked.Refused why) q = not-both h (ap (λ (x : Answer). x .found) q)
+      by-verdict : (v : Verdict) → r ≡ answerTo v (checks .end) → bytesIn r ≡ planBytes (inOrder J steps)
+      by-verdict Pass q = by-end (ltb T (checks .end)) q
+      by-verdict (Refused why) q = not-both h (ap (λ (x : Answer). x .found) q)
 
   -- where nothing is found, the steps as they stand are no accepted plan that ends by T
-  pub answer-not-found : (r : Answer) → Answers J goal T steps r → r .found ≡ false → (e : ℕ) → checks ≡ checked.Ends e
-      → e ≤ T → ⊥
-  answer-not-found r a h e c l =
-      not-both (ap (λ (x : Answer). x .found) (a ∙ ap answerTo c ∙ plan-answered e l)) h
+  pub answer-not-found : (r : Answer) → Answers J goal T steps r → r .found ≡ false → (day : Day) → checks ≡ day
+      → day .verdict ≡ Pass → day .end ≤ T → ⊥
+  answer-not-found r a h day c p l =
+      not-both
+      (ap (λ (x : Answer). x .found)
+      (a ∙ ap (λ (d : Day). answerTo (d .verdict) (d .end)) c ∙ ap (λ (v : Verdict). answerTo v (day .end)) p
+      ∙ plan-answered (day .end) l)) h

@@ -1,7 +1,7 @@
 -- The end of the search at the first minute: a plan that is found is accepted, and otherwise the steps are a dead end.
 -- Assumes nothing.
 use Prim.Native.Nat.{ℕ, _≤_, _<_}
-use mathlib.Core.Path.{_≡_, sym, ap, subst, _∙_}
+use mathlib.Core.Path.{_≡_, refl, sym, ap, subst, _∙_}
 use mathlib.Core.Bool.{Bool, true, false}
 use mathlib.Core.List.{List}
 use native.Mathlib.Omega.{arith}
@@ -23,6 +23,7 @@ use Rattle.timeline.specs.Step.{Step, stepsIn, planBytes}
 use Rattle.timeline.specs.From.{From}
 use Rattle.timeline.specs.Timeline.{end}
 use Rattle.timeline.specs.Accepted.{stepRows}
+use Rattle.timeline.specs.Day.{toldOf, tells}
 use Rattle.timeline.proofs.Tests.{not-both}
 use Rattle.timeline.proofs.Places.{EachStep}
 use Rattle.timeline.proofs.Permutations.{Permutation, permutation-trans, permutation-each}
@@ -36,7 +37,7 @@ use Rattle.leaf.specs.declared.Answer.{Answer}
 use Rattle.leaf.specs.Order.{placed, inOrder, Reordered, Ordered}
 use Rattle.leaf.specs.Answer.{Answers, FileOf, Asked, Finishes, bytesIn}
 use Rattle.leaf.proofs.InOrder.{in-order-permutes, in-order-own, in-order-rising, each-chosen, permutation-apart}
-use Rattle.leaf.proofs.Checks.{accepted-ends, answer-found, answer-bytes, answer-not-found}
+use Rattle.leaf.proofs.Checks.{accepted-passes, answer-found, answer-bytes, answer-not-found}
 
 abbrev passes : Verdict → Bool
 passes Pass = true
@@ -101,9 +102,10 @@ module _ (J : Job) (frame : Frame) (steps s : Steps) (same : Reordered steps s) 
       refused : first (stepRows J (frame .goal) (inOrder J s)) ≡ Pass → end (inOrder J s) ≤ frame .horizon → ⊥
       refused p inTime =
           let plan = accepted-bytes-of-steps J (frame .goal) (inOrder J s) (passed J pass) (in-order-own J s) few p in
-          let ends = accepted-ends J (frame .goal) (planBytes (inOrder J s)) pass (asked .goal) (plan .0) in
+          let bytes = planBytes (inOrder J s) in
+          let passes = accepted-passes J (frame .goal) bytes pass (asked .goal) (plan .0) in
           let same-end = ap end (plan .1) in
-          answer-not-found J (frame .goal) (frame .horizon) s r a h (end (stepsIn J (planBytes (inOrder J s)))) ends
+          answer-not-found J (frame .goal) (frame .horizon) s r a h (tells (toldOf (stepsIn J bytes))) passes refl
           (omega arith)
 
 -- the file has a job

@@ -9,7 +9,8 @@ use lib.ListN.{length, getD, take, replicate}
 use Rattle.encoding.specs.Bytes.{overwrite}
 use Rattle.facts.specs.FactSet.{foreign}
 use Rattle.job.specs.declared.Job as held
-use Rattle.job.specs.declared.refusal.Verdict.the-variants.{Pass}
+use Rattle.job.specs.declared.refusal.Verdict.{Verdict}
+use Rattle.job.specs.declared.refusal.Verdict.the-variants.{Pass, Refused}
 use Rattle.job.specs.Job.{Job, jobIn}
 use Rattle.job.specs.Refusal.{first}
 use Rattle.job.specs.Resumed.{resumed}
@@ -20,9 +21,8 @@ use Rattle.timeline.specs.From.{From}
 use Rattle.timeline.specs.Timeline.{end}
 use Rattle.timeline.specs.Accepted.{Accepted}
 use Rattle.timeline.proofs.Permutations.{Permutation}
+use Rattle.timeline.specs.declared.Day.{Day}
 use Rattle.checker.specs.Check.{checkFor}
-use Rattle.checker.specs.declared.Checked.{Checked}
-use Rattle.checker.specs.declared.Checked.the-variants as checked
 use Rattle.regression.specs.DeadEnd.{Until, Dead}
 use Rattle.tables.specs.Tables.{chosen, Known}
 use Rattle.tables.specs.declared.Frame.{Frame}
@@ -35,10 +35,12 @@ abbrev pub noAnswer : Answer
 noAnswer = record { found = false; end = 0; count = 0; plan = replicate 96 0 }
 
 -- the plan, where it is accepted and ends by the horizon T
-abbrev pub answerOf : Checked → ℕ → ℕ → List ℕ → Answer
-answerOf (checked.Ends e) T count plan =
-    cond (ltb T e) noAnswer (record { found = true; end = e; count = count; plan = plan })
-answerOf (checked.Refused why) T count plan = noAnswer
+abbrev pub answerBy : Verdict → ℕ → ℕ → ℕ → List ℕ → Answer
+answerBy Pass e T count plan = cond (ltb T e) noAnswer (record { found = true; end = e; count = count; plan = plan })
+answerBy (Refused why) e T count plan = noAnswer
+
+abbrev pub answerOf : Day → ℕ → ℕ → List ℕ → Answer
+answerOf day T count plan = answerBy (day .verdict) (day .end) T count plan
 
 -- the bytes of the steps, zeros behind them
 abbrev pub planOf : Job → Steps → List ℕ

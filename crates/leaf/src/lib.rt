@@ -6,7 +6,6 @@ ghost use mathlib.Core.Path.{_≡_};
 ghost use Prim.Native.Nat.{_≤_};
 ghost use Rattle.job.specs.Job.{jobIn};
 ghost use Rattle.leaf.specs.Answer.{noAnswer, Answers, Finishes};
-use checker::Checked;
 use job::Job;
 use job::refusal::Verdict;
 use job::resumed;
@@ -43,10 +42,12 @@ fn as_plan(job: Job, goal: u64, horizon: u16, steps: Steps) -> Answer
     bytes::write_plan(&mut plan, steps);
     let count = steps.count;
     let size = count * Plan::STEP;
-    let checked = checker::check_for(job, goal, &plan[..size]);
-    let Checked::Ends(end) = checked else {
+    let day = checker::check_for(job, goal, &plan[..size]);
+    let verdict = day.verdict;
+    let Verdict::Pass = verdict else {
         return nothing();
     };
+    let end = day.end;
     if (horizon as u32) < end {
         return nothing();
     }

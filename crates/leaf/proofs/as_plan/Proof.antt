@@ -29,11 +29,11 @@ slice-aggregate-check-for c =
 check-for-requires : tie.Need-check-for-requires
 check-for-requires c κs = search needs
 
-enum-known-checked : tie.Need-enum-known-checked
-enum-known-checked c = search needs
-
 enum-told : tie.Need-enum-told
 enum-told c = search needs
+
+enum-told-2 : tie.Need-enum-told-2
+enum-told-2 c = search needs
 
 nothing-requires : tie.Need-nothing-requires
 nothing-requires c κs = search needs
@@ -46,7 +46,7 @@ returns c =
     let J = jobIn (c-args .job) in
     subst (λ (r : Answer). Answers J (c-args .goal) (c-args .horizon) (c-args .steps) r) (sym (c .nothing .ensures))
     (answers-refused J (c-args .goal) (c-args .horizon) (c-args .steps) _ _ (c-write-plan .ensures)
-    (c-check-for .ensures) _ (c .before .enum-told .given .1))
+    (c-check-for .ensures) _ (c .before .enum-told2 .given .1))
 
 nothing-requires-2 : tie.Need-nothing-requires-2
 nothing-requires-2 c κs = search needs
@@ -54,23 +54,21 @@ nothing-requires-2 c κs = search needs
 returns-2 : tie.Need-returns-2
 returns-2 c =
     let at8 = c .before .before .before .before .before .before .before .before in
-    let c-args = at8 .before .before .args in
-    let c-write-plan = c .before .before .before .before .before .before .before .before .write-plan in
-    let c-check-for = c .before .before .before .before .before .check-for in
-    let c-checked = c .before .before .before .checked in
-    let J = jobIn (c-args .job) in
-    subst (λ (r : Answer). Answers J (c-args .goal) (c-args .horizon) (c-args .steps) r) (sym (c .nothing2 .ensures))
-    (answers-late J (c-args .goal) (c-args .horizon) (c-args .steps) _ _ (c-write-plan .ensures)
-    (c-check-for .ensures) _ (c-checked .given .1) (c .before .if1 .taken))
-
-returns-3 : tie.Need-returns-3
-returns-3 c =
-    let at8 = c .before .before .before .before .before .before .before .before in
     let c-args = at8 .before .args in
     let c-write-plan = c .before .before .before .before .before .before .before .write-plan in
     let c-check-for = c .before .before .before .before .check-for in
+    let J = jobIn (c-args .job) in
+    subst (λ (r : Answer). Answers J (c-args .goal) (c-args .horizon) (c-args .steps) r) (sym (c .nothing2 .ensures))
+    (answers-late J (c-args .goal) (c-args .horizon) (c-args .steps) _ _ (c-write-plan .ensures)
+    (c-check-for .ensures) (c .before .before .enum-told .given .1) (c .before .if1 .taken))
+
+returns-3 : tie.Need-returns-3
+returns-3 c =
+    let c-args = c .before .before .before .before .before .before .before .before .args in
+    let c-write-plan = c .before .before .before .before .before .before .write-plan in
+    let c-check-for = c .before .before .before .check-for in
     answers-plan (jobIn (c-args .job)) (c-args .goal) (c-args .horizon) (c-args .steps) _ _ (c-write-plan .ensures)
-    (c-check-for .ensures) _ (c .before .before .checked .given .1) (c .if1 .left)
+    (c-check-for .ensures) (c .before .enum-told .given .1) (c .if1 .left)
 
 pub as-plan-spec : {M : Type 1} → statement M
 as-plan-spec =
@@ -82,8 +80,8 @@ as-plan-spec =
     array-share-prefix-plan
     slice-aggregate-check-for
     check-for-requires
-    enum-known-checked
     enum-told
+    enum-told-2
     nothing-requires
     returns
     nothing-requires-2
