@@ -1,14 +1,12 @@
 -- What follows from the planner's promise: the plan handed out is a shortest one, 22 means that there is none, and
 -- where there is one a plan is handed out.
 -- Assumes nothing.
-use Prim.Native.Nat.{ℕ, _/_, _≤_}
+use Prim.Native.Nat.{ℕ, _≤_}
 use mathlib.Core.Path.{_≡_, refl, sym, ap, _∙_, subst}
 use mathlib.Core.Bool.{true, false}
 use mathlib.Core.List.{List, [], _∷_}
 use native.Mathlib.Omega.{arith}
 use lib.Dec.{eqb}
-use lib.ListN.{length}
-use Rattle.lists.proofs.Tabulate.{length-tabulate}
 use Rattle.job.specs.declared.refusal.Refusal.{Refusal}
 use Rattle.job.specs.declared.refusal.Refusal.the-variants.{NoPlan}
 use Rattle.job.specs.declared.refusal.Verdict.{Verdict}
@@ -18,26 +16,26 @@ use Rattle.job.specs.Refusal.{Row, _when_, number, first}
 use Rattle.job.specs.Valid.{jobRows, actionRows}
 use Rattle.job.proofs.Passed.{Passed, passed}
 use Rattle.job.proofs.Table.{pass-of-append}
-use Rattle.timeline.specs.Step.{stepsIn}
+use Rattle.timeline.specs.declared.Day.{Day}
 use Rattle.timeline.specs.Accepted.{Accepted}
+use Rattle.timeline.specs.Day.{Told, noDay, tells}
 use Rattle.timeline.proofs.Tests.{not-both}
 use Rattle.timeline.proofs.PlanBytes.{few-steps-of-accepted}
 use Rattle.makespan.specs.Makespan.{Makespan, endsAt, noPlan, LeastEnd, makespan}
 use Rattle.makespan.proofs.LeastEnds.{least-end-of-makespan, none-accepted-when-no-plan}
 use Rattle.makespan.proofs.LeastEnds.{every-plan-counts, nothing-begun}
-use Rattle.planner.specs.declared.Planned.{Planned}
-use Rattle.planner.specs.declared.Planned.the-variants as planned
 use Rattle.planner.specs.Plan.{planRefusals, HandsOut, PlansFor, PlansBy, Plans}
 
--- the answers are different, and an end is told by its numbers
-ends-same : {e n d k : ℕ} → _≡_ {A = Planned} (planned.Ends e n) (planned.Ends d k) → (e ≡ d) × (n ≡ k)
-ends-same h = (cc h, cc h)
+-- an answer that refuses tells of no plan
+refused-not-passed : (answer : Day) (why : Refusal) → answer ≡ noDay why → answer .verdict ≡ Pass → ⊥
+refused-not-passed answer why told h = let z : _≡_ {A = ℕ} 0 1 = cc in omega arith
 
-no-ends-when-refused : {e n : ℕ} {why : Refusal} → _≡_ {A = Planned} (planned.Ends e n) (planned.Refused why) → ⊥
-no-ends-when-refused h = let z : _≡_ {A = ℕ} 0 1 = cc h in omega arith
+-- an answer that tells of a plan refuses nothing, and a refusal is its own
+told-not-refused : (answer : Day) (told : Told) (why : Refusal) → answer ≡ tells told → answer .verdict ≡ Refused why → ⊥
+told-not-refused answer told why same h = let z : _≡_ {A = ℕ} 0 1 = cc in omega arith
 
-refusals-same : {w v : Refusal} → _≡_ {A = Planned} (planned.Refused w) (planned.Refused v) → w ≡ v
-refusals-same h = cc h
+refusals-same : (answer : Day) (w v : Refusal) → answer ≡ noDay w → answer .verdict ≡ Refused v → w ≡ v
+refusals-same answer w v told h = cc
 
 -- ---- no row of the tests before the search has the number 22
 abbrev Not22 : List Row → Type 0
@@ -57,74 +55,71 @@ unfolding jobRows actionRows
 tests-before-22 J slice =
     (refl, (refl, (refl, (refl, (refl, (refl, (refl, (refl, (refl, (refl, tt))))))))))
 
--- a plan of n steps that is handed out has at most 32
-few-handed-out : (J : Job) (slice : List ℕ) (e : ℕ) (answer : Planned) (after : List ℕ)
-    → (h : HandsOut J slice e answer after) → h .steps ≤ 32
-unfolding stepsIn
-few-handed-out J slice e answer after h =
-    let few = few-steps-of-accepted J (J .goal) (h .bytes) (h .accepted) in
-    let count : length (stepsIn J (h .bytes)) ≡ length (h .bytes) / 3 = length-tabulate _ _ in
-    let w = h .whole in
-    omega arith
+module _ (J : Job) (slice : List ℕ) (answer : Day) (after : List ℕ) where
+  -- the end told is the least one of all accepted plans; the slice has such a plan, of at most 32 steps
+  pub record Shortest : Type 0 where
+    pub least : LeastEnd J (J .goal) 0 [] (answer .end)
+    pub few : answer .steps ≤ 32
+    pub handsOut : HandsOut J slice (answer .end) answer after
 
-module _ (J : Job) (slice : List ℕ) (answer : Planned) (after : List ℕ) where
-  -- an end is the least one of all accepted plans; the slice has such a plan, of that many steps and at most 32
-  abbrev pub Shortest : ℕ → ℕ → Type 0
-  Shortest e n = LeastEnd J (J .goal) 0 [] e × (n ≤ 32) × HandsOut J slice e (planned.Ends e n) after
+  shortest-handed-out : Passed J → (e : ℕ) → makespan J (J .goal) ≡ endsAt e → HandsOut J slice e answer after → Shortest
+  shortest-handed-out within e q p =
+      let told : answer .end ≡ e = ap (λ (d : Day). d .end) (p .answers) ∙ p .end in
+      let count = ap (λ (d : Day). d .steps) (p .answers) in
+      let most = few-steps-of-accepted J (J .goal) (p .bytes) (p .accepted) in
+      record {
+        least =
+            least-end-of-makespan J (J .goal) 0 [] within (nothing-begun J) (answer .end) (q ∙ ap endsAt (sym told));
+        few = omega arith;
+        handsOut = subst (λ (k : ℕ). HandsOut J slice k answer after) (sym told) p;
+      }
 
-  shortest-by-makespan : (e n : ℕ) → answer ≡ planned.Ends e n → Passed J → (m : Makespan) → makespan J (J .goal) ≡ m
-      → PlansFor m J slice answer after → Shortest e n
-  shortest-by-makespan e n same within (endsAt d) q p =
-      let told = ends-same (sym same ∙ p .answers) in
-      let few = few-handed-out J slice d answer after p in
-      let at : makespan J (J .goal) ≡ endsAt e = q ∙ ap endsAt (sym (told .0)) in
-      let number = told .1 in (
-        least-end-of-makespan J (J .goal) 0 [] within (nothing-begun J) e at,
-        omega arith,
-        subst (λ (a : Planned). HandsOut J slice e a after) same
-            (subst (λ (k : ℕ). HandsOut J slice k answer after) (sym (told .0)) p),
-      )
-  shortest-by-makespan e n same within noPlan q p = absurd (no-ends-when-refused (sym same ∙ p .0))
+  shortest-by-makespan : answer .verdict ≡ Pass → Passed J → (m : Makespan) → makespan J (J .goal) ≡ m
+      → PlansFor m J slice answer after → Shortest
+  shortest-by-makespan pass within (endsAt e) q p = shortest-handed-out within e q p
+  shortest-by-makespan pass within noPlan q p = absurd (refused-not-passed answer NoPlan (p .answers) pass)
 
-  shortest-by-verdict : (e n : ℕ) → answer ≡ planned.Ends e n → (v : Verdict) → first (planRefusals J slice) ≡ v
-      → PlansBy v J slice answer after → Shortest e n
-  shortest-by-verdict e n same Pass q p =
-      shortest-by-makespan e n same (passed J (pass-of-append (jobRows J) _ q .0)) (makespan J (J .goal)) refl p
-  shortest-by-verdict e n same (Refused why) q p = absurd (no-ends-when-refused (sym same ∙ p .0))
+  shortest-by-verdict : answer .verdict ≡ Pass → (v : Verdict) → first (planRefusals J slice) ≡ v
+      → PlansBy v J slice answer after → Shortest
+  shortest-by-verdict pass Pass q p =
+      shortest-by-makespan pass (passed J (pass-of-append (jobRows J) _ q .0)) (makespan J (J .goal)) refl p
+  shortest-by-verdict pass (Refused why) q p = absurd (refused-not-passed answer why (p .answers) pass)
 
-  pub plan-is-shortest : Plans J slice answer after → (e n : ℕ) → answer ≡ planned.Ends e n → Shortest e n
-  plan-is-shortest h e n same = shortest-by-verdict e n same (first (planRefusals J slice)) refl h
+  -- a plan that is handed out is a shortest one
+  pub plan-is-shortest : Plans J slice answer after → answer .verdict ≡ Pass → Shortest
+  plan-is-shortest h pass = shortest-by-verdict pass (first (planRefusals J slice)) refl h
 
   none-by-makespan : Passed J → (m : Makespan) → makespan J (J .goal) ≡ m → PlansFor m J slice answer after
-      → answer ≡ planned.Refused NoPlan → (bytes : List ℕ) → Accepted J (J .goal) bytes → ⊥
+      → answer .verdict ≡ Refused NoPlan → (bytes : List ℕ) → Accepted J (J .goal) bytes → ⊥
   none-by-makespan within (endsAt e) q p refused bytes accepted =
-      no-ends-when-refused (sym (p .answers) ∙ refused)
+      told-not-refused answer _ NoPlan (p .answers) refused
   none-by-makespan within noPlan q p refused bytes accepted =
       none-accepted-when-no-plan J (J .goal) 0 [] within q bytes accepted (every-plan-counts J bytes)
 
   none-by-verdict : (v : Verdict) → first (planRefusals J slice) ≡ v → PlansBy v J slice answer after
-      → answer ≡ planned.Refused NoPlan → (bytes : List ℕ) → Accepted J (J .goal) bytes → ⊥
+      → answer .verdict ≡ Refused NoPlan → (bytes : List ℕ) → Accepted J (J .goal) bytes → ⊥
   none-by-verdict Pass q p refused bytes accepted =
       none-by-makespan (passed J (pass-of-append (jobRows J) _ q .0)) (makespan J (J .goal)) refl p refused bytes
       accepted
   none-by-verdict (Refused why) q p refused bytes accepted =
-      not-22 (planRefusals J slice) (tests-before-22 J slice) (q ∙ ap Refused (refusals-same (sym (p .0) ∙ refused)))
+      not-22 (planRefusals J slice) (tests-before-22 J slice)
+      (q ∙ ap Refused (refusals-same answer why NoPlan (p .answers) refused))
 
   -- 22 means that no plan is accepted
-  pub no-plan-when-refused : Plans J slice answer after → answer ≡ planned.Refused NoPlan
+  pub no-plan-when-refused : Plans J slice answer after → answer .verdict ≡ Refused NoPlan
       → (bytes : List ℕ) → Accepted J (J .goal) bytes → ⊥
   no-plan-when-refused h = none-by-verdict (first (planRefusals J slice)) refl h
 
-  handed-out-by-makespan : Passed J → (m : Makespan) → makespan J (J .goal) ≡ m → PlansFor m J slice answer after
-      → (bytes : List ℕ) → Accepted J (J .goal) bytes → (e n : ℕ) × (answer ≡ planned.Ends e n)
-  handed-out-by-makespan within (endsAt e) q p bytes accepted = (e, p .steps, p .answers)
-  handed-out-by-makespan within noPlan q p bytes accepted =
+  shortest-when-accepted : Passed J → (m : Makespan) → makespan J (J .goal) ≡ m → PlansFor m J slice answer after
+      → (bytes : List ℕ) → Accepted J (J .goal) bytes → (answer .verdict ≡ Pass) × Shortest
+  shortest-when-accepted within (endsAt e) q p bytes accepted =
+      (ap (λ (d : Day). d .verdict) (p .answers), shortest-handed-out within e q p)
+  shortest-when-accepted within noPlan q p bytes accepted =
       absurd (none-accepted-when-no-plan J (J .goal) 0 [] within q bytes accepted (every-plan-counts J bytes))
 
   -- where none of 3 to 11 and 21 holds and some plan is accepted, a shortest plan is handed out
   pub plan-when-accepted : Plans J slice answer after → first (planRefusals J slice) ≡ Pass
-      → (bytes : List ℕ) → Accepted J (J .goal) bytes → (e n : ℕ) × (answer ≡ planned.Ends e n) × Shortest e n
+      → (bytes : List ℕ) → Accepted J (J .goal) bytes → (answer .verdict ≡ Pass) × Shortest
   plan-when-accepted h pass bytes accepted =
-      let out = handed-out-by-makespan (passed J (pass-of-append (jobRows J) _ pass .0)) (makespan J (J .goal)) refl
-      (subst (λ (v : Verdict). PlansBy v J slice answer after) pass h) bytes accepted in
-      (out .0, out .1, out .2, plan-is-shortest h (out .0) (out .1) (out .2))
+      shortest-when-accepted (passed J (pass-of-append (jobRows J) _ pass .0)) (makespan J (J .goal)) refl
+      (subst (λ (v : Verdict). PlansBy v J slice answer after) pass h) bytes accepted

@@ -1,7 +1,7 @@
 -- From the answer of the search to what the planner promises: the ways out of the planner.
 -- Assumes nothing.
 use Prim.Native.Nat.{ℕ, _≤_, _<_}
-use mathlib.Core.Path.{_≡_, refl, sym, _∙_, subst}
+use mathlib.Core.Path.{_≡_, refl, sym, ap, _∙_, subst}
 use mathlib.Core.Bool.{true, false}
 use mathlib.Core.List.{List, []}
 use lib.ListN.{length}
@@ -12,23 +12,24 @@ use Rattle.job.specs.declared.refusal.Refusal.the-variants.{PlanSlice, NoPlan}
 use Rattle.job.specs.declared.refusal.Verdict.{Verdict}
 use Rattle.job.specs.declared.refusal.Verdict.the-variants.{Pass, Refused}
 use Rattle.job.specs.Job.{Job}
-use Rattle.job.specs.Refusal.{first}
+use Rattle.job.specs.Refusal.{first, returned}
 use Rattle.job.specs.Valid.{jobRows}
 use Rattle.job.proofs.Table.{first-here, first-next, first-append-pass, first-append-refused, first-none}
+use Rattle.timeline.specs.declared.Day.{Day}
+use Rattle.timeline.specs.Day.{noDay, tells, dayReply}
+use Rattle.timeline.proofs.DayLaws.{told-of-bytes}
 use Rattle.makespan.specs.Makespan.{Makespan, endsAt, noPlan, makespan}
 use Rattle.leaf.specs.declared.Answer.{Answer}
 use Rattle.leaf.specs.Answer.{bytesIn}
 use Rattle.solver.specs.Task.{Solved}
-use Rattle.planner.specs.declared.Planned.{Planned}
-use Rattle.planner.specs.declared.Planned.the-variants as planned
-use Rattle.planner.specs.Plan.{planRefusals, PlansFor, PlansBy, Plans}
+use Rattle.planner.specs.Plan.{planRefusals, RefusedWith, PlansFor, PlansBy, Plans}
 
 module _ (J : Job) (slice : List ℕ) where
-  by-verdict : (v : Verdict) (answer : Planned) (after : List ℕ) → first (planRefusals J slice) ≡ v
+  by-verdict : (v : Verdict) (answer : Day) (after : List ℕ) → first (planRefusals J slice) ≡ v
       → PlansBy v J slice answer after → Plans J slice answer after
   by-verdict v answer after e h = subst (λ (w : Verdict). PlansBy w J slice answer after) (sym e) h
 
-  by-makespan : (m : Makespan) (answer : Planned) (after : List ℕ) → first (jobRows J) ≡ Pass → 96 ≤ length slice
+  by-makespan : (m : Makespan) (answer : Day) (after : List ℕ) → first (jobRows J) ≡ Pass → 96 ≤ length slice
       → makespan J (J .goal) ≡ m → PlansFor m J slice answer after → Plans J slice answer after
   by-makespan m answer after passes room e h =
       by-verdict Pass answer after
@@ -37,36 +38,42 @@ module _ (J : Job) (slice : List ℕ) where
       ∙ first-none)
       (subst (λ (k : Makespan). PlansFor k J slice answer after) (sym e) h)
 
+  -- r is no day, and the slice is as it was
+  refused-with : (why : Refusal) (r : Day) → r ≡ noDay why → RefusedWith why slice r slice
+  refused-with why r told = record { answers = told; replies = ap dayReply told; keeps = refl }
+
   -- a job that fails its tests
-  pub plans-refused : (why : Refusal) → first (jobRows J) ≡ Refused why → Plans J slice (planned.Refused why) slice
-  plans-refused why e =
-      by-verdict (Refused why) _ slice (first-append-refused (jobRows J) _ why e) (refl, refl)
+  pub plans-refused : (why : Refusal) (r : Day) → r ≡ noDay why → first (jobRows J) ≡ Refused why
+      → Plans J slice r slice
+  plans-refused why r told e =
+      by-verdict (Refused why) r slice (first-append-refused (jobRows J) _ why e) (refused-with why r told)
 
   -- a slice that is too short
-  pub plans-short : first (jobRows J) ≡ Pass → length slice < 96 → Plans J slice (planned.Refused PlanSlice) slice
-  plans-short passes short =
-      by-verdict (Refused PlanSlice) _ slice
+  pub plans-short : (r : Day) → r ≡ noDay PlanSlice → first (jobRows J) ≡ Pass → length slice < 96
+      → Plans J slice r slice
+  plans-short r told passes short =
+      by-verdict (Refused PlanSlice) r slice
       (first-append-pass (jobRows J) _ passes ∙ first-here PlanSlice _ [] (lt-ltb (length slice) 96 short))
-      (refl, refl)
+      (refused-with PlanSlice r told)
 
-  module _ (passes : first (jobRows J) ≡ Pass) (room : 96 ≤ length slice) (r : Answer)
-      (answered : Solved J (J .goal) 0 [] r) where
+  module _ (passes : first (jobRows J) ≡ Pass) (room : 96 ≤ length slice) (a : Answer)
+      (answered : Solved J (J .goal) 0 [] a) where
     -- no plan
-    pub plans-none : r .found ≡ false → Plans J slice (planned.Refused NoPlan) slice
-    plans-none e = by-makespan noPlan _ slice passes room (answered .none e) (refl, refl)
+    pub plans-none : (r : Day) → r ≡ noDay NoPlan → a .found ≡ false → Plans J slice r slice
+    plans-none r told e = by-makespan noPlan r slice passes room (answered .none e) (refused-with NoPlan r told)
 
     -- a plan, copied to the front of the slice
-    pub plans-found : r .found ≡ true → (after : List ℕ) → after ≡ overwrite slice 0 (bytesIn r)
-        → Plans J slice (planned.Ends (r .end) (r .count)) after
+    pub plans-found : a .found ≡ true → (after : List ℕ) → after ≡ overwrite slice 0 (bytesIn a)
+        → Plans J slice (tells (record { end = a .end; steps = a .count })) after
     plans-found e after copied =
         let found = answered .found e in
-        by-makespan (endsAt (r .end)) _ after passes room (found .2)
+        let told = told-of-bytes J (bytesIn a) (a .end) (a .count) (found .0 .whole) (found .0 .end) in
+        by-makespan (endsAt (a .end)) _ after passes room (found .2)
         (record {
-          bytes = bytesIn r;
-          steps = r .count;
-          whole = found .0 .whole;
+          bytes = bytesIn a;
           accepted = found .0 .accepted;
           end = found .0 .end;
-          answers = refl;
+          answers = ap tells (sym told);
+          replies = ap returned (sym told);
           leaves = copied;
         })

@@ -1,13 +1,13 @@
 -- What the planner promises: a shortest plan in the lent slice, or why there is none.
 -- Assumes nothing.
-use Prim.Native.Nat.{ℕ, _*_}
+use Prim.Native.Nat.{ℕ}
 use mathlib.Core.Path.{_≡_}
 use mathlib.Core.List.{List, [], _∷_, _++_}
 use lib.Dec.{ltb}
 use lib.ListN.{length}
 use Rattle.encoding.specs.Bytes.{overwrite}
 use Rattle.job.specs.Job.{Job}
-use Rattle.job.specs.Refusal.{Row, _when_, first}
+use Rattle.job.specs.Refusal.{Row, _when_, number, first, refused, returned}
 use Rattle.job.specs.Valid.{jobRows}
 use Rattle.job.specs.declared.refusal.Refusal.{Refusal}
 use Rattle.job.specs.declared.refusal.Refusal.the-variants.{PlanSlice, NoPlan}
@@ -16,39 +16,40 @@ use Rattle.job.specs.declared.refusal.Verdict.the-variants.{Pass, Refused}
 use Rattle.timeline.specs.Step.{stepsIn}
 use Rattle.timeline.specs.Timeline.{end}
 use Rattle.timeline.specs.Accepted.{Accepted}
+use Rattle.timeline.specs.Day.{toldOf, noDay, tells, dayReply}
+use Rattle.timeline.specs.declared.Day.{Day}
 use Rattle.makespan.specs.Makespan.{Makespan, endsAt, noPlan, makespan}
-use Rattle.planner.specs.declared.Planned.{Planned}
-use Rattle.planner.specs.declared.Planned.the-variants as planned
 
 -- tests 3 to 11 of the job; then 21: "plan slice under 96 bytes"
 abbrev pub planRefusals : Job → List ℕ → List Row
 planRefusals J slice = jobRows J ++ (PlanSlice when ltb (length slice) 96 ∷ [])
 
 -- the refusal "is returned, alone", and "no slice changes"
-abbrev pub RefusedWith : Refusal → List ℕ → Planned → List ℕ → Type 0
-RefusedWith why slice answer after = (answer ≡ planned.Refused why) × (after ≡ slice)
+pub record RefusedWith (why : Refusal) (slice : List ℕ) (answer : Day) (after : List ℕ) : Type 0 where
+  pub answers : answer ≡ noDay why
+  pub replies : dayReply answer ≡ refused (number why)
+  pub keeps : after ≡ slice
 
 -- "returns the end and number of steps and writes those steps at the front of the slice, the rest kept"; which of the
 -- plans that end at e is left open
-pub record HandsOut (J : Job) (slice : List ℕ) (e : ℕ) (answer : Planned) (after : List ℕ) : Type 0 where
+pub record HandsOut (J : Job) (slice : List ℕ) (e : ℕ) (answer : Day) (after : List ℕ) : Type 0 where
   pub bytes : List ℕ
-  pub steps : ℕ
-  pub whole : length bytes ≡ 3 * steps
   pub accepted : Accepted J (J .goal) bytes
   pub end : end (stepsIn J bytes) ≡ e
-  pub answers : answer ≡ planned.Ends e steps
+  pub answers : answer ≡ tells (toldOf (stepsIn J bytes))
+  pub replies : dayReply answer ≡ returned (toldOf (stepsIn J bytes))
   pub leaves : after ≡ overwrite slice 0 bytes
 
 -- a plan with the least end of all accepted plans; 22 where there is "no plan that passes 12 to 20"
-abbrev pub PlansFor : Makespan → Job → List ℕ → Planned → List ℕ → Type 0
+abbrev pub PlansFor : Makespan → Job → List ℕ → Day → List ℕ → Type 0
 PlansFor (endsAt e) J slice answer after = HandsOut J slice e answer after
 PlansFor noPlan J slice answer after = RefusedWith NoPlan slice answer after
 
 -- "Of the refusals that hold, the one standing first in the table is returned"; otherwise by the makespan
-abbrev pub PlansBy : Verdict → Job → List ℕ → Planned → List ℕ → Type 0
+abbrev pub PlansBy : Verdict → Job → List ℕ → Day → List ℕ → Type 0
 PlansBy Pass J slice answer after = PlansFor (makespan J (J .goal)) J slice answer after
 PlansBy (Refused why) J slice answer after = RefusedWith why slice answer after
 
 -- the answer to a job and a slice, and every byte that the slice then holds
-abbrev pub Plans : Job → List ℕ → Planned → List ℕ → Type 0
+abbrev pub Plans : Job → List ℕ → Day → List ℕ → Type 0
 Plans J slice answer after = PlansBy (first (planRefusals J slice)) J slice answer after

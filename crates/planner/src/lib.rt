@@ -13,13 +13,8 @@ use job::refusal::Verdict;
 use job::validate::validate;
 use leaf::Answer;
 use solver::Task;
+use timeline::Day;
 use timeline::Plan;
-
-// What the planner answers: the plan's end and its number of steps, or why there is none.
-pub enum Planned {
-    Ends(u32, usize),
-    Refused(Refusal),
-}
 
 // Copies the answer's plan to the front of the slice.
 fn copy_plan(out: &mut [u8], answer: Answer)
@@ -36,23 +31,25 @@ fn copy_plan(out: &mut [u8], answer: Answer)
 
 // Writes a shortest plan to the front of the slice, and returns its end and its number of steps. A refusal changes no
 // byte.
-pub fn plan(job: Job, out: &mut [u8]) -> Planned
+pub fn plan(job: Job, out: &mut [u8]) -> Day
     ensures { λ r. ⌜ Plans (jobIn job) (now (out .entry)) r (now (out .exit)) ⌝ }
 {
     let verdict = validate(job);
     if let Verdict::Refused(why) = verdict {
-        return Planned::Refused(why);
+        return Day::refused(why);
     }
     if out.len() < Plan::BYTES {
-        return Planned::Refused(Refusal::PlanSlice);
+        return Day::refused(Refusal::PlanSlice);
     }
     let answer = solver::solve(job, Task::whole_day(job));
     let found = answer.found;
     if !found {
-        return Planned::Refused(Refusal::NoPlan);
+        return Day::refused(Refusal::NoPlan);
     }
-    let end = answer.end;
-    let count = answer.count;
     copy_plan(out, answer);
-    Planned::Ends(end, count)
+    Day {
+        verdict: Verdict::Pass,
+        end: answer.end,
+        steps: answer.count,
+    }
 }

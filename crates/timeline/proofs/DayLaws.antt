@@ -1,13 +1,31 @@
 -- What is answered of a day, and the reply that it makes.
 -- Assumes nothing.
-use mathlib.Core.Path.{_≡_, refl}
+use Prim.Native.Nat.{ℕ, _*_, _/_}
+use mathlib.Core.Path.{_≡_, refl, ap, _∙_}
 use mathlib.Core.List.{List}
+use native.Mathlib.Omega.{arith}
+use lib.ListN.{length}
+use Rattle.lists.proofs.Tabulate.{length-tabulate}
 use Rattle.job.specs.declared.refusal.Verdict.{Verdict}
 use Rattle.job.specs.declared.refusal.Verdict.the-variants.{Pass, Refused}
+use Rattle.job.specs.Job.{Job}
 use Rattle.job.specs.Refusal.{replyBy}
-use Rattle.timeline.specs.Step.{Step}
-use Rattle.timeline.specs.Day.{toldOf, dayOf, dayReply}
+use Rattle.timeline.specs.Step.{Step, stepsIn}
+use Rattle.timeline.specs.Timeline.{end}
+use Rattle.timeline.specs.Day.{Told, toldOf, dayOf, dayReply}
 
 pub reply-of-day : (v : Verdict) (P : List Step) → dayReply (dayOf v P) ≡ replyBy v (toldOf P)
 reply-of-day Pass P = refl
 reply-of-day (Refused why) P = refl
+
+-- the bytes of n steps hold n steps
+pub steps-in-bytes : (J : Job) (bytes : List ℕ) (n : ℕ) → length bytes ≡ 3 * n → length (stepsIn J bytes) ≡ n
+unfolding stepsIn
+steps-in-bytes J bytes n whole =
+    let count : length (stepsIn J bytes) ≡ length bytes / 3 = length-tabulate _ _ in
+    omega arith
+
+-- what is told of the bytes of n steps that end at e
+pub told-of-bytes : (J : Job) (bytes : List ℕ) (e n : ℕ) → length bytes ≡ 3 * n → end (stepsIn J bytes) ≡ e
+    → toldOf (stepsIn J bytes) ≡ record { end = e; steps = n }
+told-of-bytes J bytes e n whole ends = rw (ends, steps-in-bytes J bytes n whole)

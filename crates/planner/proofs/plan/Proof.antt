@@ -15,21 +15,28 @@ validate-requires c κs = search needs
 enum-known-verdict : tie.Need-enum-known-verdict
 enum-known-verdict c = search needs
 
+refused-requires : tie.Need-refused-requires
+refused-requires c κs = search needs
+
 returns : tie.Need-returns
 returns c =
-    let c-args = c .before .before .before .before .before .args in
-    let c-validate = c .before .before .before .validate in
-    plans-refused (jobIn (c-args .job)) (c-args .out .now) _ (sym (c-validate .ensures) ∙ c .before .verdict .given .1)
+    let c-args = c .before .before .before .before .before .before .args in
+    let c-validate = c .before .before .before .before .validate in
+    plans-refused (jobIn (c-args .job)) (c-args .out .now) _ _ (c .refused .ensures)
+    (sym (c-validate .ensures) ∙ c .before .before .verdict .given .1)
 
 enum-told : tie.Need-enum-told
 enum-told c = search needs
 
+refused-requires-2 : tie.Need-refused-requires-2
+refused-requires-2 c κs = search needs
+
 returns-2 : tie.Need-returns-2
 returns-2 c =
-    let c-args = c .before .before .before .before .before .args in
-    let c-validate = c .before .before .before .validate in
-    let pass = sym (c-validate .ensures) ∙ c .before .enum-told .given .1 in
-    plans-short (jobIn (c-args .job)) (c-args .out .now) pass (c .if1 .taken)
+    let c-args = c .before .before .before .before .before .before .args in
+    let c-validate = c .before .before .before .before .validate in
+    let pass = sym (c-validate .ensures) ∙ c .before .before .enum-told .given .1 in
+    plans-short (jobIn (c-args .job)) (c-args .out .now) _ (c .refused2 .ensures) pass (c .before .if1 .taken)
 
 whole-day-requires : tie.Need-whole-day-requires
 whole-day-requires c κs = search needs
@@ -41,18 +48,22 @@ solve-requires c κs =
     let pass = sym (c-validate .ensures) ∙ c .before .before .enum-told .given .1 in
     (pass, whole-day-fits (c-args .job) _ (c .whole-day .ensures) pass)
 
+refused-requires-3 : tie.Need-refused-requires-3
+refused-requires-3 c κs = search needs
+
 returns-3 : tie.Need-returns-3
 returns-3 c =
-    let c-args = c .before .before .before .before .before .before .before .before .args in
-    let c-validate = c .before .before .before .before .before .before .validate in
-    let c-enum-told = c .before .before .before .before .enum-told in
-    let c-if1 = c .before .before .before .if1 in
-    let c-solve = c .before .solve in
+    let at8 = c .before .before .before .before .before .before .before .before in
+    let c-args = at8 .before .args in
+    let c-validate = c .before .before .before .before .before .before .before .validate in
+    let c-enum-told = c .before .before .before .before .before .enum-told in
+    let c-if1 = c .before .before .before .before .if1 in
+    let c-whole-day = c .before .before .before .whole-day in
+    let c-solve = c .before .before .solve in
     let pass = sym (c-validate .ensures) ∙ c-enum-told .given .1 in
-    let solved = whole-day-solved (c-args .job) _ (c .before .before .whole-day .ensures) (c-solve .result)
-    (c-solve .ensures) in
-    plans-none (jobIn (c-args .job)) (c-args .out .now) pass (c-if1 .left) (c-solve .result) solved
-    (not-true (c-solve .result .found) (c .if2 .taken))
+    let solved = whole-day-solved (c-args .job) _ (c-whole-day .ensures) (c-solve .result) (c-solve .ensures) in
+    plans-none (jobIn (c-args .job)) (c-args .out .now) pass (c-if1 .left) (c-solve .result) solved _
+    (c .refused3 .ensures) (not-true (c-solve .result .found) (c .before .if2 .taken))
 
 copy-plan-requires : tie.Need-copy-plan-requires
 copy-plan-requires c κs =
@@ -85,11 +96,14 @@ plan-spec =
     (tie.spec
     validate-requires
     enum-known-verdict
+    refused-requires
     returns
     enum-told
+    refused-requires-2
     returns-2
     whole-day-requires
     solve-requires
+    refused-requires-3
     returns-3
     copy-plan-requires
     same-length
