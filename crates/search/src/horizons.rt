@@ -4,12 +4,12 @@ ghost use mathlib.Core.Bool.{true};
 ghost use Prim.Native.Nat.{_≤_, _<_, min};
 ghost use Rattle.search.specs.Horizons.{until, Whole, Solves, Rises, Narrows, Descends};
 ghost use Rattle.search.specs.Horizons.{ShortestFrom, Shortest};
-use crate::amounts;
 use crate::bounds;
-use crate::minute;
 use crate::regress;
-use crate::state::State;
 use leaf::Answer;
+use states::amounts;
+use states::minute;
+use states::state::State;
 use tables::Frame;
 
 // The frame for another horizon.

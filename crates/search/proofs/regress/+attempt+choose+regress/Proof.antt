@@ -10,11 +10,11 @@ use Rattle.facts.proofs.SetLaws.{in-difference-parts}
 use Rattle.job.specs.Job.{Job}
 use Rattle.tables.specs.Tables.{chosen}
 use Rattle.leaf.specs.declared.Answer.{Answer}
-use Rattle.search.specs.States.{Stands, DeadFor, MayStop}
-use Rattle.search.specs.Search.{TaskOf, OpenIn}
-use Rattle.search.proofs.AmountLaws.{small-with-more}
+use Rattle.states.specs.States.{Stands, DeadFor, MayStop, OpenIn}
+use Rattle.search.specs.Search.{TaskOf}
+use Rattle.states.proofs.AmountLaws.{small-with-more}
 use Rattle.search.proofs.Completeness.{dead-past-barred, dead-either, dead-until}
-use Rattle.search.proofs.CandidateLaws.{subset-at-most, less-without}
+use Rattle.states.proofs.CandidateLaws.{subset-at-most, less-without}
 use Rattle.search.proofs.Counted.{found-when-finished}
 use Rattle.search.proofs.Steps.{starts-in-time, ready-taken, stands-taken, dead-when-taken-open}
 use Rattle.search.proofs.Steps.{dead-when-taken-until}
@@ -35,15 +35,15 @@ use Rattle.facts.proofs.difference.Reads as difference-reads
 use Rattle.facts.proofs.single.Reads as single-reads
 use Rattle.leaf.proofs.finish.Reads as finish-reads
 use Rattle.leaf.proofs.nothing.Reads as nothing-reads
-use Rattle.search.proofs.carried.in_time.Reads as in-time-reads
-use Rattle.search.proofs.missing.suffices.Reads as suffices-reads
-use Rattle.search.proofs.moves.back.Reads as back-reads
-use Rattle.search.proofs.moves.start_of.Reads as start-of-reads
-use Rattle.search.proofs.moves.take.Reads as take-reads
-use Rattle.search.proofs.rules.candidates.Reads as candidates-reads
-use Rattle.search.proofs.rules.pick.Reads as pick-reads
-use Rattle.search.proofs.tests.all_needed.Reads as all-needed-reads
-use Rattle.search.proofs.tests.all_reached.Reads as all-reached-reads
+use Rattle.states.proofs.carried.in_time.Reads as in-time-reads
+use Rattle.states.proofs.missing.suffices.Reads as suffices-reads
+use Rattle.states.proofs.moves.back.Reads as back-reads
+use Rattle.states.proofs.moves.start_of.Reads as start-of-reads
+use Rattle.states.proofs.moves.take.Reads as take-reads
+use Rattle.states.proofs.rules.candidates.Reads as candidates-reads
+use Rattle.states.proofs.rules.pick.Reads as pick-reads
+use Rattle.states.proofs.tests.all_needed.Reads as all-needed-reads
+use Rattle.states.proofs.tests.all_reached.Reads as all-reached-reads
 use Rattle.search.proofs.regress.+attempt+choose+regress.{statement}
 use Rattle.search.proofs.regress.+attempt+choose+regress.Tie.{close}
 
