@@ -98,13 +98,5 @@ pub fn regress(
     if !missing::suffices(sets, numbers, frame, st) {
         return leaf::nothing();
     }
-    choose(
-        sets,
-        numbers,
-        times,
-        file,
-        frame,
-        st,
-        18_446_744_073_709_551_615,
-    )
+    choose(sets, numbers, times, file, frame, st, facts::ALL)
 }

@@ -8,6 +8,7 @@ ghost use Rattle.states.specs.Amounts.{Sums, Added, Small, UsesNothing, 
 use crate::minute;
 use job::Job;
 use tables::Steps;
+use tables::layout::NumberTable;
 
 // What the chosen steps use: of each pool in the minute before and in the minute now, and of each store over all.
 pub struct Uses {
@@ -45,15 +46,25 @@ pub fn joined(numbers: &[u32], uses: Uses, t: u32, i: u8, start: u16) -> Uses
     requires { ⌜ (length (now numbers) ≡ 1156) × (i < 64) × (durationAt (now numbers) i ≤ 255) × Small 32 uses ⌝ }
     ensures { λ r. ⌜ JoinsUses (now (numbers .entry)) t i start uses r ⌝ }
 {
-    let at = i as usize * 9;
+    let at = i as usize * NumberTable::ROW;
     let from = minute::wide(start);
     let stop = minute::stop(numbers, i, start);
     let before = uses.before;
     let now = uses.now;
     let spent = uses.spent;
-    let more_before = plus(numbers, at + 1, (from < t) & (t <= stop), before);
-    let more_now = plus(numbers, at + 1, (from <= t) & (t < stop), now);
-    let more_spent = plus(numbers, at + 5, true, spent);
+    let more_before = plus(
+        numbers,
+        at + NumberTable::POOLS,
+        (from < t) & (t <= stop),
+        before,
+    );
+    let more_now = plus(
+        numbers,
+        at + NumberTable::POOLS,
+        (from <= t) & (t < stop),
+        now,
+    );
+    let more_spent = plus(numbers, at + NumberTable::STORES, true, spent);
     Uses {
         before: more_before,
         now: more_now,

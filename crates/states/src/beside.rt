@@ -7,6 +7,8 @@ use crate::amounts;
 use crate::minute;
 use crate::state::State;
 use tables::Frame;
+use tables::layout::NumberTable;
+use tables::layout::SetTable;
 
 // Whether action i, should it stop at the state's minute, may run beside the chosen step at place k. Where that step
 // stops after the start of action i and before the state's minute, both run in its last minute: they must not clash,
@@ -22,16 +24,22 @@ fn beside(sets: &[u64], numbers: &[u32], frame: Frame, st: State, i: u8, k: usiz
     if minute <= stop {
         return true;
     }
-    if stop + numbers[i as usize * 9] <= minute {
+    if stop + numbers[i as usize * NumberTable::ROW] <= minute {
         return true;
     }
-    if facts::has(sets[i as usize * 4 + 3], number) {
+    if facts::has(sets[i as usize * SetTable::ROW + SetTable::CLASHES], number) {
         return false;
     }
     let uses = amounts::look(numbers, frame.actions, steps, stop);
     let before = uses.before;
     let available = frame.available;
-    !amounts::exceeds(numbers, i as usize * 9 + 1, before, available, frame.pools)
+    !amounts::exceeds(
+        numbers,
+        i as usize * NumberTable::ROW + NumberTable::POOLS,
+        before,
+        available,
+        frame.pools,
+    )
 }
 
 // Whether action i may run beside each kept step; these are the first of the chosen ones.

@@ -10,6 +10,7 @@ use crate::moves;
 use crate::state::State;
 use earliest::set_time;
 use tables::Frame;
+use tables::layout::SetTable;
 
 // What the actions of a set add.
 fn adds_of(sets: &[u64], left: u64) -> u64
@@ -18,8 +19,8 @@ fn adds_of(sets: &[u64], left: u64) -> u64
 {
     let mut set: u64 = 0;
     let mut k = facts::next(left, 0);
-    while k < 64 {
-        set = facts::union(sets[k as usize * 4 + 1], set);
+    while k < facts::BITS {
+        set = facts::union(sets[k as usize * SetTable::ROW + SetTable::ADDS], set);
         k = facts::next(left, k + 1);
     }
     set
@@ -33,7 +34,7 @@ fn latest_start(numbers: &[u32], frame: Frame, st: State, left: u64, from: u16) 
 {
     let mut m = from;
     let mut k = facts::next(left, 0);
-    while k < 64 {
+    while k < facts::BITS {
         m = moves::later_start(m, moves::start_of(numbers, k, st.minute), st.minute);
         k = facts::next(left, k + 1);
     }

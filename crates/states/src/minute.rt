@@ -7,6 +7,8 @@ ghost use Rattle.timeline.specs.Step.{Step};
 ghost use Rattle.tables.specs.Tables.{durationAt, Known, Lent};
 ghost use Rattle.states.specs.Minutes.{MinuteOf, Is, JoinsStep, LooksAt};
 use tables::Steps;
+use tables::layout::NumberTable;
+use tables::layout::SetTable;
 
 // Sets of a minute: by their numbers the actions that run in the minute before and those that start now, and facts.
 pub struct Minute {
@@ -17,6 +19,9 @@ pub struct Minute {
     pub across: u64, // what the steps that run now need
     pub added: u64, // what the steps that stop now add
 }
+
+// A minute has 16 bits: it is one of so many numbers.
+pub const MINUTES: u32 = 65_536;
 
 // A minute of 16 bits as a number of 32.
 pub fn wide(minute: u16) -> u32
@@ -30,7 +35,7 @@ pub fn stop(numbers: &[u32], i: u8, start: u16) -> u32
     requires { ⌜ (i * 9 < length (now numbers)) × (durationAt (now numbers) i ≤ 255) ⌝ }
     ensures { λ r. ⌜ (r ≡ start + durationAt (now (numbers .entry)) i) × (r ≤ 65790) ⌝ }
 {
-    wide(start) + numbers[i as usize * 9]
+    wide(start) + numbers[i as usize * NumberTable::ROW]
 }
 
 // The sets of the minute with one step more.
@@ -59,7 +64,7 @@ pub fn joined(sets: &[u64], numbers: &[u32], m: Minute, t: u32, i: u8, start: u1
         × (durationAt (now numbers) i ≤ 255) ⌝ }
     ensures { λ r. ⌜ JoinsStep (now (sets .entry)) (now (numbers .entry)) t i start m r ⌝ }
 {
-    let at = i as usize * 4;
+    let at = i as usize * SetTable::ROW;
     with_step(
         m,
         t,
@@ -67,7 +72,7 @@ pub fn joined(sets: &[u64], numbers: &[u32], m: Minute, t: u32, i: u8, start: u1
         wide(start),
         stop(numbers, i, start),
         sets[at],
-        sets[at + 1],
+        sets[at + SetTable::ADDS],
     )
 }
 

@@ -10,17 +10,23 @@ ghost use Rattle.tables.specs.Tables.{Numbers, Known};
 use crate::minute;
 use crate::pool_minutes;
 use crate::state::State;
+use job::Job;
 use landmarks::cliques;
 use landmarks::marks;
 use landmarks::shares;
 use tables::Frame;
+use tables::layout::NumberTable;
+
+// A row of shares has one for each fact.
+const SHARE_ROW: usize = Job::FACTS as usize;
 
 // Whether the row's shares of a set, and what is used besides, are at most so much.
 fn fits(numbers: &[u32], row: usize, missing: u64, used: u64, most: u64) -> bool
     requires { ⌜ (length (now numbers) ≡ 1156) × (row < 8) × (used ≤ 2 ^ 46) × (most ≤ 2 ^ 48) ⌝ }
     ensures { λ r. ⌜ r ≡ fits (now (numbers .entry)) row missing used most ⌝ }
 {
-    shares::sum(numbers, 576 + row * 64, missing) + 2520 * used <= 2520 * most
+    shares::sum(numbers, NumberTable::SHARES + row * SHARE_ROW, missing) + shares::SCALE * used
+        <= shares::SCALE * most
 }
 
 // Whether the stores have enough left for what is missing.
@@ -58,7 +64,7 @@ fn pools_suffice(numbers: &[u32], frame: Frame, st: State, missing: u64) -> bool
         let from = pool_minutes::opening(numbers, k, frame.origin);
         let used = pool_minutes::used(numbers, frame.actions, steps, k, from, t);
         let most = pool_minutes::supply(available[k], from, t);
-        if !fits(numbers, 4 + k, missing, used, most) {
+        if !fits(numbers, Job::STORES + k, missing, used, most) {
             return false;
         }
         k += 1;

@@ -10,14 +10,16 @@ use crate::minute;
 use crate::state::State;
 use tables::Frame;
 use tables::Steps;
+use tables::layout::NumberTable;
+use tables::layout::SetTable;
 
 // When action i starts that stops then.
 pub fn start_of(numbers: &[u32], i: u8, stop: u16) -> u16
     requires { ⌜ (length (now numbers) ≡ 1156) × (i < 64) × (durationAt (now numbers) i ≤ stop) ⌝ }
     ensures { λ r. ⌜ r ≡ stop - durationAt (now (numbers .entry)) i ⌝ }
 {
-    let start = minute::wide(stop) - numbers[i as usize * 9];
-    (start % 65_536) as u16
+    let start = minute::wide(stop) - numbers[i as usize * NumberTable::ROW];
+    (start % minute::MINUTES) as u16
 }
 
 // The state with action i stopping at its minute.
@@ -29,7 +31,10 @@ pub fn take(sets: &[u64], numbers: &[u32], st: State, i: u8) -> State
     let start = start_of(numbers, i, st.minute);
     let minute = minute::wide(st.minute);
     let steps = st.steps;
-    let again = facts::common(st.at.added, sets[i as usize * 4 + 1]);
+    let again = facts::common(
+        st.at.added,
+        sets[i as usize * SetTable::ROW + SetTable::ADDS],
+    );
     State {
         steps: steps.push(i, start),
         minute: st.minute,
@@ -76,7 +81,10 @@ fn gone_of(sets: &[u64], numbers: &[u32], i: u8, start: u16, s: u32, t: u32) -> 
     ensures { λ r. ⌜ GoneOf (now (sets .entry)) (now (numbers .entry)) i start s t r ⌝ }
 {
     let stop = minute::stop(numbers, i, start);
-    facts::when((s < stop) & (stop <= t), sets[i as usize * 4 + 1])
+    facts::when(
+        (s < stop) & (stop <= t),
+        sets[i as usize * SetTable::ROW + SetTable::ADDS],
+    )
 }
 
 // What the chosen steps add that stop after minute s and by minute t.

@@ -9,13 +9,14 @@ ghost use Rattle.states.specs.Missing.{UsedBefore};
 use crate::minute;
 use landmarks::shares;
 use tables::Steps;
+use tables::layout::NumberTable;
 
 // The minute at which a pool opens, where the table counts from the origin.
 pub fn opening(numbers: &[u32], pool: usize, origin: u16) -> u64
     requires { ⌜ (length (now numbers) ≡ 1156) × (pool < 4) ⌝ }
     ensures { λ r. ⌜ r ≡ openAt (now (numbers .entry)) pool + origin ⌝ }
 {
-    shares::wide(numbers[1088 + pool]) + shares::wide(minute::wide(origin))
+    shares::wide(numbers[NumberTable::OPENINGS + pool]) + shares::wide(minute::wide(origin))
 }
 
 // The minutes from one minute up to another, none where that is earlier.
@@ -66,7 +67,7 @@ fn used_by(numbers: &[u32], i: u8, start: u16, pool: usize, from: u64, t: u64) -
     let begin = shares::wide(minute::wide(start));
     let stop = shares::wide(minute::stop(numbers, i, start));
     let minutes = minutes_in(from, t, begin, stop);
-    shares::wide(numbers[i as usize * 9 + 1 + pool]) * minutes
+    shares::wide(numbers[i as usize * NumberTable::ROW + NumberTable::POOLS + pool]) * minutes
 }
 
 // What the chosen steps use of the pool from a minute on and before t.

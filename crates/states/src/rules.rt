@@ -12,6 +12,9 @@ use crate::beside;
 use crate::minute;
 use crate::state::State;
 use tables::Frame;
+use tables::layout::NumberTable;
+use tables::layout::SetTable;
+use timeline::Plan;
 
 // Whether the sets of action i allow it to stop now: it adds a wanted fact that no other step provides, deletes none,
 // and clashes with no step that runs in the minute before.
@@ -19,18 +22,21 @@ fn sets_allow(sets: &[u64], st: State, i: u8) -> bool
     requires { ⌜ (length (now sets) ≡ 384) × (i < 64) ⌝ }
     ensures { λ r. ⌜ SetsAllow (now (sets .entry)) st i r ⌝ }
 {
-    let at = i as usize * 4;
-    if !facts::meets(sets[at + 1], st.wanted) {
+    let at = i as usize * SetTable::ROW;
+    if !facts::meets(sets[at + SetTable::ADDS], st.wanted) {
         return false;
     }
-    if facts::meets(sets[at + 3], st.at.running) {
+    if facts::meets(sets[at + SetTable::CLASHES], st.at.running) {
         return false;
     }
     let provided = facts::union(facts::union(st.at.held, st.at.added), sets[at]);
-    if !facts::meets(facts::difference(sets[at + 1], provided), st.wanted) {
+    if !facts::meets(
+        facts::difference(sets[at + SetTable::ADDS], provided),
+        st.wanted,
+    ) {
         return false;
     }
-    !facts::meets(sets[at + 2], st.wanted)
+    !facts::meets(sets[at + SetTable::DELETES], st.wanted)
 }
 
 // Whether the step of action i that stops at the state's minute is new: it starts after the first free minute, or at it
@@ -52,19 +58,25 @@ fn movable(sets: &[u64], numbers: &[u32], frame: Frame, st: State, i: u8) -> boo
     requires { ⌜ Safe (now sets) (now numbers) frame st × (i < frame .actions) ⌝ }
     ensures { λ r. ⌜ (r ≡ true → BarredBy (now (sets .entry)) (now (numbers .entry)) frame st i) ⌝ }
 {
-    let at = i as usize * 4;
+    let at = i as usize * SetTable::ROW;
     if frame.horizon <= st.minute {
         return false;
     }
-    if facts::meets(sets[at + 1], st.at.needed) {
+    if facts::meets(sets[at + SetTable::ADDS], st.at.needed) {
         return false;
     }
-    if facts::meets(sets[at + 3], st.at.starting) {
+    if facts::meets(sets[at + SetTable::CLASHES], st.at.starting) {
         return false;
     }
     let sums = st.uses.now;
     let available = frame.available;
-    !amounts::exceeds(numbers, i as usize * 9 + 1, sums, available, frame.pools)
+    !amounts::exceeds(
+        numbers,
+        i as usize * NumberTable::ROW + NumberTable::POOLS,
+        sums,
+        available,
+        frame.pools,
+    )
 }
 
 // Whether action i leaves the pools and stores enough.
@@ -72,15 +84,27 @@ fn affordable(sets: &[u64], numbers: &[u32], frame: Frame, st: State, i: u8) -> 
     requires { ⌜ Safe (now sets) (now numbers) frame st × (i < frame .actions) × (0 < st .minute) ⌝ }
     ensures { λ r. ⌜ (r ≡ false → BarredBy (now (sets .entry)) (now (numbers .entry)) frame st i) ⌝ }
 {
-    let at = i as usize * 9;
+    let at = i as usize * NumberTable::ROW;
     let before = st.uses.before;
     let available = frame.available;
-    if amounts::exceeds(numbers, at + 1, before, available, frame.pools) {
+    if amounts::exceeds(
+        numbers,
+        at + NumberTable::POOLS,
+        before,
+        available,
+        frame.pools,
+    ) {
         return false;
     }
     let spent = st.uses.spent;
     let stocks = frame.stocks;
-    !amounts::exceeds(numbers, at + 5, spent, stocks, frame.stores)
+    !amounts::exceeds(
+        numbers,
+        at + NumberTable::STORES,
+        spent,
+        stocks,
+        frame.stores,
+    )
 }
 
 // Whether action i may stop at the state's minute.
@@ -91,7 +115,7 @@ fn may_stop(sets: &[u64], numbers: &[u32], frame: Frame, st: State, i: u8) -> bo
     if !sets_allow(sets, st, i) {
         return false;
     }
-    if 32 <= st.steps.count {
+    if Plan::STEPS <= st.steps.count {
         return false;
     }
     if !new_step(numbers, frame, st, i) {
@@ -127,7 +151,7 @@ pub fn candidates(sets: &[u64], numbers: &[u32], frame: Frame, st: State, undeci
 {
     let mut found: u64 = 0;
     let mut k = facts::next(undecided, 0);
-    while k < 64 {
+    while k < facts::BITS {
         found = with_candidate(sets, numbers, frame, st, k, found);
         k = facts::next(undecided, k + 1);
     }
@@ -139,7 +163,7 @@ fn longer(numbers: &[u32], i: u8, k: u8) -> u8
     requires { ⌜ (length (now numbers) ≡ 1156) × (i < 64) × (k < 64) ⌝ }
     ensures { λ r. ⌜ (r ≡ i) ⊎ (r ≡ k) ⌝ }
 {
-    if numbers[k as usize * 9] < numbers[i as usize * 9] {
+    if numbers[k as usize * NumberTable::ROW] < numbers[i as usize * NumberTable::ROW] {
         return i;
     }
     k
@@ -153,7 +177,7 @@ pub fn pick(numbers: &[u32], left: u64) -> u8
 {
     let mut longest = facts::next(left, 0);
     let mut k = longest;
-    while k < 64 {
+    while k < facts::BITS {
         longest = longer(numbers, longest, k);
         k = facts::next(left, k + 1);
     }

@@ -11,6 +11,7 @@ use crate::state::State;
 use earliest::set_time;
 use tables::Frame;
 use tables::Steps;
+use tables::layout::SetTable;
 
 // Whether action i adds a wanted fact that is not provided.
 fn adds_alone(sets: &[u64], i: u8, provided: u64, wanted: u64) -> bool
@@ -18,7 +19,7 @@ fn adds_alone(sets: &[u64], i: u8, provided: u64, wanted: u64) -> bool
     ensures { λ r. ⌜ r ≡ meets (difference (addsAt (now (sets .entry)) i) provided) wanted ⌝ }
 {
     facts::meets(
-        facts::difference(sets[i as usize * 4 + 1], provided),
+        facts::difference(sets[i as usize * SetTable::ROW + SetTable::ADDS], provided),
         wanted,
     )
 }
@@ -49,7 +50,7 @@ fn need_of(sets: &[u64], numbers: &[u32], i: u8, start: u16, t: u32) -> u64
 {
     let from = minute::wide(start);
     let stop = minute::stop(numbers, i, start);
-    facts::when((from <= t) & (t < stop), sets[i as usize * 4])
+    facts::when((from <= t) & (t < stop), sets[i as usize * SetTable::ROW])
 }
 
 // What the chosen steps need that run in minute t.
