@@ -1,3 +1,4 @@
+mod Measure
 mod Completeness
 mod Steps
 mod StepsBefore
