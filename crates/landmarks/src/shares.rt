@@ -11,7 +11,7 @@ ghost use Rattle.landmarks.specs.Tables.{KeptBefore, PutFrom, shareFrom,
 ghost use Rattle.landmarks.specs.Tables.{WithinAt, Within, WithinAll};
 
 // Parts of a unit: a share of one unit among up to ten facts is a whole number of them.
-const SCALE: u64 = 2520;
+pub const SCALE: u64 = 2520;
 
 // A number of 32 bits as one of 64.
 pub fn wide(number: u32) -> u64

@@ -26,11 +26,10 @@ use Rattle.regression.proofs.Decisions.{dead-when-barred, dead-when-none-decide
 use Rattle.regression.proofs.Minutes.{no-event, dead-back-to-event}
 use Rattle.tables.specs.Tables.{chosen, fromOf}
 use Rattle.tables.specs.declared.Frame.{Frame}
-use Rattle.search.specs.declared.state.State.{State}
-use Rattle.search.specs.States.{DeadFor, Barred, nextStep}
-use Rattle.search.specs.Moves.{NoStartBetween}
-use Rattle.search.specs.Search.{OpenIn}
-use Rattle.search.proofs.Chosen.{place-of-chosen}
+use Rattle.states.specs.declared.state.State.{State}
+use Rattle.states.specs.States.{DeadFor, Barred, nextStep, OpenIn}
+use Rattle.states.specs.Moves.{NoStartBetween}
+use Rattle.states.proofs.Chosen.{place-of-chosen}
 
 -- the set of all ones has every fact below 64
 in-all-facts : (n : ℕ) → n < 64 → has 18446744073709551615 n ≡ true

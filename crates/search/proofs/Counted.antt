@@ -29,7 +29,7 @@ use Rattle.leaf.proofs.InOrder.{in-order-permutes}
 use Rattle.leaf.specs.declared.Answer.{Answer}
 use Rattle.leaf.specs.Answer.{FileOf, Finishes, bytesIn}
 use Rattle.search.specs.Search.{stepsBefore, CountsFor, FoundFor}
-use Rattle.search.proofs.Chosen.{chosen-splits, since-new}
+use Rattle.states.proofs.Chosen.{chosen-splits, since-new}
 use Rattle.search.proofs.StepsBefore.{rising-splits, before-are-kept, before-minute-begun}
 
 place-behind : (x : Step) (N K : List Step) → Place x (N ++ K) (N ++ (x ∷ K))

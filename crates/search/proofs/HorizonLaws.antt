@@ -23,13 +23,13 @@ use Rattle.tables.specs.declared.Frame.{Frame}
 use Rattle.tables.specs.declared.Steps.{Steps}
 use Rattle.leaf.specs.declared.Answer.{Answer}
 use Rattle.leaf.specs.Answer.{Finishes}
-use Rattle.search.specs.declared.minute.Minute.{Minute}
-use Rattle.search.specs.declared.state.State.{State}
-use Rattle.search.specs.declared.amounts.Uses.{Uses}
-use Rattle.search.specs.Minutes.{LooksAt}
-use Rattle.search.specs.Amounts.{LooksUses}
-use Rattle.search.specs.States.{Stands, DeadFor}
-use Rattle.search.specs.Missing.{Fresh}
+use Rattle.states.specs.declared.minute.Minute.{Minute}
+use Rattle.states.specs.declared.state.State.{State}
+use Rattle.states.specs.declared.amounts.Uses.{Uses}
+use Rattle.states.specs.Minutes.{LooksAt}
+use Rattle.states.specs.Amounts.{LooksUses}
+use Rattle.states.specs.States.{Stands, DeadFor}
+use Rattle.states.specs.Missing.{Fresh}
 use Rattle.search.specs.Search.{Ready, Answered, NoneFrom}
 use Rattle.search.specs.Horizons.{Whole, Solves, NoneBy}
 use Rattle.search.proofs.Counted.{split-of-counted, found-when-finished}

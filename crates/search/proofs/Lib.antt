@@ -1,16 +1,7 @@
-mod Looks
-mod AmountLaws
-pub mod Chosen
-mod BarredActions
-mod BesideLaws
-mod StateLaws
-mod StateTests
-mod MissingLaws
-mod CarriedLaws
-mod CandidateLaws
+mod Measure
 mod Completeness
 mod Steps
-pub mod StepsBefore
+mod StepsBefore
 pub mod Counted
 mod HorizonLaws
 mod HorizonBounds

@@ -15,14 +15,14 @@ use Rattle.tables.specs.declared.Frame.{Frame}
 use Rattle.tables.specs.declared.Steps.{Steps}
 use Rattle.leaf.specs.declared.Answer.{Answer}
 use Rattle.leaf.specs.Answer.{Finishes}
-use Rattle.search.specs.declared.state.State.{State}
-use Rattle.search.specs.States.{Stands, DeadFor, nextStep, MayStop}
-use Rattle.search.specs.Moves.{Taken, Back, NoStartBetween}
-use Rattle.search.specs.Missing.{Fresh}
-use Rattle.search.specs.Search.{TaskOf, Ready, OpenIn}
-use Rattle.search.proofs.Chosen.{known-pushed, keeps-pushed, starts-pushed}
-use Rattle.search.proofs.StateLaws.{fits-in-time, new-when-fits, chosen-taken, taken-stands}
-use Rattle.search.proofs.StateLaws.{back-stands}
+use Rattle.states.specs.declared.state.State.{State}
+use Rattle.states.specs.States.{Stands, DeadFor, nextStep, MayStop, OpenIn}
+use Rattle.states.specs.Moves.{Taken, Back, NoStartBetween}
+use Rattle.states.specs.Missing.{Fresh}
+use Rattle.search.specs.Search.{TaskOf, Ready}
+use Rattle.states.proofs.Chosen.{known-pushed, keeps-pushed, starts-pushed}
+use Rattle.states.proofs.StateLaws.{fits-in-time, new-when-fits, chosen-taken, taken-stands}
+use Rattle.states.proofs.StateLaws.{back-stands}
 use Rattle.search.proofs.Completeness.{dead-back}
 
 -- an action that may stop at the state's minute starts at the first free minute or later

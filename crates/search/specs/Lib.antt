@@ -1,9 +1,2 @@
-pub mod Minutes
-pub mod Amounts
-pub mod States
-pub mod Moves
-pub mod Timed
-pub mod Missing
 pub mod Search
-pub mod Carried
 pub mod Horizons

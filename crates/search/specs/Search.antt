@@ -2,15 +2,14 @@
 -- Assumes nothing.
 use Prim.Native.Nat.{ℕ, _≤_, _<_}
 use mathlib.Core.Path.{_≡_}
-use mathlib.Core.Bool.{true, false, cond, not}
+use mathlib.Core.Bool.{true, false, cond}
 use mathlib.Core.List.{List, [], _∷_, _++_}
 use lib.ListN.{length, getD}
-use Rattle.facts.specs.FactSet.{has, foreign}
+use Rattle.facts.specs.FactSet.{foreign}
 use Rattle.job.specs.Job.{Job}
 use Rattle.timeline.specs.Step.{Step, stepsIn}
 use Rattle.timeline.specs.From.{From, IsNew, isKept}
 use Rattle.landmarks.specs.Bounds.{TimesBound}
-use Rattle.regression.specs.DeadEnd.{Open}
 use Rattle.tables.specs.Tables.{Describes, Known, keptOf, fromOf, KeepsKept}
 use Rattle.tables.specs.declared.Frame.{Frame}
 use Rattle.leaf.specs.declared.Answer.{Answer}
@@ -18,9 +17,9 @@ use Rattle.timeline.proofs.Places.{EachStep}
 use Rattle.timeline.proofs.Permutations.{Permutation}
 use Rattle.leaf.specs.Answer.{FileOf, Found, bytesIn}
 use Rattle.leaf.specs.Order.{inOrder}
-use Rattle.search.specs.declared.state.State.{State}
-use Rattle.search.specs.Missing.{Marked}
-use Rattle.search.specs.States.{Stands, Safe, DeadFor}
+use Rattle.states.specs.declared.state.State.{State}
+use Rattle.states.specs.Missing.{Marked}
+use Rattle.states.specs.States.{Stands, Safe, DeadFor}
 
 -- the steps of a plan before a place
 abbrev pub stepsBefore : From → List Step → List Step
@@ -50,10 +49,6 @@ pub record Ready (sets numbers times : List ℕ) (frame : Frame) (st : State) : 
   pub starts : (k : ℕ) → k < st .steps .count → getD (st .steps .starts) k 0 < 65536
   pub keptKnown : Known (frame .actions) (frame .kept)
   pub origin : frame .origin ≤ frame .first
-
--- the actions of the set are not decided at the minute
-abbrev pub OpenIn : Frame → State → ℕ → Step → Type 0
-OpenIn frame st left = Open (fromOf frame) (st .minute) (λ a. not (has left a))
 
 -- the plan found is accepted, and has the kept steps and else new ones
 pub record FoundFor (J : Job) (frame : Frame) (r : Answer) : Type 0 where

@@ -4,8 +4,8 @@ ghost use mathlib.Core.Path.{_≡_};
 ghost use Prim.Native.Nat.{ℕ, _+_, _≤_};
 ghost use lib.ListN.{length};
 ghost use Rattle.search.specs.Horizons.{Raised};
-use crate::minute;
 use earliest::set_time;
+use states::minute;
 use tables::Frame;
 
 // A minute before which no plan ends, where none ends by the first free minute: the one after that, or the earliest

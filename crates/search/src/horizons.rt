@@ -4,12 +4,12 @@ ghost use mathlib.Core.Bool.{true};
 ghost use Prim.Native.Nat.{_≤_, _<_, min};
 ghost use Rattle.search.specs.Horizons.{until, Whole, Solves, Rises, Narrows, Descends};
 ghost use Rattle.search.specs.Horizons.{ShortestFrom, Shortest};
-use crate::amounts;
 use crate::bounds;
-use crate::minute;
 use crate::regress;
-use crate::state::State;
 use leaf::Answer;
+use states::amounts;
+use states::minute;
+use states::state::State;
 use tables::Frame;
 
 // The frame for another horizon.
@@ -63,12 +63,15 @@ fn next_horizon(horizon: u16, stride: u16, last: u16) -> u16
     horizon + stride
 }
 
-// Twice the stride, up to 1,024.
+// The longest stride, in minutes: the last power of two before the latest deadline.
+const LONGEST_STRIDE: u16 = 1_024;
+
+// Twice the stride, up to the longest.
 fn longer(stride: u16) -> u16
     requires { ⌜ 1 ≤ stride ⌝ }
     ensures { λ r. ⌜ 1 ≤ r ⌝ }
 {
-    if 1_024 <= stride {
+    if LONGEST_STRIDE <= stride {
         return stride;
     }
     stride * 2
@@ -119,7 +122,7 @@ fn halve(
         frame low best r ⌝ }
 {
     let middle = low + (best.end - low) / 2;
-    let horizon = (middle % 65_536) as u16;
+    let horizon = (middle % minute::MINUTES) as u16;
     let answer = solve(sets, numbers, times, file, until(frame, horizon));
     let found = answer.found;
     if !found {
@@ -220,5 +223,12 @@ pub fn shortest(sets: &[u64], numbers: &[u32], times: &[u32], file: &[u8], frame
     if minute::wide(frame.horizon) < low {
         return leaf::nothing();
     }
-    shortest_from(sets, numbers, times, file, frame, (low % 65_536) as u16)
+    shortest_from(
+        sets,
+        numbers,
+        times,
+        file,
+        frame,
+        (low % minute::MINUTES) as u16,
+    )
 }

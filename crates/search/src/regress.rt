@@ -4,16 +4,16 @@ ghost use mathlib.Core.List.{_∷_};
 ghost use Prim.Native.Nat.{_<_};
 ghost use Rattle.regression.specs.DeadEnd.{Until};
 ghost use Rattle.tables.specs.Tables.{chosen, fromOf};
-ghost use Rattle.search.specs.States.{nextStep, MayStop};
-ghost use Rattle.search.specs.Missing.{Fresh};
-ghost use Rattle.search.specs.Search.{Ready, OpenIn, Answered, NoneFrom};
-use crate::carried;
-use crate::missing;
-use crate::moves;
-use crate::rules;
-use crate::state::State;
-use crate::tests;
+ghost use Rattle.states.specs.States.{nextStep, MayStop, OpenIn};
+ghost use Rattle.states.specs.Missing.{Fresh};
+ghost use Rattle.search.specs.Search.{Ready, Answered, NoneFrom};
 use leaf::Answer;
+use states::carried;
+use states::missing;
+use states::moves;
+use states::rules;
+use states::state::State;
+use states::tests;
 use tables::Frame;
 
 // With action i stopping at the state's minute, and the actions of `left` not decided.
@@ -98,13 +98,5 @@ pub fn regress(
     if !missing::suffices(sets, numbers, frame, st) {
         return leaf::nothing();
     }
-    choose(
-        sets,
-        numbers,
-        times,
-        file,
-        frame,
-        st,
-        18_446_744_073_709_551_615,
-    )
+    choose(sets, numbers, times, file, frame, st, facts::ALL)
 }

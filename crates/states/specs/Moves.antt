@@ -1,0 +1,83 @@
+-- From one state of the search to the next.
+-- Assumes nothing.
+use Prim.Native.Nat.{ℕ, _-_, _<_}
+use mathlib.Core.Path.{_≡_}
+use mathlib.Core.Bool.{Bool, false, cond, _&&_, _||_}
+use mathlib.Core.List.{List}
+use lib.Dec.{leb, ltb}
+use lib.ListN.{getD}
+use Rattle.facts.specs.FactSet.{has, union, difference}
+use Rattle.job.specs.Job.{Job}
+use Rattle.timeline.specs.Step.{stepOf}
+use Rattle.regression.specs.Wanted.{addedBetween}
+use Rattle.regression.specs.Tests.{runningNeeds}
+use Rattle.tables.specs.Tables.{DescribesAction, Known, addsAt, durationAt, chosen, pushed, DescribesEach}
+use Rattle.tables.specs.declared.Frame.{Frame}
+use Rattle.tables.specs.declared.Steps.{Steps}
+use Rattle.states.specs.declared.state.State.{State}
+use Rattle.states.specs.Minutes.{JoinsStep, LooksAt}
+use Rattle.states.specs.Amounts.{JoinsUses, LooksUses}
+use Rattle.states.specs.States.{DeadBy}
+
+-- ---- an action stops at the state's minute
+
+-- when it starts
+abbrev pub startOf : List ℕ → State → ℕ → ℕ
+startOf numbers st i = st .minute - durationAt numbers i
+
+-- r is the state with action i stopping at its minute
+pub record Taken (sets numbers : List ℕ) (st : State) (i : ℕ) (r : State) : Type 0 where
+  pub steps : r .steps ≡ pushed (st .steps) i (startOf numbers st i)
+  pub minute : r .minute ≡ st .minute
+  pub wanted : r .wanted ≡ st .wanted
+  pub at : JoinsStep sets numbers (st .minute) i (startOf numbers st i) (st .at) (r .at)
+  pub uses : JoinsUses numbers (st .minute) i (startOf numbers st i) (st .uses) (r .uses)
+  pub twice : (n : ℕ) → has (r .twice) n ≡ (has (st .twice) n || (has (st .at .added) n && has (addsAt sets i) n))
+  pub since : r .since ≡ st .since
+
+-- a state of which the test is false is a dead end
+abbrev pub DeadUnless : List ℕ → State → Bool → Type 0
+DeadUnless sets st test =
+    test ≡ false → (numbers : List ℕ) (frame : Frame) → Known (frame .actions) (st .steps)
+    → DeadBy sets numbers frame st
+
+-- ---- back to the event minute before
+
+-- no chosen step starts after minute s and before minute t
+abbrev pub NoStartBetween : Steps → ℕ → ℕ → Type 0
+NoStartBetween steps s t =
+    (k : ℕ) → k < steps .count → s < getD (steps .starts) k 0 → getD (steps .starts) k 0 < t → ⊥
+
+-- what a step of action i adds, if it stops after minute s and by minute t
+abbrev pub GoneOf : List ℕ → List ℕ → ℕ → ℕ → ℕ → ℕ → ℕ → Type 0
+GoneOf sets numbers i start s t set =
+    (J : Job) → DescribesAction J sets numbers i
+    → set ≡ cond (ltb s (stepOf J i start .stop) && leb (stepOf J i start .stop) t) (stepOf J i start .action .adds) 0
+
+-- what the chosen steps add that stop after minute s and by minute t
+abbrev pub Gone : List ℕ → List ℕ → ℕ → Steps → ℕ → ℕ → ℕ → Type 0
+Gone sets numbers actions steps s t set =
+    (J : Job) → DescribesEach J sets numbers actions → set ≡ addedBetween s t (chosen J steps)
+
+-- r is the state at minute s
+pub record Back (sets numbers : List ℕ) (actions s : ℕ) (st r : State) : Type 0 where
+  pub steps : r .steps ≡ st .steps
+  pub minute : r .minute ≡ s
+  pub gone : ℕ
+  pub isGone : Gone sets numbers actions (st .steps) s (st .minute) gone
+  pub wanted : r .wanted ≡ union (difference (st .wanted) gone) (r .at .needed)
+  pub at : LooksAt sets numbers actions (st .steps) s (r .at)
+  pub uses : LooksUses numbers actions (st .steps) s (r .uses)
+  pub twice : r .twice ≡ 0
+  pub since : r .since ≡ st .steps .count
+
+-- ---- needs of running steps
+
+abbrev pub NeedOf : List ℕ → List ℕ → ℕ → ℕ → ℕ → ℕ → Type 0
+NeedOf sets numbers i start t set =
+    (J : Job) → DescribesAction J sets numbers i
+    → set ≡ cond (leb (stepOf J i start .start) t && ltb t (stepOf J i start .stop)) (stepOf J i start .action .needs) 0
+
+abbrev pub NeedsAt : List ℕ → List ℕ → ℕ → Steps → ℕ → ℕ → Type 0
+NeedsAt sets numbers actions steps t set =
+    (J : Job) → DescribesEach J sets numbers actions → set ≡ runningNeeds t (chosen J steps)
