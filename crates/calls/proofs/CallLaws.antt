@@ -11,11 +11,10 @@ use Rattle.job.specs.declared.refusal.Verdict.the-variants.{Pass, Refused}
 use Rattle.jobfile.specs.declared.Reading.{Reading}
 use Rattle.jobfile.specs.declared.Written.{Written}
 use Rattle.jobfile.specs.Answers.{readFile, writeFile, leftByWrite}
-use Rattle.checker.specs.declared.Checked.{Checked}
 use Rattle.checker.specs.Check.{checkPlan}
 use Rattle.earliest.specs.declared.EarliestTime.{EarliestTime}
 use Rattle.earliest.specs.Answer.{Answers}
-use Rattle.planner.specs.declared.Planned.{Planned}
+use Rattle.timeline.specs.declared.Day.{Day}
 use Rattle.planner.specs.Plan.{Plans}
 use Rattle.calls.specs.Answer.{done, refusal, writtenNumber, checkedNumber, timeNumber, plannedNumber}
 use Rattle.calls.specs.Calls.{jobOf, unlessRefused, keptIfRefused, EarliestBy, PlanBy}
@@ -52,7 +51,7 @@ module _ (file : List ℕ) (reading : Reading) (same : reading ≡ readFile file
     pub read-accepted : done (length file) 0 ≡ readAnswer file
     read-accepted = file-accepted (done (length file) 0)
 
-    pub check-accepted : (plan : List ℕ) (answer : Checked) → answer ≡ checkPlan (jobIn (reading .job)) plan
+    pub check-accepted : (plan : List ℕ) (answer : Day) → answer ≡ checkPlan (jobIn (reading .job)) plan
         → checkedNumber answer ≡ checkAnswer file plan
     check-accepted plan answer told =
         ap checkedNumber told
@@ -79,7 +78,7 @@ module _ (file : List ℕ) (reading : Reading) (same : reading ≡ readFile file
         subst (λ (v : Verdict). EarliestBy v (jobOf file) set r) (sym accepted)
         (answer, subst (λ (x : Reading). Answers (jobIn (x .job)) set answer) same told, number)
 
-    pub plan-accepted : (slice after : List ℕ) (answer : Planned) (r : ℕ)
+    pub plan-accepted : (slice after : List ℕ) (answer : Day) (r : ℕ)
         → Plans (jobIn (reading .job)) slice answer after → r ≡ plannedNumber answer → PlanAnswers file slice r after
     plan-accepted slice after answer r told number =
         subst (λ (v : Verdict). PlanBy v (jobOf file) slice r after) (sym accepted)

@@ -1,7 +1,7 @@
 -- Every number that a call packs fits its bits: files are short, plans have few steps.
 -- Assumes nothing.
 use Prim.Native.Nat.{ℕ, _≤_}
-use mathlib.Core.Path.{_≡_, refl, sym, _∙_}
+use mathlib.Core.Path.{_≡_, refl, sym, ap, _∙_}
 use mathlib.Core.List.{List}
 use native.Mathlib.Nat.{mul-le-mul}
 use native.Mathlib.Omega.{arith}
@@ -13,6 +13,8 @@ use Rattle.job.specs.Job.{Job, jobIn}
 use Rattle.job.specs.Refusal.{first}
 use Rattle.job.specs.Valid.{over, jobRows}
 use Rattle.job.specs.declared.Job as held
+use Rattle.job.specs.declared.refusal.Refusal.{Refusal}
+use Rattle.job.specs.declared.refusal.Refusal.the-variants.{NoPlan}
 use Rattle.job.specs.declared.refusal.Verdict.{Verdict}
 use Rattle.job.specs.declared.refusal.Verdict.the-variants.{Pass, Refused}
 use Rattle.job.proofs.Passed.{Passed, passed}
@@ -23,10 +25,12 @@ use Rattle.jobfile.specs.declared.Written.the-variants as written
 use Rattle.jobfile.specs.File.{fileOf, decoded, fileRows, actionSize}
 use Rattle.jobfile.specs.Answers.{readRows, readingOf, readFile, writeRows, writtenOf, writeFile}
 use Rattle.jobfile.proofs.Lengths.{length-file}
-use Rattle.planner.specs.declared.Planned.{Planned}
-use Rattle.planner.specs.Plan.{Plans}
-use Rattle.planner.proofs.Shortest.{plan-is-shortest}
-use Rattle.calls.specs.Answer.{ShortFile, FewSteps}
+use Rattle.timeline.specs.declared.Day.{Day}
+use Rattle.timeline.specs.Day.{noDay}
+use Rattle.timeline.proofs.PlanBytes.{few-steps-of-accepted}
+use Rattle.makespan.specs.Makespan.{Makespan, endsAt, noPlan, makespan}
+use Rattle.planner.specs.Plan.{planRefusals, PlansFor, PlansBy, Plans}
+use Rattle.calls.specs.Answer.{ShortFile}
 
 verdict-read : (v : Verdict) (J : Job) → readingOf v J .verdict ≡ v
 verdict-read Pass J = refl
@@ -65,6 +69,21 @@ written-file-is-short job slice answer told n same =
     let size = w .1 in
     omega arith
 
-pub planned-steps-are-few : (J : Job) (slice : List ℕ) (answer : Planned) (after : List ℕ) → Plans J slice answer after
-    → FewSteps answer
-planned-steps-are-few J slice answer after plans e n same = plan-is-shortest J slice answer after plans e n same .1
+-- a plan that is handed out has at most 32 steps, and no plan has none
+pub planned-steps-are-few : (J : Job) (slice : List ℕ) (answer : Day) (after : List ℕ) → Plans J slice answer after
+    → answer .steps ≤ 32
+planned-steps-are-few J slice answer after plans = by-verdict (first (planRefusals J slice)) plans
+  where
+    none : (why : Refusal) → answer ≡ noDay why → answer .steps ≤ 32
+    none why told = let zero = ap (λ (d : Day). d .steps) told in omega arith
+
+    by-makespan : (m : Makespan) → PlansFor m J slice answer after → answer .steps ≤ 32
+    by-makespan (endsAt e) p =
+        let count = ap (λ (d : Day). d .steps) (p .answers) in
+        let few = few-steps-of-accepted J (J .goal) (p .bytes) (p .accepted) in
+        omega arith
+    by-makespan noPlan p = none NoPlan (p .answers)
+
+    by-verdict : (v : Verdict) → PlansBy v J slice answer after → answer .steps ≤ 32
+    by-verdict Pass p = by-makespan (makespan J (J .goal)) p
+    by-verdict (Refused why) p = none why (p .answers)

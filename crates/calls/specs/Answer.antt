@@ -4,14 +4,13 @@ use Prim.Native.Nat.{ℕ, _+_, _*_, _≤_}
 use mathlib.Core.Path.{_≡_}
 use Rattle.job.specs.Refusal.{number}
 use Rattle.job.specs.declared.refusal.Refusal.{Refusal}
+use Rattle.job.specs.declared.refusal.Verdict.{Verdict}
+use Rattle.job.specs.declared.refusal.Verdict.the-variants.{Pass, Refused}
 use Rattle.jobfile.specs.declared.Written.{Written}
 use Rattle.jobfile.specs.declared.Written.the-variants as written
-use Rattle.checker.specs.declared.Checked.{Checked}
-use Rattle.checker.specs.declared.Checked.the-variants as checked
+use Rattle.timeline.specs.declared.Day.{Day}
 use Rattle.earliest.specs.declared.EarliestTime.{EarliestTime}
 use Rattle.earliest.specs.declared.EarliestTime.the-variants as time
-use Rattle.planner.specs.declared.Planned.{Planned}
-use Rattle.planner.specs.declared.Planned.the-variants as planned
 
 -- the kind in bits 0 to 7, the refusal's number in 8 to 15, the end in 16 to 47, the number of steps in 48 to 63
 unfoldable pub packed : ℕ → ℕ → ℕ → ℕ → ℕ
@@ -34,10 +33,18 @@ abbrev pub writtenNumber : Written → ℕ
 writtenNumber (written.Length n) = done n 0
 writtenNumber (written.Refused why) = refusal why
 
+-- a day with so many steps told
+abbrev pub dayNumber : Verdict → ℕ → ℕ → ℕ
+dayNumber Pass end steps = done end steps
+dayNumber (Refused why) end steps = refusal why
+
 -- "the checker returns the end"
-abbrev pub checkedNumber : Checked → ℕ
-checkedNumber (checked.Ends e) = done e 0
-checkedNumber (checked.Refused why) = refusal why
+abbrev pub checkedNumber : Day → ℕ
+checkedNumber day = dayNumber (day .verdict) (day .end) 0
+
+-- "the planner returns the end and number of steps"
+abbrev pub plannedNumber : Day → ℕ
+plannedNumber day = dayNumber (day .verdict) (day .end) (day .steps)
 
 -- "a time is a number or 'unreachable'"
 abbrev pub timeNumber : EarliestTime → ℕ
@@ -45,17 +52,8 @@ timeNumber (time.At x) = done x 0
 timeNumber time.Unreachable = unreachable
 timeNumber (time.Refused why) = refusal why
 
--- "the planner returns the end and number of steps"
-abbrev pub plannedNumber : Planned → ℕ
-plannedNumber (planned.Ends e n) = done e n
-plannedNumber (planned.Refused why) = refusal why
-
 -- ---- what inner functions ask: the numbers fit their bits
 
 -- a file has at most 4,096 bytes
 abbrev pub ShortFile : Written → Type 0
 ShortFile answer = (n : ℕ) → answer ≡ written.Length n → n ≤ 4096
-
--- a plan has at most 32 steps
-abbrev pub FewSteps : Planned → Type 0
-FewSteps answer = (e n : ℕ) → answer ≡ planned.Ends e n → n ≤ 32

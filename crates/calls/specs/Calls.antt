@@ -12,7 +12,7 @@ use Rattle.jobfile.specs.Answers.{readFile, writeFile, leftByWrite}
 use Rattle.checker.specs.Check.{checkPlan}
 use Rattle.earliest.specs.declared.EarliestTime.{EarliestTime}
 use Rattle.earliest.specs.Answer.{Answers}
-use Rattle.planner.specs.declared.Planned.{Planned}
+use Rattle.timeline.specs.declared.Day.{Day}
 use Rattle.planner.specs.Plan.{Plans}
 use Rattle.calls.specs.Answer.{done, refusal, writtenNumber, checkedNumber, timeNumber, plannedNumber}
 
@@ -57,7 +57,7 @@ EarliestAnswers file set r = EarliestBy (readFile file .verdict) (jobOf file) se
 
 -- the number of a planner's answer of which its promise holds, with the bytes left in the slice
 abbrev pub PlanBy : Verdict → Job → List ℕ → ℕ → List ℕ → Type 0
-PlanBy Pass J slice r after = (answer : Planned) × Plans J slice answer after × (r ≡ plannedNumber answer)
+PlanBy Pass J slice r after = (answer : Day) × Plans J slice answer after × (r ≡ plannedNumber answer)
 PlanBy (Refused why) J slice r after = (r ≡ refusal why) × (after ≡ slice)
 
 -- the answer to a file and a slice, and every byte that the slice then holds

@@ -1,17 +1,15 @@
 // The calls for other languages: a job crosses as the bytes of its file, and each call answers one number, packed the
 // same way: kind, refusal number, end and steps. A file that is refused is answered before anything else is looked at.
 ghost use mathlib.Core.Path.{_≡_};
-ghost use Rattle.calls.specs.Answer.{packed, refusal, checkedNumber, timeNumber};
-ghost use Rattle.calls.specs.Answer.{writtenNumber, ShortFile, plannedNumber, FewSteps};
+ghost use Rattle.calls.specs.Answer.{packed, refusal, dayNumber, timeNumber, writtenNumber, ShortFile};
 ghost use Rattle.calls.specs.Calls.{readAnswer, checkAnswer, rewriteAnswer, leftByRewrite};
 ghost use Rattle.calls.specs.Calls.{EarliestAnswers, PlanAnswers};
-use checker::Checked;
 use earliest::EarliestTime;
 use job::refusal::Refusal;
 use job::refusal::Verdict;
 use job::refusal::number;
 use jobfile::Written;
-use planner::Planned;
+use timeline::Day;
 
 // The kinds of answers.
 const DONE: u8 = 0;
@@ -20,11 +18,18 @@ const REFUSED: u8 = 1;
 
 const UNREACHABLE: u8 = 2;
 
+// What the parts behind the kind are multiplied by: the refusal's number begins at bit 8, the end at 16, the steps at 48.
+const NUMBER: u64 = 256;
+
+const END: u64 = 65_536;
+
+const STEPS: u64 = 281_474_976_710_656;
+
 // An answer in one number: kind in bits 0 to 7, refusal in 8 to 15, end in 16 to 47, steps in 48 to 63.
 fn pack(kind: u8, refusal: u8, end: u32, steps: u16) -> u64
     ensures { λ r. ⌜ r ≡ packed kind refusal end steps ⌝ }
 {
-    kind as u64 + 256 * refusal as u64 + 65_536 * end as u64 + 281_474_976_710_656 * steps as u64
+    kind as u64 + NUMBER * refusal as u64 + END * end as u64 + STEPS * steps as u64
 }
 
 // A refusal by its number.
@@ -45,13 +50,14 @@ fn written(answer: Written) -> u64
     }
 }
 
-// The checker's answer: the plan's end.
-fn checked(answer: Checked) -> u64
-    ensures { λ r. ⌜ r ≡ checkedNumber answer ⌝ }
+// A day with so many steps told: the plan's end, or why there is none.
+fn day_told(day: Day, steps: u16) -> u64
+    ensures { λ r. ⌜ r ≡ dayNumber (day .verdict) (day .end) steps ⌝ }
 {
-    match answer {
-        Checked::Ends(end) => pack(DONE, 0, end, 0),
-        Checked::Refused(why) => refused(why),
+    let verdict = day.verdict;
+    match verdict {
+        Verdict::Pass => pack(DONE, 0, day.end, steps),
+        Verdict::Refused(why) => refused(why),
     }
 }
 
@@ -63,17 +69,6 @@ fn told(answer: EarliestTime) -> u64
         EarliestTime::At(minute) => pack(DONE, 0, minute, 0),
         EarliestTime::Unreachable => pack(UNREACHABLE, 0, 0, 0),
         EarliestTime::Refused(why) => refused(why),
-    }
-}
-
-// The planner's answer: the plan's end and its number of steps.
-fn planned(answer: Planned) -> u64
-    requires { ⌜ FewSteps answer ⌝ }
-    ensures { λ r. ⌜ r ≡ plannedNumber answer ⌝ }
-{
-    match answer {
-        Planned::Ends(end, steps) => pack(DONE, 0, end, steps as u16),
-        Planned::Refused(why) => refused(why),
     }
 }
 
@@ -116,8 +111,7 @@ pub extern "C" fn ruhkevois_check(file: &[u8], plan: &[u8]) -> u64
     if let Verdict::Refused(why) = verdict {
         return refused(why);
     }
-    let answer = checker::check(reading.job, plan);
-    checked(answer)
+    day_told(checker::check(reading.job, plan), 0)
 }
 
 // The earliest time of a set of facts in the job of a file: the minute, unreachable, or the first refusal of 1 to 11
@@ -146,6 +140,6 @@ pub extern "C" fn ruhkevois_plan(file: &[u8], out: &mut [u8]) -> u64
     if let Verdict::Refused(why) = verdict {
         return refused(why);
     }
-    let answer = planner::plan(reading.job, out);
-    planned(answer)
+    let day = planner::plan(reading.job, out);
+    day_told(day, day.steps as u16)
 }

@@ -26,14 +26,14 @@ enum-told c = search needs
 check-requires : tie.Need-check-requires
 check-requires c κs = search needs
 
-checked-requires : tie.Need-checked-requires
-checked-requires c κs = search needs
+day-told-requires : tie.Need-day-told-requires
+day-told-requires c κs = search needs
 
 returns-2 : tie.Need-returns-2
 returns-2 c =
     let c-read = c .before .before .before .before .read in
-    c .checked .ensures
-    ∙ check-accepted _ _ (c-read .ensures) (c .before .before .enum-told .given .1) _ _ (c .before .check .ensures)
+    c .day-told .ensures
+    ∙ check-accepted _ _ (c-read .ensures) (c .before .before .enum-told .given .1) _ _ (c .before .check .ensures .answers)
 
 pub ruhkevois-check-spec : {M : Type 1} → statement M
 ruhkevois-check-spec =
@@ -45,5 +45,5 @@ ruhkevois-check-spec =
     returns
     enum-told
     check-requires
-    checked-requires
+    day-told-requires
     returns-2)

@@ -3,6 +3,7 @@
 use Rattle.job.specs.Job.{jobIn}
 use Rattle.calls.proofs.Fitting.{planned-steps-are-few}
 use Rattle.calls.proofs.CallLaws.{plan-refused, plan-accepted}
+use native.Mathlib.Omega.{arith}
 use borrow.Author.Needs.{needs}
 use Rattle.calls.proofs.ruhkevois_plan.Statement.{statement}
 use Rattle.calls.proofs.ruhkevois_plan.Tie as tie
@@ -27,23 +28,27 @@ enum-told c = search needs
 plan-requires : tie.Need-plan-requires
 plan-requires c κs = search needs
 
-planned-requires : tie.Need-planned-requires
-planned-requires c κs =
+cast-day-told : tie.Need-cast-day-told
+cast-day-told c =
     let at8 = c .before .before .before .before .before .before .before .before in
-    let c-args = at8 .before .args in
-    let c-read = c .before .before .before .before .before .before .read in
-    let c-plan = c .before .before .plan in
-    planned-steps-are-few (jobIn (c-read .result .job)) (c-args .out .now) (c-plan .result) _ (c-plan .ensures)
+    let c-args = at8 .before .before .args in
+    let c-read = c .before .before .before .before .before .before .before .read in
+    let c-plan = c .before .before .before .plan in
+    let few = planned-steps-are-few (jobIn (c-read .result .job)) (c-args .out .now) (c-plan .result) _ (c-plan .ensures) in
+    record { fits = omega arith }
+
+day-told-requires : tie.Need-day-told-requires
+day-told-requires c κs = search needs
 
 same-length : tie.Need-same-length
 same-length c = search needs
 
 returns-2 : tie.Need-returns-2
 returns-2 c =
-    let c-read = c .before .before .before .before .before .before .before .read in
-    let c-enum-told = c .before .before .before .before .before .enum-told in
-    let c-plan = c .before .before .before .plan in
-    plan-accepted _ _ (c-read .ensures) (c-enum-told .given .1) _ _ _ _ (c-plan .ensures) (c .planned .ensures)
+    let c-read = c .before .before .before .before .before .before .before .before .read in
+    let c-enum-told = c .before .before .before .before .before .before .enum-told in
+    let c-plan = c .before .before .before .before .plan in
+    plan-accepted _ _ (c-read .ensures) (c-enum-told .given .1) _ _ _ _ (c-plan .ensures) (c .day-told .ensures)
 
 pub ruhkevois-plan-spec : {M : Type 1} → statement M
 ruhkevois-plan-spec =
@@ -55,6 +60,7 @@ ruhkevois-plan-spec =
     returns
     enum-told
     plan-requires
-    planned-requires
+    cast-day-told
+    day-told-requires
     same-length
     returns-2)
