@@ -18,19 +18,58 @@ impl Layout {
     // The most bytes of a file.
     pub const FILE: usize = 4_096;
 
-    // The contents: an entry for each body, and what they take together.
-    pub const BODIES: usize = 4;
-
-    pub const ENTRY: usize = 4;
-
-    pub const CONTENTS: usize = Layout::BODIES * Layout::ENTRY;
-
-    // The bytes of the head, of an amount, and of an action without its uses.
-    pub const HEAD: usize = 19;
+    // The bytes of a number of the contents, of an amount, and of a set of facts.
+    pub const NUMBER: usize = 2;
 
     pub const AMOUNT: usize = 4;
 
-    pub const ACTION: usize = 25;
+    pub const SET: usize = 8;
+
+    // The contents: an entry for each body, its offset and its length; and what they take together.
+    pub const BODIES: usize = 4;
+
+    pub const ENTRY: usize = Layout::NUMBER + Layout::NUMBER;
+
+    pub const CONTENTS: usize = Layout::BODIES * Layout::ENTRY;
+
+    // Where the length stands in an entry, and the length of each body in the contents.
+    pub const LENGTH_AT: usize = Layout::NUMBER;
+
+    pub const HEAD_LENGTH_AT: usize = Layout::LENGTH_AT;
+
+    pub const POOLS_LENGTH_AT: usize = Layout::HEAD_LENGTH_AT + Layout::ENTRY;
+
+    pub const STORES_LENGTH_AT: usize = Layout::POOLS_LENGTH_AT + Layout::ENTRY;
+
+    pub const ACTIONS_LENGTH_AT: usize = Layout::STORES_LENGTH_AT + Layout::ENTRY;
+
+    // The head: the number of facts, the deadline, the start and the goal, each behind the one before.
+    pub const FACTS: usize = 1;
+
+    pub const DEADLINE: usize = 2;
+
+    pub const FACTS_AT: usize = 0;
+
+    pub const DEADLINE_AT: usize = Layout::FACTS_AT + Layout::FACTS;
+
+    pub const START_AT: usize = Layout::DEADLINE_AT + Layout::DEADLINE;
+
+    pub const GOAL_AT: usize = Layout::START_AT + Layout::SET;
+
+    pub const HEAD: usize = Layout::GOAL_AT + Layout::SET;
+
+    // An action: its duration and its three sets, as long as an action without its uses, which stand behind them.
+    pub const DURATION: usize = 1;
+
+    pub const DURATION_AT: usize = 0;
+
+    pub const NEEDS_AT: usize = Layout::DURATION_AT + Layout::DURATION;
+
+    pub const ADDS_AT: usize = Layout::NEEDS_AT + Layout::SET;
+
+    pub const DELETES_AT: usize = Layout::ADDS_AT + Layout::SET;
+
+    pub const ACTION: usize = Layout::DELETES_AT + Layout::SET;
 
     // The bytes of an action in a job with so many pools and stores.
     pub fn action_size(pools: usize, stores: usize) -> usize

@@ -46,10 +46,10 @@ fn action(bytes: &[u8], pools: usize, stores: usize) -> Action
     let held = amounts(&bytes[uses..middle]);
     let taken = amounts(&bytes[middle..]);
     Action {
-        duration: read_number(bytes, 0, 1) as u8,
-        needs: read_number(bytes, 1, 8),
-        adds: read_number(bytes, 9, 8),
-        deletes: read_number(bytes, 17, 8),
+        duration: read_number(bytes, Layout::DURATION_AT, Layout::DURATION) as u8,
+        needs: read_number(bytes, Layout::NEEDS_AT, Layout::SET),
+        adds: read_number(bytes, Layout::ADDS_AT, Layout::SET),
+        deletes: read_number(bytes, Layout::DELETES_AT, Layout::SET),
         pools: held,
         stores: taken,
     }

@@ -51,10 +51,10 @@ pub fn decode(head: &[u8], pools: &[u8], stores: &[u8], actions_: &[u8]) -> Job
     let store_amounts = amounts(stores);
     let all = actions(actions_, counts.pools, counts.stores);
     Job {
-        facts: read_number(head, 0, 1) as u8,
-        deadline: read_number(head, 1, 2) as u16,
-        start: read_number(head, 3, 8),
-        goal: read_number(head, 11, 8),
+        facts: read_number(head, Layout::FACTS_AT, Layout::FACTS) as u8,
+        deadline: read_number(head, Layout::DEADLINE_AT, Layout::DEADLINE) as u16,
+        start: read_number(head, Layout::START_AT, Layout::SET),
+        goal: read_number(head, Layout::GOAL_AT, Layout::SET),
         counts,
         pools: pool_amounts,
         stores: store_amounts,

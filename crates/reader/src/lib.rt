@@ -23,7 +23,7 @@ fn short(file: &[u8], at: usize) -> usize
     requires { ⌜ at + 2 ≤ length (now file) ⌝ }
     ensures { λ r. ⌜ (r ≡ fromBytes (part (now (file .entry)) at 2)) × (r < 65536) ⌝ }
 {
-    encoding::read_number(file, at, 2) as usize
+    encoding::read_number(file, at, Layout::NUMBER) as usize
 }
 
 // Whether the bodies stand in a row, from the contents to the end of the file.
@@ -37,7 +37,7 @@ fn gapless(file: &[u8]) -> bool
         if short(file, Layout::ENTRY * k) != at {
             return false;
         }
-        at += short(file, Layout::ENTRY * k + 2);
+        at += short(file, Layout::ENTRY * k + Layout::LENGTH_AT);
         k += 1;
     }
     at == file.len()
@@ -49,10 +49,10 @@ fn layout(file: &[u8]) -> Layout
     ensures { λ r. ⌜ (r ≡ layoutIn (now (file .entry))) × Small r ⌝ }
 {
     Layout {
-        head: short(file, 2),
-        pools: short(file, 6),
-        stores: short(file, 10),
-        actions: short(file, 14),
+        head: short(file, Layout::HEAD_LENGTH_AT),
+        pools: short(file, Layout::POOLS_LENGTH_AT),
+        stores: short(file, Layout::STORES_LENGTH_AT),
+        actions: short(file, Layout::ACTIONS_LENGTH_AT),
     }
 }
 

@@ -12,6 +12,18 @@ use job::Counts;
 use job::Job;
 use jobfile::Layout;
 
+// The contents are so many numbers.
+const NUMBERS: usize = Layout::CONTENTS / Layout::NUMBER;
+
+// Where the head's numbers and sets stand in the file, behind the contents.
+const FACTS_AT: usize = Layout::CONTENTS + Layout::FACTS_AT;
+
+const DEADLINE_AT: usize = Layout::CONTENTS + Layout::DEADLINE_AT;
+
+const START_AT: usize = Layout::CONTENTS + Layout::START_AT;
+
+const GOAL_AT: usize = Layout::CONTENTS + Layout::GOAL_AT;
+
 // A number of 8, 16 or 32 bits as one of 64.
 fn wide8(x: u8) -> u64
     ensures { λ r. ⌜ r ≡ x ⌝ }
@@ -56,8 +68,8 @@ pub fn contents(out: &mut [u8], job: Job, size: usize)
         actions,
     ];
     let mut k = 0;
-    while k < 8 {
-        write_number(out, k * 2, 2, numbers[k] as u64);
+    while k < NUMBERS {
+        write_number(out, k * Layout::NUMBER, Layout::NUMBER, numbers[k] as u64);
         k += 1;
     }
 }
@@ -67,10 +79,10 @@ pub fn head(out: &mut [u8], job: Job)
     requires { ⌜ 35 ≤ length (now out) ⌝ }
     ensures { λ r. ⌜ now (out .exit) ≡ overwrite (now (out .entry)) 16 (headBytes (jobIn job)) ⌝ }
 {
-    write_number(out, 16, 1, wide8(job.facts));
-    write_number(out, 17, 2, wide16(job.deadline));
-    write_number(out, 19, 8, job.start);
-    write_number(out, 27, 8, job.goal);
+    write_number(out, FACTS_AT, Layout::FACTS, wide8(job.facts));
+    write_number(out, DEADLINE_AT, Layout::DEADLINE, wide16(job.deadline));
+    write_number(out, START_AT, Layout::SET, job.start);
+    write_number(out, GOAL_AT, Layout::SET, job.goal);
 }
 
 // The first n amounts, from place `at` on.
@@ -94,10 +106,10 @@ fn action(out: &mut [u8], at: usize, counts: Counts, a: Action)
     let taken = a.stores;
     let uses = at + Layout::ACTION;
     let middle = uses + Layout::AMOUNT * counts.pools;
-    write_number(out, at, 1, wide8(a.duration));
-    write_number(out, at + 1, 8, a.needs);
-    write_number(out, at + 9, 8, a.adds);
-    write_number(out, at + 17, 8, a.deletes);
+    write_number(out, at, Layout::DURATION, wide8(a.duration));
+    write_number(out, at + Layout::NEEDS_AT, Layout::SET, a.needs);
+    write_number(out, at + Layout::ADDS_AT, Layout::SET, a.adds);
+    write_number(out, at + Layout::DELETES_AT, Layout::SET, a.deletes);
     amounts(out, uses, held, counts.pools);
     amounts(out, middle, taken, counts.stores);
 }
