@@ -19,7 +19,7 @@ use Rattle.begun.specs.RestOfDay.{restOfJob, restOfPlan}
 use Rattle.begun.proofs.Rests.{Rest, each-of-rest}
 use Rattle.begun.proofs.WhatIsLeft.{numberBefore, rest-of-plan}
 use Rattle.begun.proofs.HeldInRest.{held-by-kept, held-in-rest}
-use Rattle.begun.proofs.RulesInRest.{rest-no-clash, rest-in-use, store-cap-of-rest, rest-used-up}
+use Rattle.begun.proofs.RulesInRest.{rest-no-clash, rest-in-use}
 
 module _ (J : Job) (M T goal : ℕ) (N K : List Step) (plan : PlanOf J T goal (N ++ K))
     (new : EachStep (λ x. M ≤ x .start) N) (kept : EachStep (λ x. x .start < M) K) where
@@ -51,11 +51,7 @@ module _ (J : Job) (M T goal : ℕ) (N K : List Step) (plan : PlanOf J T goal (N
             let less = rest-in-use J M K pool t rest in
             let within = plan .keeps .pools pool (M + t) k in
             omega arith;
-        stores = λ store k.
-            let less = rest-used-up J M K store rest in
-            let within = plan .keeps .stores store k in
-            let cap = store-cap-of-rest J M K store in
-            omega arith;
+        stores = λ store k. absurd (omega arith);
         needsHold = each-of-rest
             (λ x. Subset (x .action .needs) (held (restOfJob J M K .start) (restOfPlan J M N K) (x .start))) rest
             (λ x Q i n d k f h.

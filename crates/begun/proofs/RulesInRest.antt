@@ -1,25 +1,24 @@
--- What is left of steps has no clash that the steps have not, and uses no more of pools and stores than they.
+-- What is left of steps has no clash that the steps have not, and uses no more of pools than they.
 -- Assumes nothing.
 use Prim.Native.Nat.{ℕ, _+_, _≤_}
 use mathlib.Core.Path.{_≡_, refl, sym, ap, _∙_}
 use mathlib.Core.Bool.{false, _||_}
 use mathlib.Core.Logic.{⊎-elim}
 use mathlib.Core.List.{List}
-use native.Mathlib.Nat.{le-refl}
 use native.Mathlib.Omega.{arith}
 use lib.Dec.{eqb}
-use lib.ListN.{getD}
 use borrow.Author.Tests.{eqb-false, ne-eqb}
 use Rattle.lists.specs.Lists.{any}
 use Rattle.lists.proofs.Bools.{or-left, or-right}
+use Rattle.job.specs.Resources.{handover}
 use Rattle.job.specs.Job.{Job}
 use Rattle.timeline.specs.Step.{Step, anyPair}
-use Rattle.timeline.specs.Timeline.{clash, overlap, hinders, hasShare, inUse, storeUse, storeCap, usedUp}
+use Rattle.timeline.specs.Timeline.{clash, overlap, hinders, hasShare, inUse}
 use Rattle.timeline.specs.Accepted.{clashing}
 use Rattle.timeline.proofs.Tests.{decided, not-both, and-other-false, or-neither}
 use Rattle.timeline.proofs.Places.{any-of-none, none-of-any}
 use Rattle.timeline.proofs.Clashes.{not-clashing, overlap-when}
-use Rattle.timeline.proofs.Shares.{handover, useAt, share-reads, share-when}
+use Rattle.timeline.proofs.Shares.{useAt, share-reads, share-when}
 use Rattle.timeline.proofs.Shares.{use-at-most, use-of-share, use-without-share}
 use Rattle.begun.specs.RestOfDay.{restStep, restOfJob}
 use Rattle.begun.proofs.Rests.{LeftAs, Rest, none, done, left, each-of-rest, rest-total}
@@ -77,15 +76,3 @@ module _ (J : Job) (M : ℕ) (K : List Step) where
   pub rest-in-use : (pool t : ℕ) {was : ℕ → ℕ} {P R : List Step} → Rest (restOfJob J M K) M was P R
       → inUse (restOfJob J M K) pool t R ≤ inUse J pool (M + t) P
   rest-in-use pool t r = rest-total (useAt (restOfJob J M K) pool t) (useAt J pool (M + t)) r (left-use pool t)
-
-  -- ---- stores: what is left counts as the step does
-  pub store-cap-of-rest : (store : ℕ) → storeCap (restOfJob J M K) store ≡ storeCap J store
-  unfolding storeCap
-  store-cap-of-rest store = refl
-
-  pub rest-used-up : (store : ℕ) {was : ℕ → ℕ} {P R : List Step} → Rest (restOfJob J M K) M was P R
-      → usedUp (restOfJob J M K) store R ≤ usedUp J store P
-  unfolding storeUse
-  rest-used-up store r =
-      rest-total (storeUse (restOfJob J M K) store) (storeUse J store) r
-      (λ x n d l. le-refl (getD (x .action .stores) store 0))

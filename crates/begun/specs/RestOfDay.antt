@@ -37,7 +37,7 @@ abbrev pub restAction : ℕ → Step → Action
 restAction M x = withDuration (x .stop - M) (x .action)
 
 -- the job of the rest: it starts with what holds at M, and has one more action for what is left of each running step;
--- its stores are the whole day's
+-- it has no stores, since earliest times look at none
 abbrev pub restOfJob : Job → ℕ → List Step → Job
 restOfJob J M K =
     record {
@@ -46,7 +46,7 @@ restOfJob J M K =
       start = held (J .start) K M;
       goal = J .goal;
       pools = J .pools;
-      stores = J .stores;
+      stores = [];
       actions = J .actions ++ map (restAction M) (running M K);
     }
 

@@ -1,4 +1,5 @@
 pub mod Job
 pub mod Refusal
+pub mod Resources
 pub mod Valid
 pub mod Resumed

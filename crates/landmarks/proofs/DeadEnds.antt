@@ -11,10 +11,11 @@ use native.Mathlib.Omega.{arith}
 use lib.ListN.{length, getD}
 use Rattle.facts.specs.FactSet.{has, difference, Subset}
 use Rattle.facts.proofs.SetLaws.{in-difference-parts}
+use Rattle.job.specs.Resources.{storeCap}
 use Rattle.job.specs.Job.{Action, Job}
 use Rattle.timeline.specs.Step.{Step, total}
 use Rattle.timeline.specs.From.{From, IsNew}
-use Rattle.timeline.specs.Timeline.{held, storeUse, storeCap, usedUp}
+use Rattle.timeline.specs.Timeline.{held, storeUse, usedUp}
 use Rattle.timeline.proofs.Places.{EachStep, append-cases, place-append, total-append, total-mono}
 use Rattle.timeline.proofs.NewSteps.{new-both-from-minute}
 use Rattle.times.proofs.PlanSteps.{PlanOf, own-action, own-stop}

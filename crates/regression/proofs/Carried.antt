@@ -4,7 +4,7 @@
 use Prim.Native.Nat.{ℕ, zero, suc, _+_, _<_, _≤_}
 use mathlib.Core.Path.{_≡_, refl}
 use mathlib.Core.Bool.{Bool, true, false}
-use mathlib.Core.Logic.{_⊎_, ⊎-elim}
+use mathlib.Core.Logic.{_⊎_, inl, ⊎-elim}
 use mathlib.Core.List.{List, _++_}
 use native.Mathlib.Omega.{arith}
 use lib.ListN.{length}
@@ -16,7 +16,6 @@ use Rattle.timeline.specs.From.{From}
 use Rattle.timeline.specs.Timeline.{held}
 use Rattle.timeline.proofs.Tests.{decided, not-both, le-or-lt}
 use Rattle.timeline.proofs.Places.{Place, EachStep, append-cases, place-append, place-after, find-any}
-use Rattle.timeline.proofs.Shares.{handover}
 use Rattle.timeline.proofs.Persist.{keeps-needs-hold}
 use Rattle.times.specs.Earliest.{actionOf}
 use Rattle.times.proofs.PlanSteps.{own-action, own-stop}
@@ -25,14 +24,15 @@ use Rattle.regression.specs.Normal.{touchesAt}
 use Rattle.regression.specs.DeadEnd.{NormalPlan, Open, Dead}
 use Rattle.regression.proofs.WantedFacts.{wanted-holds}
 use Rattle.regression.proofs.WantedBetween.{wanted-unless-added-between}
-use Rattle.regression.proofs.BlockedSteps.{touches-reads, not-blocked-when-untouched}
+use Rattle.regression.proofs.BlockedSteps.{Touches, touches-reads, touches-not-before}
+use Rattle.regression.proofs.BlockedSteps.{not-blocked-when-untouched}
 use Rattle.regression.proofs.Tail.{tail-wants}
 use Rattle.regression.proofs.DeadEnds.{Bounds}
 
--- s is an event minute before t: no step of the tail starts between them, nor would an action that may still stop at t
+-- s is an event minute before t: no step of the tail touches a minute between them, nor would an action that may still stop at t
 pub record EventBefore (J : Job) (t s : ℕ) (done : ℕ → Bool) (L : List Step) : Type 0 where
   pub earlier : s < t
-  pub noStart : EachStep (λ x. s < x .start → x .start < t → ⊥) L
+  pub noEvent : (m : ℕ) → s < m → m < t → EachStep (λ x. Touches J m x → ⊥) L
   pub openStarts : (a : ℕ) → a < length (J .actions) → done a ≡ false → t ≤ s + actionOf J a .duration
 
 -- fact n is wanted at t, and added after s and by t neither by the tail nor by an action that may still stop
@@ -61,7 +61,6 @@ module _ (J : Job) (b : From) (goal T t s : ℕ) (inTime : t ≤ T) (done : ℕ 
 
   -- no step of E stops between s and t: another step would have to start there
   no-stop-at : (k m : ℕ) → t ≤ m + k → s < m → m < t → EachStep (λ x. x .stop ≡ m → ⊥) E
-  unfolding handover
   no-stop-at zero m l after before x Q i stops = omega arith
   no-stop-at (suc k) m l after before x Q i stops =
       let inPlan = place-append L i in
@@ -70,8 +69,7 @@ module _ (J : Job) (b : From) (goal T t s : ℕ) (inTime : t ≤ T) (done : ℕ 
       (λ touched.
       let r = find-any (touchesAt J (x .stop)) (E ++ L) touched in
       let y : Step = r .0 in
-      let start : y .start ≡ x .stop =
-      ⊎-elim (λ e. e) (λ w. let e = w .2 in omega arith) (touches-reads J (x .stop) y (r .3)) in
+      let start = touches-not-before J (x .stop) y (r .3) in
       let lasts = keeps .lasting y (r .1) (r .2) in
       ⊎-elim
       (λ w.
@@ -80,7 +78,7 @@ module _ (J : Job) (b : From) (goal T t s : ℕ) (inTime : t ≤ T) (done : ℕ 
       (λ less. no-stop-at k (y .stop) (omega arith) (omega arith) less y (w .0) (w .1) refl)
       (λ at. let early = starts-by-event (w .1) (at .0) (at .1) in omega arith)
       (o .2))
-      (λ w. event .noStart y (w .0) (w .1) (omega arith) (omega arith))
+      (λ w. event .noEvent (x .stop) (omega arith) (omega arith) y (w .0) (w .1) (touches-reads J (x .stop) y (r .3)))
       (append-cases E L (r .2)))
       (λ untouched.
       not-both (p .blockedSteps x _ inPlan (left x Q i .0))
@@ -120,7 +118,8 @@ module _ (J : Job) (b : From) (goal T t s : ℕ) (inTime : t ≤ T) (done : ℕ 
       let starts = w .3 in
       let stops = w .4 in
       let by : x .start ≤ s =
-      ⊎-elim (λ l. l) (λ l. absurd (event .noStart x (w .1) (w .2) l starts)) (le-or-lt (x .start) s) in
+      ⊎-elim (λ l. l) (λ l. absurd (event .noEvent (x .start) l starts x (w .1) (w .2) (inl refl)))
+      (le-or-lt (x .start) s) in
       keeps-needs-hold J T goal (E ++ L) (p .plan .keeps) x _ (place-after E (w .2)) s by (omega arith) n (w .5)
 
   pub carried-held : (set : ℕ) → ((n : ℕ) → has set n ≡ true → Carried J goal T t s done L n)

@@ -7,10 +7,11 @@ use mathlib.Core.List.{List, _++_}
 use native.Mathlib.Omega.{arith}
 use lib.ListN.{length, getD}
 use Rattle.facts.specs.FactSet.{Subset}
+use Rattle.job.specs.Resources.{storeCap}
 use Rattle.job.specs.Job.{Job}
 use Rattle.timeline.specs.Step.{Step, anyPair}
 use Rattle.timeline.specs.From.{From, IsNew}
-use Rattle.timeline.specs.Timeline.{held, inUse, storeCap, usedUp}
+use Rattle.timeline.specs.Timeline.{held, inUse, usedUp}
 use Rattle.timeline.specs.Accepted.{clashing}
 use Rattle.timeline.proofs.Tests.{not-both}
 use Rattle.timeline.proofs.Places.{Place, EachStep, place-after}

@@ -5,11 +5,12 @@ use mathlib.Core.Path.{_≡_, refl, _∙_}
 use mathlib.Core.Logic.{_⊎_, inl, inr, ⊎-elim}
 use mathlib.Core.List.{List, [], _∷_, _++_}
 use native.Mathlib.Omega.{arith}
+use Rattle.job.specs.Resources.{handover}
 use Rattle.job.specs.Job.{Job}
 use Rattle.timeline.specs.Step.{Step}
 use Rattle.timeline.specs.Timeline.{inUse}
 use Rattle.timeline.proofs.Places.{Place, here, Member, EachStep, append-cases, each-here, each-rest, total-append}
-use Rattle.timeline.proofs.Shares.{handover, useAt, nothing-in-use}
+use Rattle.timeline.proofs.Shares.{useAt, nothing-in-use}
 use Rattle.timeline.proofs.Keeps.{Lasting}
 use Rattle.regression.specs.Wanted.{wantedAt}
 use Rattle.regression.proofs.WantedFacts.{wanted-from-stop-on}

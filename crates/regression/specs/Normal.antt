@@ -8,12 +8,12 @@ use lib.Dec.{eqb}
 use lib.ListN.{length, getD}
 use Rattle.lists.specs.Lists.{any}
 use Rattle.facts.specs.FactSet.{difference, meets}
+use Rattle.job.specs.Resources.{handover}
 use Rattle.job.specs.Job.{Job}
 use Rattle.job.specs.Valid.{over}
 use Rattle.timeline.specs.Step.{Step, unionOf}
 use Rattle.timeline.specs.Timeline.{clash, held, free, inUse}
 use Rattle.timeline.specs.Accepted.{anyBelow}
-use Rattle.timeline.proofs.Shares.{handover}
 use Rattle.regression.specs.Wanted.{wantedAt}
 
 -- ── critical facts ──

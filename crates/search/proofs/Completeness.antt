@@ -13,9 +13,9 @@ use Rattle.lists.proofs.Bools.{or-left, or-right}
 use Rattle.facts.specs.FactSet.{has, single, difference}
 use Rattle.facts.proofs.Membership.{has-zero}
 use Rattle.facts.proofs.SetLaws.{in-difference}
+use Rattle.job.specs.Resources.{handover}
 use Rattle.job.specs.Job.{Job}
 use Rattle.timeline.specs.Step.{Step}
-use Rattle.timeline.proofs.Shares.{handover}
 use Rattle.timeline.proofs.Tests.{not-both, false-unless}
 use Rattle.timeline.proofs.Places.{EachStep, below-none}
 use Rattle.times.proofs.Singles.{only-in-single}

@@ -11,10 +11,11 @@ use lib.Dec.{leb, ltb, leb·suc-suc}
 use lib.ListN.{length, getD, set, length-set, replicate, getD-replicate}
 use lib.Seq.{getD-set-same, getD-set-other}
 use borrow.Author.Tests.{lt-ltb, le-ltb}
+use Rattle.job.specs.Resources.{storeCap}
 use Rattle.job.specs.Job.{Job}
 use Rattle.job.specs.Valid.{over}
 use Rattle.timeline.specs.Step.{Step, stepOf}
-use Rattle.timeline.specs.Timeline.{free, hasShare, storeUse, storeCap}
+use Rattle.timeline.specs.Timeline.{free, hasShare, storeUse}
 use Rattle.timeline.proofs.Tests.{or-neither}
 use Rattle.timeline.proofs.Below.{below-more, below-found, below-same}
 use Rattle.times.specs.Earliest.{actionOf}

@@ -15,10 +15,11 @@ use Rattle.facts.specs.FactSet.{has, union, difference, meets, single}
 use Rattle.facts.proofs.Membership.{meets-some}
 use Rattle.facts.proofs.SetLaws.{in-union-left, in-union-right, in-union-cases, in-difference, in-difference-parts}
 use Rattle.facts.proofs.SetLaws.{not-in-both, no-common-member}
+use Rattle.job.specs.Resources.{storeCap}
 use Rattle.job.specs.Job.{Job}
 use Rattle.timeline.specs.Step.{Step, unionOf}
 use Rattle.timeline.specs.From.{IsNew, FitsFrom}
-use Rattle.timeline.specs.Timeline.{free, inUse, storeUse, storeCap, usedUp, clash}
+use Rattle.timeline.specs.Timeline.{free, inUse, storeUse, usedUp, clash}
 use Rattle.timeline.specs.Accepted.{clashing}
 use Rattle.timeline.proofs.Tests.{and-both, decided, or-neither}
 use Rattle.timeline.proofs.Below.{below-same}

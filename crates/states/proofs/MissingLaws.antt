@@ -8,10 +8,11 @@ use native.Mathlib.Omega.{arith}
 use lib.ListN.{length, getD}
 use borrow.Author.Tests.{leb-false}
 use Rattle.facts.specs.FactSet.{union, difference}
+use Rattle.job.specs.Resources.{storeCap}
 use Rattle.job.specs.Job.{Job}
 use Rattle.timeline.specs.Step.{Step, total}
 use Rattle.timeline.specs.From.{IsNew}
-use Rattle.timeline.specs.Timeline.{storeCap, usedUp}
+use Rattle.timeline.specs.Timeline.{usedUp}
 use Rattle.timeline.proofs.Places.{EachStep}
 use Rattle.regression.specs.Tests.{mustHold}
 use Rattle.regression.specs.DeadEnd.{Until}

@@ -11,13 +11,14 @@ use lib.ListN.{length, getD}
 use borrow.Author.Tests.{ltb-true, ltb-false, le-ltb, leb-false, lt-leb, not-false}
 use Rattle.facts.specs.FactSet.{subset, Subset}
 use Rattle.facts.proofs.Membership.{subset-decides}
+use Rattle.job.specs.Resources.{storeCap}
 use Rattle.job.specs.Job.{Job}
 use Rattle.job.specs.Refusal.{Row, _when_, first}
 use Rattle.job.specs.declared.refusal.Refusal.{Refusal}
 use Rattle.job.specs.declared.refusal.Verdict.the-variants.{Pass}
 use Rattle.job.proofs.Table.{first-next, first-pass}
 use Rattle.timeline.specs.Step.{Step, strictlyRising, anyPair, largest}
-use Rattle.timeline.specs.Timeline.{end, held, free, inUse, storeCap, usedUp}
+use Rattle.timeline.specs.Timeline.{end, held, free, inUse, usedUp}
 use Rattle.timeline.specs.Accepted.{unknown, clashing, exceedsPool, exceedsStore, lacksNeed, stepRows}
 use Rattle.timeline.proofs.Tests.{decided}
 use Rattle.timeline.proofs.Places.{EachStep, none-of-any, any-of-none, below-none, none-below}

@@ -7,11 +7,12 @@ use mathlib.Core.List.{List}
 use native.Mathlib.Omega.{arith}
 use lib.ListN.{length, getD}
 use Rattle.facts.specs.FactSet.{Subset}
+use Rattle.job.specs.Resources.{storeCap}
 use Rattle.job.specs.Job.{Job}
 use Rattle.job.specs.Refusal.{first}
 use Rattle.job.specs.declared.refusal.Verdict.the-variants.{Pass}
 use Rattle.timeline.specs.Step.{Step, strictlyRising, anyPair}
-use Rattle.timeline.specs.Timeline.{end, held, inUse, storeCap, usedUp}
+use Rattle.timeline.specs.Timeline.{end, held, inUse, usedUp}
 use Rattle.timeline.specs.Accepted.{clashing, stepRows}
 use Rattle.timeline.proofs.Places.{EachStep, largest-at-least, largest-at-most}
 use Rattle.timeline.proofs.HeldFacts.{held-after-end}

@@ -1,4 +1,4 @@
--- The one place that opens how long a step has its share of a pool, and what a step uses of a store.
+-- How long a step has its share of a pool, and what a step uses of a store.
 -- Assumes nothing.
 use Prim.Native.Nat.{ℕ, _+_, _<_, _≤_}
 use mathlib.Core.Path.{_≡_, refl, ap}
@@ -10,22 +10,18 @@ use lib.ListN.{getD}
 use borrow.Author.Tests.{ltb-true, lt-ltb, leb-true, le-leb}
 use Rattle.lists.proofs.Bools.{and-left, and-right}
 use Rattle.job.specs.Job.{Job}
+use Rattle.job.specs.Resources.{handover}
 use Rattle.timeline.specs.Step.{Step}
 use Rattle.timeline.specs.Timeline.{free, hasShare, inUse, storeUse, usedUp}
 use Rattle.timeline.proofs.Tests.{and-both}
 use Rattle.timeline.proofs.Places.{Place, EachStep, total-place, total-zero}
 
--- how many minutes a share of the pool stays in use after its step
-unfoldable pub handover : Job → ℕ → ℕ
-handover J pool = 0
-
 pub free-is : (J : Job) (pool : ℕ) (x : Step) → free J pool x ≡ x .stop + handover J pool
-unfolding free handover
-free-is J pool x = omega arith
+unfolding free
+free-is J pool x = refl
 
 pub store-use-of-action : (J : Job) (store : ℕ) (x y : Step) → x .action ≡ y .action
     → storeUse J store x ≡ storeUse J store y
-unfolding storeUse
 store-use-of-action J store x y e = rw e
 
 -- ---- the minutes of a share

@@ -10,6 +10,7 @@ use native.Mathlib.Omega.{arith}
 use lib.ListN.{length, getD}
 use Rattle.facts.specs.FactSet.{has, meets, Subset}
 use Rattle.facts.proofs.SetLaws.{not-in-both}
+use Rattle.job.specs.Resources.{handover}
 use Rattle.job.specs.Job.{Job}
 use Rattle.timeline.specs.Step.{Step, anyPair}
 use Rattle.timeline.specs.Timeline.{held, clash, inUse}
@@ -22,7 +23,7 @@ use Rattle.timeline.proofs.HeldFacts.{added-wider, added-by}
 use Rattle.timeline.proofs.Replaced.{each-replaced, added-still, added-elsewhere, not-deleted-still}
 use Rattle.timeline.proofs.Clashes.{NoClash, clashing-sym, no-clash-of-test}
 use Rattle.timeline.proofs.Clashes.{not-clashing, overlap-when}
-use Rattle.timeline.proofs.Shares.{handover, share-reads, share-when, use-at-most, use-mono}
+use Rattle.timeline.proofs.Shares.{share-reads, share-when, use-at-most, use-mono}
 use Rattle.timeline.proofs.Shares.{inUse-place, usedUp-place, store-use-of-action}
 use Rattle.timeline.proofs.Keeps.{Lasting, NeedsHold, Keeps}
 

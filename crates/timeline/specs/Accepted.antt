@@ -9,13 +9,14 @@ use lib.ListN.{length, getD}
 use Rattle.lists.specs.Lists.{any}
 use Rattle.facts.specs.FactSet.{subset}
 use Rattle.job.specs.Job.{Job}
+use Rattle.job.specs.Resources.{storeCap}
 use Rattle.job.specs.Refusal.{Row, _when_, first}
 use Rattle.job.specs.Valid.{over}
 use Rattle.job.specs.declared.refusal.Refusal.the-variants.{PlanSize, UnknownAction, StepOrder, AfterDeadline, Clash}
 use Rattle.job.specs.declared.refusal.Refusal.the-variants.{PoolExceeded, StoreExceeded, NeedMissing, GoalMissing}
 use Rattle.job.specs.declared.refusal.Verdict.the-variants.{Pass}
 use Rattle.timeline.specs.Step.{Step, stepsIn, strictlyRising, anyPair, largest}
-use Rattle.timeline.specs.Timeline.{end, clash, overlap, held, free, inUse, storeCap, usedUp}
+use Rattle.timeline.specs.Timeline.{end, clash, overlap, held, free, inUse, usedUp}
 
 -- the test passes at some number below n
 abbrev pub anyBelow : ℕ → (ℕ → Bool) → Bool

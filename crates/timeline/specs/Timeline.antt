@@ -1,12 +1,13 @@
 -- The timeline: clashes, the facts that hold at a minute, and what is in use.
 -- Assumes nothing.
-use Prim.Native.Nat.{ℕ, zero, suc}
+use Prim.Native.Nat.{ℕ, zero, suc, _+_}
 use mathlib.Core.Bool.{Bool, cond, _&&_, _||_}
 use mathlib.Core.List.{List}
 use lib.Dec.{eqb, leb, ltb}
 use lib.ListN.{getD}
 use Rattle.facts.specs.FactSet.{union, difference, meets}
 use Rattle.job.specs.Job.{Action, Job}
+use Rattle.job.specs.Resources.{handover, storeAmount}
 use Rattle.timeline.specs.Step.{Step, total, largest, unionOf}
 
 -- "The plan's end is the largest of these sums, 0 for no steps": its makespan
@@ -52,9 +53,9 @@ held start P (suc t) = next P (suc t) (held start P t)
 
 -- ── pools and stores ──
 
--- "a share is free again in the minute its step ends": the first minute in which a step's share of a pool is free again
+-- the first minute in which a step's share of a pool is free again
 unfoldable pub free : Job → ℕ → Step → ℕ
-free J pool x = x .stop
+free J pool x = x .stop + handover J pool
 
 -- the step has its share of the pool in minute t
 abbrev pub hasShare : Job → ℕ → ℕ → Step → Bool
@@ -64,13 +65,9 @@ hasShare J pool t x = leb (x .start) t && ltb t (free J pool x)
 abbrev pub inUse : Job → ℕ → ℕ → List Step → ℕ
 inUse J pool t P = total (λ x. cond (hasShare J pool t x) (getD (x .action .pools) pool 0) 0) P
 
--- how much of the store a step uses up, and how much there is
-unfoldable pub storeUse : Job → ℕ → Step → ℕ
-storeUse J store x = getD (x .action .stores) store 0
+-- how much of the store a step uses up; "over the plan the uses add up"
+abbrev pub storeUse : Job → ℕ → Step → ℕ
+storeUse J store x = storeAmount J store (x .action)
 
-unfoldable pub storeCap : Job → ℕ → ℕ
-storeCap J store = getD (J .stores) store 0
-
--- "over the plan the uses add up"
 abbrev pub usedUp : Job → ℕ → List Step → ℕ
 usedUp J store P = total (storeUse J store) P

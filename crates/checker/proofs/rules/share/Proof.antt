@@ -3,8 +3,9 @@
 use mathlib.Core.Path.{sym, _∙_}
 use lib.ListN.{getD}
 use Rattle.lists.proofs.Tabulate.{getD-tabulate}
+use Rattle.job.specs.Resources.{handover}
 use Rattle.timeline.specs.Value.{stepOfValue}
-use Rattle.checker.proofs.ShareLaws.{no-share-before, no-share-after, share-while-running}
+use Rattle.checker.proofs.ShareLaws.{no-share-before, no-share-after, share-while-held}
 use native.Mathlib.Omega.{arith}
 use borrow.Author.Needs.{needs}
 use Rattle.checker.proofs.rules.share.Statement.{statement}
@@ -20,11 +21,13 @@ returns c =
     }
 
 returns-2 : tie.Need-returns-2
+unfolding handover
 returns-2 c =
     let c-args = c .before .before .before .before .before .args in
     let a = c-args in
+    let stopped = c .if2 .taken in
     record {
-      counts = λ J n h. sym (no-share-after J (a .pool) (a .minute) _ (stepOfValue n (a .step)) (c .if2 .taken));
+      counts = λ J n h. sym (no-share-after J (a .pool) (a .minute) _ (stepOfValue n (a .step)) (omega arith));
       small = omega arith;
     }
 
@@ -38,15 +41,16 @@ wide-requires : tie.Need-wide-requires
 wide-requires c κs = search needs
 
 returns-3 : tie.Need-returns-3
+unfolding handover
 returns-3 c =
     let c-args = c .before .before .before .before .before .before .before .args in
     let c-if1 = c .before .before .before .before .if1 in
     let a = c-args in
+    let runs = c .before .before .if2 .left in
     record {
       counts = λ J n h.
           c .wide .ensures .0
-          ∙ sym (share-while-running J (a .pool) (a .minute) _ (stepOfValue n (a .step)) (c-if1 .left)
-          (c .before .before .if2 .left)
+          ∙ sym (share-while-held J (a .pool) (a .minute) _ (stepOfValue n (a .step)) (c-if1 .left) (omega arith)
           ∙ getD-tabulate (n .pools) (λ k. getD (a .step .action .pools) k 0) (a .pool) 0 h);
       small = c .wide .ensures .1;
     }

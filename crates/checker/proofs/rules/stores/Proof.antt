@@ -7,12 +7,12 @@ use mathlib.Core.List.{[]}
 use lib.ListN.{length, getD}
 use borrow.Author.Tests.{lt-ltb, le-ltb}
 use Rattle.lists.proofs.Tabulate.{getD-tabulate, length-tabulate}
+use Rattle.job.specs.Resources.{storeCap}
 use Rattle.job.specs.declared.Counts.{Counts}
 use Rattle.job.specs.declared.refusal.Refusal.the-variants.{StoreExceeded}
 use Rattle.job.specs.Job.{jobIn}
 use Rattle.job.specs.Refusal.{first}
 use Rattle.job.proofs.Table.{first-here, first-next}
-use Rattle.timeline.specs.Timeline.{storeCap}
 use Rattle.timeline.specs.Accepted.{anyBelow, exceedsStore}
 use Rattle.timeline.specs.Value.{stepsOf}
 use Rattle.timeline.proofs.Below.{below-more, below-found}

@@ -6,6 +6,7 @@ use lib.ListN.{getD}
 use Rattle.lists.specs.Lists.{tabulate}
 use Rattle.lists.proofs.Tabulate.{getD-tabulate}
 use Rattle.job.specs.Job.{Job}
+use Rattle.job.specs.Resources.{storeAmount}
 use Rattle.timeline.specs.Timeline.{storeUse, usedUp}
 use Rattle.timeline.specs.Value.{beyondStep, stepAt}
 use Rattle.checker.proofs.Loops.{total-more}
@@ -52,7 +53,7 @@ loop-less : tie.Need-loop-less Inv-loop μ-loop
 loop-less c = omega arith
 
 loop-again : tie.Need-loop-again Inv-loop μ-loop
-unfolding storeUse
+unfolding storeAmount
 loop-again c =
     let c-args = c .before .before .before .before .before .before .args in
     let c-pre = c .before .before .before .before .before .before .pre in

@@ -1,0 +1,18 @@
+-- What an action takes of pools and stores, and for how long. Whatever a rule about resources changes, changes here:
+-- everything above goes by these names.
+-- Assumes nothing.
+use Prim.Native.Nat.{ℕ}
+use lib.ListN.{getD}
+use Rattle.job.specs.Job.{Action, Job}
+
+-- "a share is free again in the minute its step ends": how many minutes a share of the pool stays in use after its step
+unfoldable pub handover : Job → ℕ → ℕ
+handover J pool = 0
+
+-- how much of the store a step of the action uses up
+unfoldable pub storeAmount : Job → ℕ → Action → ℕ
+storeAmount J store a = getD (a .stores) store 0
+
+-- how much of the store may be used up: "no more than each store has"
+unfoldable pub storeCap : Job → ℕ → ℕ
+storeCap J store = getD (J .stores) store 0
