@@ -12,10 +12,17 @@ ghost use Rattle.landmarks.specs.Cliques.{WithinLimits, Exceeded, Unreac
 ghost use Rattle.landmarks.specs.Cliques.{ApartTo, LeastTo, LeastPut, CliquesAt, Remaining, CliqueMinutes};
 use crate::shares;
 use earliest::set_time;
+use job::Action;
+use job::Job;
 use tables::Frame;
+use tables::layout::NumberTable;
+use tables::layout::SetTable;
 
 // No plan is longer than a day: a clique that takes more need not be added up further.
-const DAY: u64 = 1440;
+const DAY: u64 = Job::DEADLINE as u64;
+
+// No action takes longer.
+const LONGEST: u32 = Action::DURATION as u32;
 
 // Whether actions i and j use more of some pool together than there is.
 fn exceed(numbers: &[u32], frame: Frame, i: usize, j: usize) -> bool
@@ -25,8 +32,8 @@ fn exceed(numbers: &[u32], frame: Frame, i: usize, j: usize) -> bool
     let available = frame.available;
     let mut pool = 0;
     while pool < frame.pools {
-        let first = shares::wide(numbers[i * 9 + 1 + pool]);
-        let second = shares::wide(numbers[j * 9 + 1 + pool]);
+        let first = shares::wide(numbers[i * NumberTable::ROW + NumberTable::POOLS + pool]);
+        let second = shares::wide(numbers[j * NumberTable::ROW + NumberTable::POOLS + pool]);
         if shares::wide(available[pool]) < first + second {
             return true;
         }
@@ -40,7 +47,7 @@ fn unreached(sets: &[u64], times: &[u32], frame: Frame, i: usize, j: usize) -> b
     requires { ⌜ (length (now sets) ≡ 384) × WithinLimits (now times) frame × (i < 64) × (j < 64) ⌝ }
     ensures { λ r. ⌜ (r ≡ true → Unreached (now (sets .entry)) (now (times .entry)) frame i j) ⌝ }
 {
-    let needs = facts::union(sets[i * 4], sets[j * 4]);
+    let needs = facts::union(sets[i * SetTable::ROW], sets[j * SetTable::ROW]);
     set_time::LATEST < set_time::set_time(times, frame.facts, needs)
 }
 
@@ -54,7 +61,7 @@ fn exclude(sets: &[u64], numbers: &[u32], times: &[u32], frame: Frame, i: usize,
     if i == j {
         return false;
     }
-    if facts::has(sets[i * 4 + 3], j as u8) {
+    if facts::has(sets[i * SetTable::ROW + SetTable::CLASHES], j as u8) {
         return true;
     }
     if exceed(numbers, frame, i, j) {
@@ -74,7 +81,10 @@ fn beside(sets: &[u64], numbers: &[u32], times: &[u32], frame: Frame, i: usize) 
     let mut j = 0;
     while j < frame.actions {
         let apart = exclude(sets, numbers, times, frame, i, j);
-        all = facts::union(facts::when(!apart, sets[j * 4 + 1]), all);
+        all = facts::union(
+            facts::when(!apart, sets[j * SetTable::ROW + SetTable::ADDS]),
+            all,
+        );
         j += 1;
     }
     all
@@ -86,9 +96,9 @@ fn lessen(sets: &mut [u64], from: u64, away: u64)
     ensures { λ r. ⌜ Lessened 64 from away (now (sets .entry)) (now (sets .exit)) ⌝ }
 {
     let mut q = facts::next(from, 0);
-    while q < 64 {
-        let old = sets[320 + q as usize];
-        sets[320 + q as usize] = facts::difference(old, away);
+    while q < facts::BITS {
+        let old = sets[SetTable::APART + q as usize];
+        sets[SetTable::APART + q as usize] = facts::difference(old, away);
         q = facts::next(from, q + 1);
     }
 }
@@ -100,7 +110,7 @@ fn added(sets: &[u64], actions: usize) -> u64
     let mut all: u64 = 0;
     let mut i = 0;
     while i < actions {
-        all = facts::union(sets[i * 4 + 1], all);
+        all = facts::union(sets[i * SetTable::ROW + SetTable::ADDS], all);
         i += 1;
     }
     all
@@ -112,8 +122,8 @@ fn begin(sets: &mut [u64], all: u64)
     ensures { λ r. ⌜ KeptBefore 320 384 (now (sets .entry)) (now (sets .exit)) ⌝ }
 {
     let mut q = 0u8;
-    while q < 64 {
-        sets[320 + q as usize] = all;
+    while q < facts::BITS {
+        sets[SetTable::APART + q as usize] = all;
         q += 1;
     }
 }
@@ -129,7 +139,7 @@ fn fill_apart(sets: &mut [u64], numbers: &[u32], times: &[u32], frame: Frame, st
     let mut i = 0;
     while i < frame.actions {
         let away = beside(sets, numbers, times, frame, i);
-        let from = sets[i * 4 + 1];
+        let from = sets[i * SetTable::ROW + SetTable::ADDS];
         lessen(sets, from, away);
         i += 1;
     }
@@ -141,10 +151,10 @@ fn shorter(sets: &[u64], numbers: &[u32], i: usize, q: u8, best: u32) -> u32
     ensures { λ r. ⌜ (r ≤ best)
         × (has (addsAt (now (sets .entry)) i) q ≡ true → r ≤ durationAt (now (numbers .entry)) i) ⌝ }
 {
-    if !facts::has(sets[i * 4 + 1], q) {
+    if !facts::has(sets[i * SetTable::ROW + SetTable::ADDS], q) {
         return best;
     }
-    let minutes = numbers[i * 9];
+    let minutes = numbers[i * NumberTable::ROW];
     if minutes < best {
         return minutes;
     }
@@ -156,10 +166,10 @@ fn least(sets: &[u64], numbers: &[u32], actions: usize, q: u8) -> u32
     requires { ⌜ (length (now sets) ≡ 384) × (length (now numbers) ≡ 1156) × (actions ≤ 64) × (q < 64) ⌝ }
     ensures { λ r. ⌜ LeastTo (now (sets .entry)) (now (numbers .entry)) actions q r ⌝ }
 {
-    if sets[320 + q as usize] == 0 {
+    if sets[SetTable::APART + q as usize] == 0 {
         return 0;
     }
-    let mut best: u32 = 255;
+    let mut best = LONGEST;
     let mut i = 0;
     while i < actions {
         best = shorter(sets, numbers, i, q, best);
@@ -174,9 +184,9 @@ fn fill_least(numbers: &mut [u32], sets: &[u64], actions: usize)
     ensures { λ r. ⌜ LeastPut (now (sets .entry)) actions 64 (now (numbers .entry)) (now (numbers .exit)) ⌝ }
 {
     let mut q = 0u8;
-    while q < 64 {
+    while q < facts::BITS {
         let minutes = least(sets, numbers, actions, q);
-        numbers[1092 + q as usize] = minutes;
+        numbers[NumberTable::LEAST + q as usize] = minutes;
         q += 1;
     }
 }
@@ -197,7 +207,7 @@ fn longer(numbers: &[u32], p: u8, q: u8) -> u8
     requires { ⌜ (length (now numbers) ≡ 1156) × (p < 64) × (q < 64) ⌝ }
     ensures { λ r. ⌜ (r ≡ p) ⊎ (r ≡ q) ⌝ }
 {
-    if numbers[1092 + p as usize] < numbers[1092 + q as usize] {
+    if numbers[NumberTable::LEAST + p as usize] < numbers[NumberTable::LEAST + q as usize] {
         return q;
     }
     p
@@ -210,7 +220,7 @@ fn longest(numbers: &[u32], set: u64) -> u8
 {
     let mut best = facts::next(set, 0);
     let mut q = best;
-    while q < 64 {
+    while q < facts::BITS {
         best = longer(numbers, best, q);
         q = facts::next(set, q + 1);
     }
@@ -223,7 +233,7 @@ fn pick(numbers: &[u32], allowed: u64, sum: u64) -> u8
     ensures { λ r. ⌜ (r < 64 → (has allowed r ≡ true) × (sum ≤ 1440)) ⌝ }
 {
     if DAY < sum {
-        return 64;
+        return facts::BITS;
     }
     longest(numbers, allowed)
 }
@@ -234,7 +244,7 @@ fn remaining(sets: &[u64], allowed: u64, q: u8) -> u64
     ensures { λ r. ⌜ Remaining (now (sets .entry)) allowed q r ⌝ }
 {
     let others = facts::difference(allowed, facts::single(q));
-    facts::common(others, sets[320 + q as usize])
+    facts::common(others, sets[SetTable::APART + q as usize])
 }
 
 // The minutes of a clique of the set: of the fact with the most minutes, of the one with the most of those apart from
@@ -246,8 +256,8 @@ pub fn minutes(sets: &[u64], numbers: &[u32], set: u64) -> u64
     let mut sum: u64 = 0;
     let mut allowed = set;
     let mut q = pick(numbers, allowed, sum);
-    while q < 64 {
-        sum = shares::wide(numbers[1092 + q as usize]) + sum;
+    while q < facts::BITS {
+        sum = shares::wide(numbers[NumberTable::LEAST + q as usize]) + sum;
         allowed = remaining(sets, allowed, q);
         q = pick(numbers, allowed, sum);
     }

@@ -8,7 +8,10 @@ ghost use Rattle.tables.specs.Tables.{needsAt, poolUseAt};
 ghost use Rattle.landmarks.specs.Cliques.{WithinLimits};
 ghost use Rattle.landmarks.specs.Openings.{OpenTo, OpeningsPut};
 use earliest::set_time;
+use job::Job;
 use tables::Frame;
+use tables::layout::NumberTable;
+use tables::layout::SetTable;
 
 // The earlier of a minute and the time of what action i needs, if that uses the pool.
 fn sooner(
@@ -25,10 +28,10 @@ fn sooner(
     ensures { λ r. ⌜ (r ≤ best) × (0 < poolUseAt (now (numbers .entry)) i pool
         → r ≤ setNumber (now (times .entry)) (needsAt (now (sets .entry)) i) (frame .facts)) ⌝ }
 {
-    if numbers[i * 9 + 1 + pool] == 0 {
+    if numbers[i * NumberTable::ROW + NumberTable::POOLS + pool] == 0 {
         return best;
     }
-    let time = set_time::set_time(times, frame.facts, sets[i * 4]);
+    let time = set_time::set_time(times, frame.facts, sets[i * SetTable::ROW]);
     if time < best {
         return time;
     }
@@ -58,9 +61,9 @@ pub fn fill(numbers: &mut [u32], sets: &[u64], times: &[u32], frame: Frame)
         (now (numbers .entry)) (now (numbers .exit)) ⌝ }
 {
     let mut pool = 0;
-    while pool < 4 {
+    while pool < Job::POOLS {
         let minute = opening(sets, numbers, times, frame, pool);
-        numbers[1088 + pool] = minute;
+        numbers[NumberTable::OPENINGS + pool] = minute;
         pool += 1;
     }
 }

@@ -9,9 +9,22 @@ ghost use Rattle.tables.specs.Tables.{durationAt, Numbers};
 ghost use Rattle.landmarks.specs.Landmarks.{sumOver};
 ghost use Rattle.landmarks.specs.Tables.{KeptBefore, PutFrom, shareFrom, rowAt, weightAt};
 ghost use Rattle.landmarks.specs.Tables.{WithinAt, Within, WithinAll};
+use job::Job;
+use tables::layout::NumberTable;
+use tables::layout::SetTable;
 
 // Parts of a unit: a share of one unit among up to ten facts is a whole number of them.
-const SCALE: u64 = 2520;
+pub const SCALE: u64 = 2520;
+
+// A row has a number for each fact.
+const ROW_SIZE: usize = Job::FACTS as usize;
+
+// The largest share that an entry can have, and how many different ones there are.
+const LARGEST: u32 = 4_294_967_295;
+
+const LARGEST_WIDE: u64 = LARGEST as u64;
+
+const SPAN: u64 = LARGEST_WIDE + 1;
 
 // A number of 32 bits as one of 64.
 pub fn wide(number: u32) -> u64
@@ -27,7 +40,7 @@ pub fn sum(numbers: &[u32], at: usize, set: u64) -> u64
 {
     let mut all: u64 = 0;
     let mut p = facts::next(set, 0);
-    while p < 64 {
+    while p < facts::BITS {
         all = wide(numbers[at + p as usize]) + all;
         p = facts::next(set, p + 1);
     }
@@ -39,10 +52,11 @@ fn weight(numbers: &[u32], i: usize, row: usize) -> u64
     requires { ⌜ (length (now numbers) ≡ 1156) × (i < 64) × (row < 8) × (durationAt (now numbers) i ≤ 255) ⌝ }
     ensures { λ r. ⌜ (r ≡ weightAt (now (numbers .entry)) i row) × (r ≤ 2 ^ 40) ⌝ }
 {
-    if row < 4 {
-        return wide(numbers[i * 9 + 5 + row]);
+    if row < Job::STORES {
+        return wide(numbers[i * NumberTable::ROW + NumberTable::STORES + row]);
     }
-    wide(numbers[i * 9 + 1 + (row - 4)]) * wide(numbers[i * 9])
+    wide(numbers[i * NumberTable::ROW + NumberTable::POOLS + (row - Job::STORES)])
+        * wide(numbers[i * NumberTable::ROW])
 }
 
 // Whether the shares of what action i adds are within its weight.
@@ -51,8 +65,8 @@ fn within_at(sets: &[u64], numbers: &[u32], start: u64, row: usize, i: usize) ->
         × (durationAt (now numbers) i ≤ 255) ⌝ }
     ensures { λ r. ⌜ (r ≡ true → WithinAt (now (sets .entry)) (now (numbers .entry)) start row i) ⌝ }
 {
-    let new = facts::difference(sets[i * 4 + 1], start);
-    sum(numbers, 576 + row * 64, new) <= SCALE * weight(numbers, i, row)
+    let new = facts::difference(sets[i * SetTable::ROW + SetTable::ADDS], start);
+    sum(numbers, NumberTable::SHARES + row * ROW_SIZE, new) <= SCALE * weight(numbers, i, row)
 }
 
 // The same for every action.
@@ -76,7 +90,7 @@ fn count(set: u64) -> u64
 {
     let mut all: u64 = 0;
     let mut p = facts::next(set, 0);
-    while p < 64 {
+    while p < facts::BITS {
         all += 1;
         p = facts::next(set, p + 1);
     }
@@ -91,10 +105,10 @@ fn share(weight: u64, among: u64) -> u32
         return 0;
     }
     let part = SCALE * weight / among;
-    if 4_294_967_295 < part {
-        return 4_294_967_295;
+    if LARGEST_WIDE < part {
+        return LARGEST;
     }
-    (part % 4_294_967_296) as u32
+    (part % SPAN) as u32
 }
 
 // Leaves the lesser of an entry and a share.
@@ -113,7 +127,7 @@ fn lower(numbers: &mut [u32], at: usize, set: u64, share: u32)
     ensures { λ r. ⌜ KeptBefore at 1156 (now (numbers .entry)) (now (numbers .exit)) ⌝ }
 {
     let mut p = facts::next(set, 0);
-    while p < 64 {
+    while p < facts::BITS {
         lower_at(numbers, at + p as usize, share);
         p = facts::next(set, p + 1);
     }
@@ -125,7 +139,7 @@ fn put(numbers: &mut [u32], at: usize, number: u32)
     ensures { λ r. ⌜ PutFrom 64 at number (now (numbers .entry)) (now (numbers .exit)) ⌝ }
 {
     let mut k = 0;
-    while k < 64 {
+    while k < ROW_SIZE {
         numbers[at + k] = number;
         k += 1;
     }
@@ -136,11 +150,11 @@ fn search(numbers: &mut [u32], sets: &[u64], actions: usize, start: u64, row: us
     requires { ⌜ (length (now sets) ≡ 384) × Numbers (now numbers) actions × (row < 8) ⌝ }
     ensures { λ r. ⌜ KeptBefore (rowAt row) 1156 (now (numbers .entry)) (now (numbers .exit)) ⌝ }
 {
-    let at = 576 + row * 64;
-    put(numbers, at, 4_294_967_295);
+    let at = NumberTable::SHARES + row * ROW_SIZE;
+    put(numbers, at, LARGEST);
     let mut i = 0;
     while i < actions {
-        let new = facts::difference(sets[i * 4 + 1], start);
+        let new = facts::difference(sets[i * SetTable::ROW + SetTable::ADDS], start);
         let part = share(weight(numbers, i, row), count(new));
         lower(numbers, at, new, part);
         i += 1;
@@ -155,7 +169,7 @@ fn fill_row(numbers: &mut [u32], sets: &[u64], actions: usize, start: u64, row: 
 {
     search(numbers, sets, actions, start, row);
     if !within(sets, numbers, actions, start, row) {
-        put(numbers, 576 + row * 64, 0);
+        put(numbers, NumberTable::SHARES + row * ROW_SIZE, 0);
     }
 }
 
@@ -166,7 +180,7 @@ pub fn fill(numbers: &mut [u32], sets: &[u64], actions: usize, start: u64)
         × WithinAll (now (sets .entry)) (now (numbers .exit)) actions start ⌝ }
 {
     let mut row = 0;
-    while row < 8 {
+    while row < NumberTable::SHARE_ROWS {
         fill_row(numbers, sets, actions, start, row);
         row += 1;
     }
