@@ -188,28 +188,28 @@ pub least-on : (sets numbers : List ℕ) (q i best less : ℕ) → less ≤ best
     → LeastTo sets numbers (i + 1) q less
 least-on sets numbers q = at-most-on (λ k. has (addsAt sets k) q ≡ true) (durationAt numbers)
 
-pub least-put-at-first : (sets : List ℕ) (actions : ℕ) (xs : List ℕ) → length xs ≡ 1156 → LeastPut sets actions 0 xs xs
+pub least-put-at-first : (sets : List ℕ) (actions : ℕ) (xs : List ℕ) → length xs ≡ 1220 → LeastPut sets actions 0 xs xs
 least-put-at-first sets actions xs size =
-    record { kept = kept-at-first 1092 1156 xs size; least = λ q l. absurd (omega arith) }
+    record { kept = kept-at-first 1156 1220 xs size; least = λ q l. absurd (omega arith) }
 
 pub least-put-on : (sets xs ys : List ℕ) (actions q v : ℕ) → actions ≤ 64 → q < 64 → LeastTo sets ys actions q v
-    → LeastPut sets actions q xs ys → LeastPut sets actions (q + 1) xs (set ys (1092 + q) v)
+    → LeastPut sets actions q xs ys → LeastPut sets actions (q + 1) xs (set ys (1156 + q) v)
 least-put-on sets xs ys actions q v few below here before =
     let size = before .kept .size in
     record {
-      kept = kept-when-set 1092 1156 xs ys (1092 + q) v (omega arith) (before .kept);
+      kept = kept-when-set 1156 1220 xs ys (1156 + q) v (omega arith) (before .kept);
       least = λ k l i known adds.
-          let apart : i * 9 ≡ 1092 + q → ⊥ = λ e. omega arith in
-          let lasts = getD-set-other ys (1092 + q) (i * 9) v 0 apart in
+          let apart : i * 9 ≡ 1156 + q → ⊥ = λ e. omega arith in
+          let lasts = getD-set-other ys (1156 + q) (i * 9) v 0 apart in
           ⊎-elim
           (λ e.
           let same : k ≡ q = omega arith in
-          let put = getD-set-same ys (1092 + q) v 0 (omega arith) in
+          let put = getD-set-same ys (1156 + q) v 0 (omega arith) in
           let least = here i known (rw same at adds) in
           rw (same, put, lasts) least)
           (λ lower.
-          let other : 1092 + k ≡ 1092 + q → ⊥ = λ e. omega arith in
-          let stays = getD-set-other ys (1092 + q) (1092 + k) v 0 other in
+          let other : 1156 + k ≡ 1156 + q → ⊥ = λ e. omega arith in
+          let stays = getD-set-other ys (1156 + q) (1156 + k) v 0 other in
           rw (stays, lasts) (before .least k (omega arith) i known adds))
           (eq-or-lt-of-le l);
     }

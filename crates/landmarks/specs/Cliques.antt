@@ -55,7 +55,7 @@ abbrev pub apartAt : List ℕ → ℕ → ℕ
 apartAt sets q = getD sets (320 + q) 0
 
 abbrev pub leastAt : List ℕ → ℕ → ℕ
-leastAt numbers q = getD numbers (1092 + q) 0
+leastAt numbers q = getD numbers (1156 + q) 0
 
 -- actions i and j use more of some pool together than there is
 abbrev pub Exceeded : List ℕ → Frame → ℕ → ℕ → Type 0
@@ -115,7 +115,7 @@ pub record Lessened (n from away : ℕ) (xs ys : List ℕ) : Type 0 where
 
 -- the minutes of the first n facts are put
 pub record LeastPut (sets : List ℕ) (actions n : ℕ) (xs ys : List ℕ) : Type 0 where
-  pub kept : KeptBefore 1092 1156 xs ys
+  pub kept : KeptBefore 1156 1220 xs ys
   pub least : (q : ℕ) → q < n → LeastTo sets ys actions q (leastAt ys q)
 
 -- of the allowed facts, those that are apart from fact q, without q

@@ -23,7 +23,7 @@ OpensAt J b L pool minute =
 
 -- where the table of numbers has the opening of a pool
 abbrev pub openAt : List ℕ → ℕ → ℕ
-openAt numbers pool = getD numbers (1088 + pool) 0
+openAt numbers pool = getD numbers (1152 + pool) 0
 
 -- what the first n actions need that use the pool is not there before the minute
 abbrev pub OpenTo : List ℕ → List ℕ → List ℕ → Frame → ℕ → ℕ → ℕ → Type 0
@@ -39,5 +39,5 @@ OpeningsTo sets numbers times frame n =
 
 -- the openings of the first n pools are put
 pub record OpeningsPut (sets times : List ℕ) (frame : Frame) (n : ℕ) (xs ys : List ℕ) : Type 0 where
-  pub kept : KeptBefore 1088 1156 xs ys
+  pub kept : KeptBefore 1152 1220 xs ys
   pub openings : OpeningsTo sets ys times frame n

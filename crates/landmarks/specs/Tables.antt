@@ -19,14 +19,15 @@ markAt sets q = getD sets (256 + q) 0
 abbrev pub shareFrom : List ℕ → ℕ → ℕ → ℕ
 shareFrom numbers at p = getD numbers (at + p) 0
 
--- where the table of numbers has the row of a store, 0 to 3, or of a pool, 4 to 7
+-- where the table of numbers has the row of a store, 0 to 3, of a pool, 4 to 7, or of steps, 8
 abbrev pub rowAt : ℕ → ℕ
 rowAt row = 576 + row * 64
 
--- what action i uses of the row's store, or its minutes times what it uses of the row's pool
+-- what action i uses of the row's store, or its minutes times what it uses of the row's pool, or one for a step
 abbrev pub weightAt : List ℕ → ℕ → ℕ → ℕ
 weightAt numbers i row =
-    cond (ltb row 4) (storeUseAt numbers i row) (poolUseAt numbers i (row - 4) * durationAt numbers i)
+    cond (ltb row 4) (storeUseAt numbers i row)
+    (cond (ltb row 8) (poolUseAt numbers i (row - 4) * durationAt numbers i) 1)
 
 -- the shares of what action i adds are within its weight, in parts of 2,520
 abbrev pub WithinAt : List ℕ → List ℕ → ℕ → ℕ → ℕ → Type 0
@@ -38,7 +39,7 @@ abbrev pub Within : List ℕ → List ℕ → ℕ → ℕ → ℕ → Type 0
 Within sets numbers actions start row = (i : ℕ) → i < actions → WithinAt sets numbers start row i
 
 abbrev pub WithinAll : List ℕ → List ℕ → ℕ → ℕ → Type 0
-WithinAll sets numbers actions start = (row : ℕ) → row < 8 → Within sets numbers actions start row
+WithinAll sets numbers actions start = (row : ℕ) → row < 9 → Within sets numbers actions start row
 
 -- ---- what inner functions promise
 
@@ -54,7 +55,7 @@ pub record Begun (n start all : ℕ) (xs ys : List ℕ) : Type 0 where
 
 -- n times the number from the place on, and before it the entries of xs
 pub record PutFrom (n at number : ℕ) (xs ys : List ℕ) : Type 0 where
-  pub kept : KeptBefore at 1156 xs ys
+  pub kept : KeptBefore at 1220 xs ys
   pub put : (k : ℕ) → k < n → getD ys (at + k) 0 ≡ number
 
 -- r is within all, and within the landmarks of what action i needs, if it adds q

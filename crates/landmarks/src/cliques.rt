@@ -26,7 +26,7 @@ const LONGEST: u32 = Action::DURATION as u32;
 
 // Whether actions i and j use more of some pool together than there is.
 fn exceed(numbers: &[u32], frame: Frame, i: usize, j: usize) -> bool
-    requires { ⌜ (length (now numbers) ≡ 1156) × (frame .pools ≤ 4) × (i < 64) × (j < 64) ⌝ }
+    requires { ⌜ (length (now numbers) ≡ 1220) × (frame .pools ≤ 4) × (i < 64) × (j < 64) ⌝ }
     ensures { λ r. ⌜ (r ≡ true → Exceeded (now (numbers .entry)) frame i j) ⌝ }
 {
     let available = frame.available;
@@ -53,7 +53,7 @@ fn unreached(sets: &[u64], times: &[u32], frame: Frame, i: usize, j: usize) -> b
 
 // Whether actions i and j are different, and never overlap.
 fn exclude(sets: &[u64], numbers: &[u32], times: &[u32], frame: Frame, i: usize, j: usize) -> bool
-    requires { ⌜ (length (now sets) ≡ 384) × (length (now numbers) ≡ 1156) × WithinLimits (now times) frame
+    requires { ⌜ (length (now sets) ≡ 384) × (length (now numbers) ≡ 1220) × WithinLimits (now times) frame
         × (i < 64) × (j < 64) ⌝ }
     ensures { λ r. ⌜ (r ≡ true
         → Exclude (now (sets .entry)) (now (numbers .entry)) (now (times .entry)) frame i j) ⌝ }
@@ -72,7 +72,7 @@ fn exclude(sets: &[u64], numbers: &[u32], times: &[u32], frame: Frame, i: usize,
 
 // What the actions add that can overlap action i, and action i itself.
 fn beside(sets: &[u64], numbers: &[u32], times: &[u32], frame: Frame, i: usize) -> u64
-    requires { ⌜ (length (now sets) ≡ 384) × (length (now numbers) ≡ 1156) × WithinLimits (now times) frame
+    requires { ⌜ (length (now sets) ≡ 384) × (length (now numbers) ≡ 1220) × WithinLimits (now times) frame
         × (i < 64) ⌝ }
     ensures { λ r. ⌜ Outside (now (sets .entry)) (now (numbers .entry)) (now (times .entry)) frame i
         (frame .actions) r ⌝ }
@@ -130,7 +130,7 @@ fn begin(sets: &mut [u64], all: u64)
 
 // Puts for each fact those that are apart from it, of the facts that actions add and that are not there at the start.
 fn fill_apart(sets: &mut [u64], numbers: &[u32], times: &[u32], frame: Frame, start: u64)
-    requires { ⌜ (length (now sets) ≡ 384) × (length (now numbers) ≡ 1156) × WithinLimits (now times) frame ⌝ }
+    requires { ⌜ (length (now sets) ≡ 384) × (length (now numbers) ≡ 1220) × WithinLimits (now times) frame ⌝ }
     ensures { λ r. ⌜ KeptBefore 320 384 (now (sets .entry)) (now (sets .exit))
         × ApartTo (now (sets .exit)) (now (numbers .entry)) (now (times .entry)) frame (frame .actions) ⌝ }
 {
@@ -147,7 +147,7 @@ fn fill_apart(sets: &mut [u64], numbers: &[u32], times: &[u32], frame: Frame, st
 
 // The lesser of a number and the minutes of action i, if that adds q.
 fn shorter(sets: &[u64], numbers: &[u32], i: usize, q: u8, best: u32) -> u32
-    requires { ⌜ (length (now sets) ≡ 384) × (length (now numbers) ≡ 1156) × (i < 64) ⌝ }
+    requires { ⌜ (length (now sets) ≡ 384) × (length (now numbers) ≡ 1220) × (i < 64) ⌝ }
     ensures { λ r. ⌜ (r ≤ best)
         × (has (addsAt (now (sets .entry)) i) q ≡ true → r ≤ durationAt (now (numbers .entry)) i) ⌝ }
 {
@@ -163,7 +163,7 @@ fn shorter(sets: &[u64], numbers: &[u32], i: usize, q: u8, best: u32) -> u32
 
 // The least minutes of an action that adds q, and none where nothing is apart from q.
 fn least(sets: &[u64], numbers: &[u32], actions: usize, q: u8) -> u32
-    requires { ⌜ (length (now sets) ≡ 384) × (length (now numbers) ≡ 1156) × (actions ≤ 64) × (q < 64) ⌝ }
+    requires { ⌜ (length (now sets) ≡ 384) × (length (now numbers) ≡ 1220) × (actions ≤ 64) × (q < 64) ⌝ }
     ensures { λ r. ⌜ LeastTo (now (sets .entry)) (now (numbers .entry)) actions q r ⌝ }
 {
     if sets[SetTable::APART + q as usize] == 0 {
@@ -180,7 +180,7 @@ fn least(sets: &[u64], numbers: &[u32], actions: usize, q: u8) -> u32
 
 // Puts the least minutes of each fact.
 fn fill_least(numbers: &mut [u32], sets: &[u64], actions: usize)
-    requires { ⌜ (length (now sets) ≡ 384) × (length (now numbers) ≡ 1156) × (actions ≤ 64) ⌝ }
+    requires { ⌜ (length (now sets) ≡ 384) × (length (now numbers) ≡ 1220) × (actions ≤ 64) ⌝ }
     ensures { λ r. ⌜ LeastPut (now (sets .entry)) actions 64 (now (numbers .entry)) (now (numbers .exit)) ⌝ }
 {
     let mut q = 0u8;
@@ -193,9 +193,9 @@ fn fill_least(numbers: &mut [u32], sets: &[u64], actions: usize)
 
 // Puts into the tables, for each fact, the facts that are apart from it and its least minutes.
 pub fn fill(sets: &mut [u64], numbers: &mut [u32], times: &[u32], frame: Frame, start: u64)
-    requires { ⌜ (length (now sets) ≡ 384) × (length (now numbers) ≡ 1156) × WithinLimits (now times) frame ⌝ }
+    requires { ⌜ (length (now sets) ≡ 384) × (length (now numbers) ≡ 1220) × WithinLimits (now times) frame ⌝ }
     ensures { λ r. ⌜ KeptBefore 320 384 (now (sets .entry)) (now (sets .exit))
-        × KeptBefore 1092 1156 (now (numbers .entry)) (now (numbers .exit))
+        × KeptBefore 1156 1220 (now (numbers .entry)) (now (numbers .exit))
         × CliquesAt (now (sets .exit)) (now (numbers .exit)) (now (times .entry)) frame ⌝ }
 {
     fill_apart(sets, numbers, times, frame, start);
@@ -204,7 +204,7 @@ pub fn fill(sets: &mut [u64], numbers: &mut [u32], times: &[u32], frame: Frame, 
 
 // The one of two facts with more minutes.
 fn longer(numbers: &[u32], p: u8, q: u8) -> u8
-    requires { ⌜ (length (now numbers) ≡ 1156) × (p < 64) × (q < 64) ⌝ }
+    requires { ⌜ (length (now numbers) ≡ 1220) × (p < 64) × (q < 64) ⌝ }
     ensures { λ r. ⌜ (r ≡ p) ⊎ (r ≡ q) ⌝ }
 {
     if numbers[NumberTable::LEAST + p as usize] < numbers[NumberTable::LEAST + q as usize] {
@@ -215,7 +215,7 @@ fn longer(numbers: &[u32], p: u8, q: u8) -> u8
 
 // The fact of a set with the most minutes, 64 where the set is empty.
 fn longest(numbers: &[u32], set: u64) -> u8
-    requires { ⌜ length (now numbers) ≡ 1156 ⌝ }
+    requires { ⌜ length (now numbers) ≡ 1220 ⌝ }
     ensures { λ r. ⌜ (r < 64 → has set r ≡ true) ⌝ }
 {
     let mut best = facts::next(set, 0);
@@ -229,7 +229,7 @@ fn longest(numbers: &[u32], set: u64) -> u8
 
 // The allowed fact to be taken next, 64 where none is left or the sum is above a day.
 fn pick(numbers: &[u32], allowed: u64, sum: u64) -> u8
-    requires { ⌜ length (now numbers) ≡ 1156 ⌝ }
+    requires { ⌜ length (now numbers) ≡ 1220 ⌝ }
     ensures { λ r. ⌜ (r < 64 → (has allowed r ≡ true) × (sum ≤ 1440)) ⌝ }
 {
     if DAY < sum {
@@ -250,7 +250,7 @@ fn remaining(sets: &[u64], allowed: u64, q: u8) -> u64
 // The minutes of a clique of the set: of the fact with the most minutes, of the one with the most of those apart from
 // it, and so on.
 pub fn minutes(sets: &[u64], numbers: &[u32], set: u64) -> u64
-    requires { ⌜ (length (now sets) ≡ 384) × (length (now numbers) ≡ 1156) ⌝ }
+    requires { ⌜ (length (now sets) ≡ 384) × (length (now numbers) ≡ 1220) ⌝ }
     ensures { λ r. ⌜ CliqueMinutes (now (sets .entry)) (now (numbers .entry)) set r ⌝ }
 {
     let mut sum: u64 = 0;

@@ -1,6 +1,6 @@
 // Landmarks: what every plan that makes a fact true must add on the way, and what that takes at least.
 pub mod marks; // the landmarks of each fact
-pub mod shares; // what a fact takes of each store and pool at least
+pub mod shares; // what a fact takes of each store, of each pool and of the steps at least
 mod openings; // before which minute a pool is not used
 pub mod cliques; // facts whose adders never overlap
 
@@ -16,7 +16,7 @@ use tables::Frame;
 pub fn fill(sets: &mut [u64], numbers: &mut [u32], times: &[u32], frame: Frame, start: u64)
     requires { ⌜ (length (now sets) ≡ 384) × Numbers (now numbers) (frame .actions) × WithinLimits (now times) frame ⌝ }
     ensures { λ r. ⌜ KeptBefore 256 384 (now (sets .entry)) (now (sets .exit))
-        × KeptBefore 576 1156 (now (numbers .entry)) (now (numbers .exit))
+        × KeptBefore 576 1220 (now (numbers .entry)) (now (numbers .exit))
         × MarkedTables (now (sets .exit)) (now (numbers .exit)) (now (times .entry)) frame start ⌝ }
 {
     marks::fill(sets, frame.actions, start);

@@ -1,6 +1,6 @@
-// Shares: what a fact takes of each store, and of the minutes of each pool, at least, in parts of 2,520 to the unit.
-// Eight rows of 64 numbers, four for stores and four for pools, behind the numbers of the actions:
-// found, and then tested.
+// Shares: what a fact takes of each store, of the minutes of each pool, and of the steps, at least, in parts of 2,520 to
+// the unit. Nine rows of 64 numbers, four for stores, four for pools and one for steps, behind the numbers of the
+// actions: found, and then tested.
 ghost use mathlib.Core.Path.{_≡_};
 ghost use mathlib.Core.Bool.{true};
 ghost use Prim.Native.Nat.{_+_, _*_, _^_, _≤_, _<_};
@@ -35,7 +35,7 @@ pub fn wide(number: u32) -> u64
 
 // The sum over the facts of a set of the numbers from place `at` on.
 pub fn sum(numbers: &[u32], at: usize, set: u64) -> u64
-    requires { ⌜ (length (now numbers) ≡ 1156) × (at + 64 ≤ 1156) ⌝ }
+    requires { ⌜ (length (now numbers) ≡ 1220) × (at + 64 ≤ 1220) ⌝ }
     ensures { λ r. ⌜ (r ≡ sumOver (shareFrom (now (numbers .entry)) at) 64 set) × (r ≤ 2 ^ 38) ⌝ }
 {
     let mut all: u64 = 0;
@@ -47,21 +47,24 @@ pub fn sum(numbers: &[u32], at: usize, set: u64) -> u64
     all
 }
 
-// What action i uses of the row's store, or its minutes times what it uses of the row's pool.
+// What action i uses of the row's store, or its minutes times what it uses of the row's pool, or one for a step.
 fn weight(numbers: &[u32], i: usize, row: usize) -> u64
-    requires { ⌜ (length (now numbers) ≡ 1156) × (i < 64) × (row < 8) × (durationAt (now numbers) i ≤ 255) ⌝ }
+    requires { ⌜ (length (now numbers) ≡ 1220) × (i < 64) × (row < 9) × (durationAt (now numbers) i ≤ 255) ⌝ }
     ensures { λ r. ⌜ (r ≡ weightAt (now (numbers .entry)) i row) × (r ≤ 2 ^ 40) ⌝ }
 {
     if row < Job::STORES {
         return wide(numbers[i * NumberTable::ROW + NumberTable::STORES + row]);
     }
-    wide(numbers[i * NumberTable::ROW + NumberTable::POOLS + (row - Job::STORES)])
-        * wide(numbers[i * NumberTable::ROW])
+    if row < NumberTable::STEPS_ROW {
+        let amount = wide(numbers[i * NumberTable::ROW + NumberTable::POOLS + (row - Job::STORES)]);
+        return amount * wide(numbers[i * NumberTable::ROW]);
+    }
+    1
 }
 
 // Whether the shares of what action i adds are within its weight.
 fn within_at(sets: &[u64], numbers: &[u32], start: u64, row: usize, i: usize) -> bool
-    requires { ⌜ (length (now sets) ≡ 384) × (length (now numbers) ≡ 1156) × (i < 64) × (row < 8)
+    requires { ⌜ (length (now sets) ≡ 384) × (length (now numbers) ≡ 1220) × (i < 64) × (row < 9)
         × (durationAt (now numbers) i ≤ 255) ⌝ }
     ensures { λ r. ⌜ (r ≡ true → WithinAt (now (sets .entry)) (now (numbers .entry)) start row i) ⌝ }
 {
@@ -71,7 +74,7 @@ fn within_at(sets: &[u64], numbers: &[u32], start: u64, row: usize, i: usize) ->
 
 // The same for every action.
 fn within(sets: &[u64], numbers: &[u32], actions: usize, start: u64, row: usize) -> bool
-    requires { ⌜ (length (now sets) ≡ 384) × Numbers (now numbers) actions × (row < 8) ⌝ }
+    requires { ⌜ (length (now sets) ≡ 384) × Numbers (now numbers) actions × (row < 9) ⌝ }
     ensures { λ r. ⌜ (r ≡ true → Within (now (sets .entry)) (now (numbers .entry)) actions start row) ⌝ }
 {
     let mut i = 0;
@@ -113,8 +116,8 @@ fn share(weight: u64, among: u64) -> u32
 
 // Leaves the lesser of an entry and a share.
 fn lower_at(numbers: &mut [u32], at: usize, share: u32)
-    requires { ⌜ (length (now numbers) ≡ 1156) × (at < 1156) ⌝ }
-    ensures { λ r. ⌜ KeptBefore at 1156 (now (numbers .entry)) (now (numbers .exit)) ⌝ }
+    requires { ⌜ (length (now numbers) ≡ 1220) × (at < 1220) ⌝ }
+    ensures { λ r. ⌜ KeptBefore at 1220 (now (numbers .entry)) (now (numbers .exit)) ⌝ }
 {
     if share < numbers[at] {
         numbers[at] = share;
@@ -123,8 +126,8 @@ fn lower_at(numbers: &mut [u32], at: usize, share: u32)
 
 // The same for the facts of a set, from place `at` on.
 fn lower(numbers: &mut [u32], at: usize, set: u64, share: u32)
-    requires { ⌜ (length (now numbers) ≡ 1156) × (at + 64 ≤ 1156) ⌝ }
-    ensures { λ r. ⌜ KeptBefore at 1156 (now (numbers .entry)) (now (numbers .exit)) ⌝ }
+    requires { ⌜ (length (now numbers) ≡ 1220) × (at + 64 ≤ 1220) ⌝ }
+    ensures { λ r. ⌜ KeptBefore at 1220 (now (numbers .entry)) (now (numbers .exit)) ⌝ }
 {
     let mut p = facts::next(set, 0);
     while p < facts::BITS {
@@ -135,7 +138,7 @@ fn lower(numbers: &mut [u32], at: usize, set: u64, share: u32)
 
 // Puts a number into each of 64 entries from place `at` on.
 fn put(numbers: &mut [u32], at: usize, number: u32)
-    requires { ⌜ (length (now numbers) ≡ 1156) × (at + 64 ≤ 1156) ⌝ }
+    requires { ⌜ (length (now numbers) ≡ 1220) × (at + 64 ≤ 1220) ⌝ }
     ensures { λ r. ⌜ PutFrom 64 at number (now (numbers .entry)) (now (numbers .exit)) ⌝ }
 {
     let mut k = 0;
@@ -147,8 +150,8 @@ fn put(numbers: &mut [u32], at: usize, number: u32)
 
 // Puts the least share of each fact into the row.
 fn search(numbers: &mut [u32], sets: &[u64], actions: usize, start: u64, row: usize)
-    requires { ⌜ (length (now sets) ≡ 384) × Numbers (now numbers) actions × (row < 8) ⌝ }
-    ensures { λ r. ⌜ KeptBefore (rowAt row) 1156 (now (numbers .entry)) (now (numbers .exit)) ⌝ }
+    requires { ⌜ (length (now sets) ≡ 384) × Numbers (now numbers) actions × (row < 9) ⌝ }
+    ensures { λ r. ⌜ KeptBefore (rowAt row) 1220 (now (numbers .entry)) (now (numbers .exit)) ⌝ }
 {
     let at = NumberTable::SHARES + row * ROW_SIZE;
     put(numbers, at, LARGEST);
@@ -163,8 +166,8 @@ fn search(numbers: &mut [u32], sets: &[u64], actions: usize, start: u64, row: us
 
 // Fills one row, and puts it to nothing should it not pass the test.
 fn fill_row(numbers: &mut [u32], sets: &[u64], actions: usize, start: u64, row: usize)
-    requires { ⌜ (length (now sets) ≡ 384) × Numbers (now numbers) actions × (row < 8) ⌝ }
-    ensures { λ r. ⌜ KeptBefore (rowAt row) 1156 (now (numbers .entry)) (now (numbers .exit))
+    requires { ⌜ (length (now sets) ≡ 384) × Numbers (now numbers) actions × (row < 9) ⌝ }
+    ensures { λ r. ⌜ KeptBefore (rowAt row) 1220 (now (numbers .entry)) (now (numbers .exit))
         × Within (now (sets .entry)) (now (numbers .exit)) actions start row ⌝ }
 {
     search(numbers, sets, actions, start, row);
@@ -176,7 +179,7 @@ fn fill_row(numbers: &mut [u32], sets: &[u64], actions: usize, start: u64, row: 
 // Fills all rows.
 pub fn fill(numbers: &mut [u32], sets: &[u64], actions: usize, start: u64)
     requires { ⌜ (length (now sets) ≡ 384) × Numbers (now numbers) actions ⌝ }
-    ensures { λ r. ⌜ KeptBefore 576 1156 (now (numbers .entry)) (now (numbers .exit))
+    ensures { λ r. ⌜ KeptBefore 576 1220 (now (numbers .entry)) (now (numbers .exit))
         × WithinAll (now (sets .entry)) (now (numbers .exit)) actions start ⌝ }
 {
     let mut row = 0;

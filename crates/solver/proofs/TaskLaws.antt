@@ -57,7 +57,7 @@ numbers-of-job job sets numbers passes filled =
 
 -- the tables of the actions stay while those of the facts are filled
 pub filled-still : (job : held.Job) (sets numbers sets′ numbers′ : List ℕ) → first (jobRows (jobIn job)) ≡ Pass
-    → Filled job sets numbers → KeptBefore 256 384 sets sets′ → KeptBefore 576 1156 numbers numbers′
+    → Filled job sets numbers → KeptBefore 256 384 sets sets′ → KeptBefore 576 1220 numbers numbers′
     → Filled job sets′ numbers′
 filled-still job sets numbers sets′ numbers′ passes filled keptSets keptNumbers =
     let fits = fits-of-pass job passes in

@@ -72,7 +72,7 @@ pub record Describes (J : Job) (sets numbers : List ℕ) (frame : Frame) : Type 
 
 -- a table of numbers that is long enough, with durations of one byte
 pub record Numbers (numbers : List ℕ) (actions : ℕ) : Type 0 where
-  pub numberCount : length numbers ≡ 1156
+  pub numberCount : length numbers ≡ 1220
   pub few : actions ≤ 64
   pub short : (i : ℕ) → i < actions → durationAt numbers i ≤ 255
 
