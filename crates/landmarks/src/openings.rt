@@ -5,7 +5,7 @@ ghost use Prim.Native.Nat.{_≤_, _<_};
 ghost use lib.ListN.{length};
 ghost use Rattle.earliest.specs.Numbers.{setNumber};
 ghost use Rattle.tables.specs.Tables.{needsAt, poolUseAt};
-ghost use Rattle.landmarks.specs.Cliques.{WithinLimits};
+ghost use Rattle.landmarks.specs.Marked.{WithinLimits};
 ghost use Rattle.landmarks.specs.Openings.{OpenTo, OpeningsPut};
 use earliest::set_time;
 use job::Job;

@@ -1,5 +1,5 @@
-// Shares: what a fact takes of each store, of the minutes of each pool, and of the steps, at least, in parts of 2,520 to
-// the unit. Nine rows of 64 numbers, four for stores, four for pools and one for steps, behind the numbers of the
+// Shares: what a fact takes of each store, of the minutes of each pool, and of the steps, at least, in parts of 2,520
+// to the unit. Nine rows of 64 numbers, four for stores, four for pools and one for steps, behind the numbers of the
 // actions: found, and then tested.
 ghost use mathlib.Core.Path.{_≡_};
 ghost use mathlib.Core.Bool.{true};
