@@ -16,7 +16,7 @@ use Rattle.tables.specs.declared.Frame.{Frame}
 use Rattle.tables.specs.Tables.{addsAt, durationAt}
 use Rattle.landmarks.specs.Tables.{KeptBefore}
 use Rattle.landmarks.specs.Marked.{WithinLimits, LandmarkTables}
-use Rattle.landmarks.proofs.TableLaws.{kept-at-first, kept-when-set, kept-again, at-most-on}
+use Rattle.landmarks.proofs.TableLaws.{kept-at-first, kept-when-set, kept-again, put-on, at-most-on}
 use Rattle.landmarks.proofs.ShareLaws.{kept-less}
 use Rattle.landmarks.proofs.KeptTables.{landmarks-stay}
 use Rattle.cliques.specs.Cliques.{apartAt, Exclude, CliquesAt, ApartTo, LeastTo, Outside, Lessened, LeastPut}
@@ -128,31 +128,17 @@ pub least-on : (sets numbers : List ℕ) (q i best less : ℕ) → less ≤ best
     → LeastTo sets numbers (i + 1) q less
 least-on sets numbers q = at-most-on (λ k. has (addsAt sets k) q ≡ true) (durationAt numbers)
 
-pub least-put-at-first : (sets : List ℕ) (actions : ℕ) (xs : List ℕ) → length xs ≡ 1220 → LeastPut sets actions 0 xs xs
-least-put-at-first sets actions xs size =
-    record { kept = kept-at-first 1156 1220 xs size; least = λ q l. absurd (omega arith) }
+-- the durations stand before the least minutes
+least-still : (sets : List ℕ) (actions : ℕ) → actions ≤ 64 → (ys : List ℕ) (at v q minutes : ℕ) → 1156 ≤ at → q < 64
+    → LeastTo sets ys actions q minutes → LeastTo sets (set ys at v) actions q minutes
+least-still sets actions few ys at v q minutes behind below least i known adds =
+    let apart : i * 9 ≡ at → ⊥ = λ e. omega arith in
+    rw (getD-set-other ys at (i * 9) v 0 apart) (least i known adds)
 
 pub least-put-on : (sets xs ys : List ℕ) (actions q v : ℕ) → actions ≤ 64 → q < 64 → LeastTo sets ys actions q v
     → LeastPut sets actions q xs ys → LeastPut sets actions (q + 1) xs (set ys (1156 + q) v)
-least-put-on sets xs ys actions q v few below here before =
-    let size = before .kept .size in
-    record {
-      kept = kept-when-set 1156 1220 xs ys (1156 + q) v (omega arith) (before .kept);
-      least = λ k l i known adds.
-          let apart : i * 9 ≡ 1156 + q → ⊥ = λ e. omega arith in
-          let lasts = getD-set-other ys (1156 + q) (i * 9) v 0 apart in
-          ⊎-elim
-          (λ e.
-          let same : k ≡ q = omega arith in
-          let put = getD-set-same ys (1156 + q) v 0 (omega arith) in
-          let least = here i known (rw same at adds) in
-          rw (same, put, lasts) least)
-          (λ lower.
-          let other : 1156 + k ≡ 1156 + q → ⊥ = λ e. omega arith in
-          let stays = getD-set-other ys (1156 + q) (1156 + k) v 0 other in
-          rw (stays, lasts) (before .least k (omega arith) i known adds))
-          (eq-or-lt-of-le l);
-    }
+least-put-on sets xs ys actions q v few =
+    put-on 1156 1220 64 (λ ys. LeastTo sets ys actions) (omega arith) (least-still sets actions few) xs ys q v
 
 -- both tables
 cliques-filled : (sets xs ys times : List ℕ) (frame : Frame) → frame .actions ≤ 64 → frame .pools ≤ 4
@@ -175,7 +161,7 @@ cliques-filled sets xs ys times frame few fewPools apart put =
                 (λ late. inr (inr late)))
                 (exclude .why);
           };
-      shortest = put .least;
+      shortest = put .put;
     }
 
 -- landmarks are put first, then the facts that are apart, then the least minutes, each behind what is there

@@ -16,7 +16,7 @@ use Rattle.times.proofs.PlanSteps.{PlanOf}
 use Rattle.earliest.specs.Numbers.{setNumber}
 use Rattle.tables.specs.declared.Frame.{Frame}
 use Rattle.tables.specs.Tables.{clashes, needsAt, addsAt, clashesAt, durationAt, poolUseAt}
-use Rattle.landmarks.specs.Tables.{KeptBefore}
+use Rattle.landmarks.specs.Tables.{KeptBefore, PutBehind}
 
 -- in no plan of the kept steps K and else steps that start at minute b or later does a set hold from b on
 abbrev pub NeverHolds : Job → ℕ → List Step → ℕ → Type 0
@@ -107,9 +107,8 @@ pub record Lessened (n from away : ℕ) (xs ys : List ℕ) : Type 0 where
   pub gone : (q p : ℕ) → q < n → has from q ≡ true → has (apartAt ys q) p ≡ true → has away p ≡ false
 
 -- the minutes of the first n facts are put
-pub record LeastPut (sets : List ℕ) (actions n : ℕ) (xs ys : List ℕ) : Type 0 where
-  pub kept : KeptBefore 1156 1220 xs ys
-  pub least : (q : ℕ) → q < n → LeastTo sets ys actions q (leastAt ys q)
+abbrev pub LeastPut : List ℕ → ℕ → ℕ → List ℕ → List ℕ → Type 0
+LeastPut sets actions n = PutBehind 1156 1220 n (λ ys. LeastTo sets ys actions)
 
 -- of the allowed facts, those that are apart from fact q, without q
 pub record Remaining (sets : List ℕ) (allowed q rest : ℕ) : Type 0 where

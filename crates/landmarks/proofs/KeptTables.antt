@@ -58,7 +58,7 @@ module _ (times : List ℕ) (frame : Frame) (start : ℕ) (few : frame .actions 
       closed = closed;
       within = within-all-kept _ start few sets sets (kept-at-first 320 384 sets size) numbers′ numbers″ (put .kept)
           within;
-      openings = put .openings;
+      openings = put .put;
     },
   )
 

@@ -1,14 +1,13 @@
 -- Shares in the table: rows that are put, kept and tested.
 -- Assumes nothing.
 use Prim.Native.Nat.{ℕ, zero, suc, _+_, _*_, _-_, _≤_, _<_}
-use mathlib.Core.Path.{_≡_, refl, ap, ap₂, _∙_}
+use mathlib.Core.Path.{_≡_, refl, ap, ap₂}
 use mathlib.Core.Bool.{Bool, true, false, cond}
 use mathlib.Core.Logic.{⊎-elim}
 use mathlib.Core.List.{List}
 use native.Mathlib.Nat.{eq-or-lt-of-le}
 use native.Mathlib.Omega.{arith}
-use lib.ListN.{length, getD, set}
-use lib.Seq.{getD-set-same, getD-set-other}
+use lib.ListN.{length, getD}
 use borrow.Author.Tests.{lt-ltb, le-ltb}
 use Rattle.facts.specs.FactSet.{has, difference}
 use Rattle.job.specs.Job.{Job}
@@ -17,29 +16,6 @@ use Rattle.times.specs.Earliest.{actionOf}
 use Rattle.tables.specs.Tables.{addsAt, DescribesEach, Numbers}
 use Rattle.landmarks.specs.Landmarks.{sumOver, Shares}
 use Rattle.landmarks.specs.Tables.{KeptBefore, PutFrom, shareFrom, rowAt, weightAt, Within, WithinAll}
-use Rattle.landmarks.proofs.TableLaws.{kept-at-first, kept-when-set}
-
--- ---- one number in each entry
-pub put-at-first : (at number : ℕ) (xs : List ℕ) → length xs ≡ 1220 → PutFrom 0 at number xs xs
-put-at-first at number xs size =
-    record { kept = kept-at-first at 1220 xs size; put = λ k l. absurd (omega arith) }
-
-pub put-on : (at number : ℕ) (xs ys : List ℕ) (k : ℕ) → at + k < 1220 → PutFrom k at number xs ys
-    → PutFrom (k + 1) at number xs (set ys (at + k) number)
-put-on at number xs ys k l before =
-    let size = before .kept .size in
-    record {
-      kept = kept-when-set at 1220 xs ys (at + k) number (omega arith) (before .kept);
-      put = λ j m.
-          ⊎-elim
-          (λ e.
-          let same : j ≡ k = omega arith in
-          rw same (getD-set-same ys (at + k) number 0 (omega arith)))
-          (λ less.
-          let other : at + j ≡ at + k → ⊥ = λ e. omega arith in
-          getD-set-other ys (at + k) (at + j) number 0 other ∙ before .put j (omega arith))
-          (eq-or-lt-of-le m);
-    }
 
 -- ---- entries before a place stay, also when less is asked
 pub kept-less : (less at n : ℕ) (xs ys : List ℕ) → less ≤ at → KeptBefore at n xs ys → KeptBefore less n xs ys

@@ -48,15 +48,18 @@ pub record KeptBefore (at n : ℕ) (xs ys : List ℕ) : Type 0 where
   pub size : length ys ≡ n
   pub same : SameBefore at xs ys
 
--- and behind them, for the first n facts, nothing for those at the start and all for the others
-pub record Begun (n start all : ℕ) (xs ys : List ℕ) : Type 0 where
-  pub kept : KeptBefore 256 384 xs ys
-  pub put : (q : ℕ) → q < n → markAt ys q ≡ cond (not (has start q)) all 0
+-- and of each of the first n entries from the place on holds what is asked of it
+pub record PutBehind (at size n : ℕ) (Asked : List ℕ → ℕ → ℕ → Type 0) (xs ys : List ℕ) : Type 0 where
+  pub kept : KeptBefore at size xs ys
+  pub put : (k : ℕ) → k < n → Asked ys k (getD ys (at + k) 0)
 
--- n times the number from the place on, and before it the entries of xs
-pub record PutFrom (n at number : ℕ) (xs ys : List ℕ) : Type 0 where
-  pub kept : KeptBefore at 1220 xs ys
-  pub put : (k : ℕ) → k < n → getD ys (at + k) 0 ≡ number
+-- for the first n facts, nothing for those at the start and all for the others
+abbrev pub Begun : ℕ → ℕ → ℕ → List ℕ → List ℕ → Type 0
+Begun n start all = PutBehind 256 384 n (λ ys q set. set ≡ cond (not (has start q)) all 0)
+
+-- n times the number from the place on
+abbrev pub PutFrom : ℕ → ℕ → ℕ → List ℕ → List ℕ → Type 0
+PutFrom n at number = PutBehind at 1220 n (λ ys k entry. entry ≡ number)
 
 -- r is within all, and within the landmarks of what action i needs, if it adds q
 pub record Through (sets : List ℕ) (i q all r : ℕ) : Type 0 where

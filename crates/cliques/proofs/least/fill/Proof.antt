@@ -3,7 +3,8 @@
 use Prim.Native.Nat.{_-_, _≤_}
 use mathlib.Core.Path.{_≡_}
 use Rattle.cliques.specs.Cliques.{LeastPut}
-use Rattle.cliques.proofs.FillLaws.{least-put-at-first, least-put-on}
+use Rattle.landmarks.proofs.TableLaws.{put-at-first}
+use Rattle.cliques.proofs.FillLaws.{least-put-on}
 use native.Mathlib.Omega.{arith}
 use Rattle.cliques.proofs.least.fill.Statement.{statement}
 use Rattle.cliques.proofs.least.fill.Tie as tie
@@ -15,7 +16,7 @@ abbrev μ-loop : tie.MeasureT-loop
 μ-loop numbers₀ sets actions q₀ numbers q = 64 - q
 
 loop-holds : tie.Need-loop-holds Inv-loop μ-loop
-loop-holds c = (omega arith, least-put-at-first _ _ _ (c .before .before .pre .1))
+loop-holds c = (omega arith, put-at-first _ _ _ _ (c .before .before .pre .1))
 
 least-requires : tie.Need-least-requires Inv-loop μ-loop
 least-requires c κs =
@@ -42,10 +43,11 @@ loop-less c = omega arith
 
 loop-again : tie.Need-loop-again Inv-loop μ-loop
 loop-again c =
+    let c-args = c .before .before .before .before .before .before .args in
     let c-pre = c .before .before .before .before .before .before .pre in
     let c-loop = c .before .before .before .loop in (
       omega arith,
-      least-put-on _ _ _ _ (c-loop .q) _ (c-pre .2) (c .before .before .loop-test .taken) (c .least .ensures)
+      least-put-on (c-args .sets .now) _ _ _ (c-loop .q) _ (c-pre .2) (c .before .before .loop-test .taken) (c .least .ensures)
           (c-loop .inv .1),
     )
 
