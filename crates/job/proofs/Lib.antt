@@ -6,3 +6,4 @@ pub mod Resuming
 mod Answers
 mod Agree
 mod SameParts
+pub mod ResourceLaws

@@ -2,7 +2,10 @@
 -- everything above goes by these names.
 -- Assumes nothing.
 use Prim.Native.Nat.{ℕ}
+use mathlib.Core.List.{List}
 use lib.ListN.{getD}
+use Rattle.job.specs.declared.Action as act
+use Rattle.job.specs.declared.Job as held
 use Rattle.job.specs.Job.{Action, Job}
 
 -- "a share is free again in the minute its step ends": how many minutes a share of the pool stays in use after its step
@@ -16,3 +19,13 @@ storeAmount J store a = getD (a .stores) store 0
 -- how much of the store may be used up: "no more than each store has"
 unfoldable pub storeCap : Job → ℕ → ℕ
 storeCap J store = getD (J .stores) store 0
+
+-- ---- the same in a value, place by place
+
+-- what a step of the action uses up of each store
+abbrev pub chargedIn : held.Job → act.Action → List ℕ
+chargedIn job a = a .stores
+
+-- how much of each store may be used up
+abbrev pub allowedIn : held.Job → List ℕ
+allowedIn job = job .stores

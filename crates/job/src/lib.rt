@@ -2,6 +2,7 @@
 pub mod refusal; // the table of refusals
 pub mod validate; // tests 3 to 11 of a job value
 pub mod same; // whether two values hold the same job
+pub mod resources; // what an action takes of the stores
 pub mod resumed; // the job of what is left of a day
 
 ghost use mathlib.Core.Path.{_≡_};

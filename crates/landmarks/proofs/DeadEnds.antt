@@ -11,7 +11,7 @@ use native.Mathlib.Omega.{arith}
 use lib.ListN.{length, getD}
 use Rattle.facts.specs.FactSet.{has, difference, Subset}
 use Rattle.facts.proofs.SetLaws.{in-difference-parts}
-use Rattle.job.specs.Resources.{storeCap}
+use Rattle.job.specs.Resources.{storeAmount, storeCap}
 use Rattle.job.specs.Job.{Action, Job}
 use Rattle.timeline.specs.Step.{Step, total}
 use Rattle.timeline.specs.From.{From, IsNew}
@@ -83,11 +83,10 @@ module _ (J : Job) (b : From) (goal T t : ℕ) (after : b .minute ≤ t) (inTime
       omega arith
 
   pub dead-when-store-short : (store : ℕ) → store < length (J .stores) → (scale : ℕ)
-      → Shares J hand share n (λ a. scale * getD (a .stores) store 0)
+      → Shares J hand share n (λ a. scale * storeAmount J store a)
       → scale * storeCap J store < sumOver share n missing + scale * usedUp J store L → Dead J b goal T (Until b t) L
-  unfolding storeUse
   dead-when-store-short store inside scale shares exceeds =
-      exceeded scale (storeCap J store) (usedUp J store L) (λ a. getD (a .stores) store 0) shares exceeds
+      exceeded scale (storeCap J store) (usedUp J store L) (storeAmount J store) shares exceeds
       (λ E until normal.
       let sum = total-append (storeUse J store) E L in
       let within = normal .plan .keeps .stores store inside in

@@ -5,15 +5,15 @@ use mathlib.Core.Path.{_≡_, refl, sym, ap, ap₂, _∙_}
 use mathlib.Core.Bool.{cond}
 use mathlib.Core.List.{List}
 use native.Mathlib.Omega.{arith}
+use lib.ListN.{length}
 use Rattle.facts.specs.FactSet.{has, union}
 use Rattle.tables.specs.Tables.{needsAt}
 use Rattle.landmarks.specs.Landmarks.{marksOf}
 use Rattle.tables.specs.declared.Frame.{Frame}
 use Rattle.landmarks.specs.Tables.{KeptBefore, markAt, Closed, WithinAll}
 use Rattle.landmarks.specs.Openings.{OpeningsPut}
-use Rattle.landmarks.specs.Cliques.{CliquesAt}
-use Rattle.landmarks.specs.Marked.{MarkedTables}
-use Rattle.landmarks.proofs.TableLaws.{kept-again}
+use Rattle.landmarks.specs.Marked.{LandmarkTables}
+use Rattle.landmarks.proofs.TableLaws.{kept-at-first, kept-again}
 use Rattle.landmarks.proofs.ShareLaws.{kept-less, within-kept}
 use Rattle.landmarks.proofs.OpeningLaws.{openings-kept}
 
@@ -38,32 +38,38 @@ module _ (actions start : ℕ) (few : actions ≤ 64) (xs ys : List ℕ) (kept :
             rw (needs, marks) (closed q below .others i known adds-q n (ap (λ (s : ℕ). has s n) (sym mine) ∙ h));
       }
 
-  within-all-kept : (numbers more : List ℕ) → KeptBefore 1088 1156 numbers more
+  within-all-kept : (numbers more : List ℕ) → KeptBefore 1152 1220 numbers more
       → WithinAll xs numbers actions start → WithinAll ys more actions start
   within-all-kept numbers more same within row inside i known =
       let adds = kept .same (i * 4 + 1) (omega arith) in
       rw adds
-      (within-kept xs start numbers more actions 1088 row few inside (omega arith) same (within row inside) i known)
+      (within-kept xs start numbers more actions 1152 row few inside (omega arith) same (within row inside) i known)
 
--- landmarks are put first, then shares, then openings, then cliques, each behind what is there
-pub marked-tables : (sets sets′ sets″ numbers numbers′ numbers″ numbers‴ times : List ℕ) (frame : Frame) (start : ℕ)
-    → frame .actions ≤ 64 → KeptBefore 256 384 sets sets′ → Closed sets′ (frame .actions) start
-    → KeptBefore 576 1156 numbers numbers′ → WithinAll sets′ numbers′ (frame .actions) start
-    → OpeningsPut sets′ times frame 4 numbers′ numbers″ → KeptBefore 320 384 sets′ sets″
-    → KeptBefore 1092 1156 numbers″ numbers‴ → CliquesAt sets″ numbers‴ times frame
-    → KeptBefore 256 384 sets sets″ × KeptBefore 576 1156 numbers numbers‴
-    × MarkedTables sets″ numbers‴ times frame start
-marked-tables sets sets′ sets″ numbers numbers′ numbers″ numbers‴ times frame start few marks closed shares within put
-    apart least cliques =
-    let behind = kept-again 1088 1156 numbers′ numbers″ numbers‴ (put .kept)
-    (kept-less 1088 1092 1156 numbers″ numbers‴ (omega arith) least) in (
-      kept-again 256 384 sets sets′ sets″ marks (kept-less 256 320 384 sets′ sets″ (omega arith) apart),
-      kept-again 576 1156 numbers numbers′ numbers‴ shares
-          (kept-less 576 1088 1156 numbers′ numbers‴ (omega arith) behind),
+module _ (times : List ℕ) (frame : Frame) (start : ℕ) (few : frame .actions ≤ 64) where
+  -- landmarks are put first, then shares, then openings, each behind what is there
+  pub landmarks-filled : (sets numbers numbers′ numbers″ : List ℕ) → length sets ≡ 384
+      → Closed sets (frame .actions) start → KeptBefore 576 1220 numbers numbers′
+      → WithinAll sets numbers′ (frame .actions) start → OpeningsPut sets times frame 4 numbers′ numbers″
+      → KeptBefore 576 1220 numbers numbers″ × LandmarkTables sets numbers″ times frame start
+  landmarks-filled sets numbers numbers′ numbers″ size closed shares within put = (
+    kept-again 576 1220 numbers numbers′ numbers″ shares
+        (kept-less 576 1152 1220 numbers′ numbers″ (omega arith) (put .kept)),
+    record {
+      closed = closed;
+      within = within-all-kept _ start few sets sets (kept-at-first 320 384 sets size) numbers′ numbers″ (put .kept)
+          within;
+      openings = put .put;
+    },
+  )
+
+  -- they stay while cliques are put behind them
+  pub landmarks-stay : (sets sets′ numbers numbers′ : List ℕ) → KeptBefore 320 384 sets sets′
+      → KeptBefore 1156 1220 numbers numbers′ → LandmarkTables sets numbers times frame start
+      → LandmarkTables sets′ numbers′ times frame start
+  landmarks-stay sets sets′ numbers numbers′ apart least tables =
       record {
-        closed = closed-kept _ start few sets′ sets″ apart closed;
-        within = within-all-kept _ start few sets′ sets″ apart numbers′ numbers‴ behind within;
-        openings = openings-kept sets′ sets″ numbers″ numbers‴ times frame few apart least (put .openings);
-        cliques = cliques;
-      },
-    )
+        closed = closed-kept _ start few sets sets′ apart (tables .closed);
+        within = within-all-kept _ start few sets sets′ apart numbers numbers′
+            (kept-less 1152 1156 1220 numbers numbers′ (omega arith) least) (tables .within);
+        openings = openings-kept sets sets′ numbers numbers′ times frame few apart least (tables .openings);
+      }

@@ -4,9 +4,7 @@ mod PoolMinutes
 pub mod DeadEnds
 pub mod TableLaws
 pub mod ShareLaws
-pub mod CliqueLaws
-pub mod CliqueTables
 pub mod TimeBounds
 pub mod AddedByNew
 pub mod OpeningLaws
-mod KeptTables
+pub mod KeptTables

@@ -2,12 +2,10 @@
 -- Assumes nothing.
 use Prim.Native.Nat.{ℕ, _+_, _*_, _≤_, _<_}
 use mathlib.Core.Path.{_≡_, ap}
-use mathlib.Core.Logic.{⊎-elim}
 use mathlib.Core.List.{List, _++_}
-use native.Mathlib.Nat.{eq-or-lt-of-le}
 use native.Mathlib.Omega.{arith}
 use lib.ListN.{length, set, getD}
-use lib.Seq.{getD-set-same, getD-set-other}
+use lib.Seq.{getD-set-other}
 use Rattle.job.specs.Job.{Action, Job}
 use Rattle.timeline.specs.Step.{Step}
 use Rattle.timeline.proofs.Places.{place-append}
@@ -19,7 +17,7 @@ use Rattle.tables.specs.Tables.{needsAt, poolUseAt, Describes}
 use Rattle.landmarks.specs.Bounds.{TimesBound}
 use Rattle.landmarks.specs.Tables.{KeptBefore}
 use Rattle.landmarks.specs.Openings.{OpensAt, OpenTo, OpeningsTo, OpeningsPut}
-use Rattle.landmarks.proofs.TableLaws.{kept-at-first, kept-when-set, at-most-on}
+use Rattle.landmarks.proofs.TableLaws.{put-on, at-most-on}
 
 -- what a user of the pool needs holds at its start, so the start is not before the time of that
 pub opens-of-tables : (J : Job) (sets numbers times : List ℕ) (frame : Frame) → Describes J sets numbers frame
@@ -51,47 +49,27 @@ open-on sets numbers times frame pool =
     at-most-on (λ k. 0 < poolUseAt numbers k pool) (λ k. setNumber times (needsAt sets k) (frame .facts))
 
 -- ---- pool after pool
-pub openings-at-first : (sets times : List ℕ) (frame : Frame) (xs : List ℕ) → length xs ≡ 1156
-    → OpeningsPut sets times frame 0 xs xs
-openings-at-first sets times frame xs size =
-    record { kept = kept-at-first 1088 1156 xs size; openings = λ pool l. absurd (omega arith) }
-
 -- what is before the openings and the openings of the other pools stay
-open-still : (sets times : List ℕ) (frame : Frame) (ys : List ℕ) (at v pool minute : ℕ) → frame .actions ≤ 64 → pool < 4
-    → 576 ≤ at → OpenTo sets ys times frame (frame .actions) pool minute
+open-still : (sets times : List ℕ) (frame : Frame) → frame .actions ≤ 64 → (ys : List ℕ) (at v pool minute : ℕ)
+    → 1152 ≤ at → pool < 4 → OpenTo sets ys times frame (frame .actions) pool minute
     → OpenTo sets (set ys at v) times frame (frame .actions) pool minute
-open-still sets times frame ys at v pool minute few inside behind opening i known uses =
+open-still sets times frame few ys at v pool minute behind inside opening i known uses =
     let apart : i * 9 + 1 + pool ≡ at → ⊥ = λ e. omega arith in
     opening i known (rw (getD-set-other ys at (i * 9 + 1 + pool) v 0 apart) at uses)
 
 pub openings-on : (sets times : List ℕ) (frame : Frame) (xs ys : List ℕ) (pool v : ℕ) → frame .actions ≤ 64 → pool < 4
     → OpenTo sets ys times frame (frame .actions) pool v → OpeningsPut sets times frame pool xs ys
-    → OpeningsPut sets times frame (pool + 1) xs (set ys (1088 + pool) v)
-openings-on sets times frame xs ys pool v few inside here before =
-    let size = before .kept .size in
-    record {
-      kept = kept-when-set 1088 1156 xs ys (1088 + pool) v (omega arith) (before .kept);
-      openings = λ k l.
-          ⊎-elim
-          (λ e.
-          let same : k ≡ pool = omega arith in
-          let put = getD-set-same ys (1088 + pool) v 0 (omega arith) in
-          rw (same, put) (open-still sets times frame ys (1088 + pool) v pool v few inside (omega arith) here))
-          (λ lower.
-          let other : 1088 + k ≡ 1088 + pool → ⊥ = λ e. omega arith in
-          let stays = getD-set-other ys (1088 + pool) (1088 + k) v 0 other in
-          rw stays
-          (open-still sets times frame ys (1088 + pool) v k _ few (omega arith) (omega arith)
-          (before .openings k (omega arith))))
-          (eq-or-lt-of-le l);
-    }
+    → OpeningsPut sets times frame (pool + 1) xs (set ys (1152 + pool) v)
+openings-on sets times frame xs ys pool v few =
+    put-on 1152 1220 4 (λ ys. OpenTo sets ys times frame (frame .actions)) (omega arith) (open-still sets times frame few)
+    xs ys pool v
 
 -- the openings stay while cliques are filled behind them
 pub openings-kept : (sets sets′ numbers numbers′ times : List ℕ) (frame : Frame) → frame .actions ≤ 64
-    → KeptBefore 320 384 sets sets′ → KeptBefore 1092 1156 numbers numbers′ → OpeningsTo sets numbers times frame 4
+    → KeptBefore 320 384 sets sets′ → KeptBefore 1156 1220 numbers numbers′ → OpeningsTo sets numbers times frame 4
     → OpeningsTo sets′ numbers′ times frame 4
 openings-kept sets sets′ numbers numbers′ times frame few kept keptNumbers openings pool inside i known uses =
     let needs = kept .same (i * 4) (omega arith) in
-    let minute = keptNumbers .same (1088 + pool) (omega arith) in
+    let minute = keptNumbers .same (1152 + pool) (omega arith) in
     let amount = keptNumbers .same (i * 9 + 1 + pool) (omega arith) in
     rw (needs, minute) (openings pool inside i known (rw amount at uses))

@@ -1,51 +1,28 @@
 -- Shares in the table: rows that are put, kept and tested.
 -- Assumes nothing.
 use Prim.Native.Nat.{ℕ, zero, suc, _+_, _*_, _-_, _≤_, _<_}
-use mathlib.Core.Path.{_≡_, refl, ap, ap₂, _∙_}
+use mathlib.Core.Path.{_≡_, refl, ap, ap₂}
 use mathlib.Core.Bool.{Bool, true, false, cond}
 use mathlib.Core.Logic.{⊎-elim}
 use mathlib.Core.List.{List}
 use native.Mathlib.Nat.{eq-or-lt-of-le}
 use native.Mathlib.Omega.{arith}
-use lib.ListN.{length, getD, set}
-use lib.Seq.{getD-set-same, getD-set-other}
+use lib.ListN.{length, getD}
 use borrow.Author.Tests.{lt-ltb, le-ltb}
 use Rattle.facts.specs.FactSet.{has, difference}
+use Rattle.job.specs.Resources.{storeAmount}
 use Rattle.job.specs.Job.{Job}
 use Rattle.timeline.proofs.Tests.{le-or-lt}
 use Rattle.times.specs.Earliest.{actionOf}
 use Rattle.tables.specs.Tables.{addsAt, DescribesEach, Numbers}
 use Rattle.landmarks.specs.Landmarks.{sumOver, Shares}
 use Rattle.landmarks.specs.Tables.{KeptBefore, PutFrom, shareFrom, rowAt, weightAt, Within, WithinAll}
-use Rattle.landmarks.proofs.TableLaws.{kept-at-first, kept-when-set}
-
--- ---- one number in each entry
-pub put-at-first : (at number : ℕ) (xs : List ℕ) → length xs ≡ 1156 → PutFrom 0 at number xs xs
-put-at-first at number xs size =
-    record { kept = kept-at-first at 1156 xs size; put = λ k l. absurd (omega arith) }
-
-pub put-on : (at number : ℕ) (xs ys : List ℕ) (k : ℕ) → at + k < 1156 → PutFrom k at number xs ys
-    → PutFrom (k + 1) at number xs (set ys (at + k) number)
-put-on at number xs ys k l before =
-    let size = before .kept .size in
-    record {
-      kept = kept-when-set at 1156 xs ys (at + k) number (omega arith) (before .kept);
-      put = λ j m.
-          ⊎-elim
-          (λ e.
-          let same : j ≡ k = omega arith in
-          rw same (getD-set-same ys (at + k) number 0 (omega arith)))
-          (λ less.
-          let other : at + j ≡ at + k → ⊥ = λ e. omega arith in
-          getD-set-other ys (at + k) (at + j) number 0 other ∙ before .put j (omega arith))
-          (eq-or-lt-of-le m);
-    }
 
 -- ---- entries before a place stay, also when less is asked
 pub kept-less : (less at n : ℕ) (xs ys : List ℕ) → less ≤ at → KeptBefore at n xs ys → KeptBefore less n xs ys
 kept-less less at n xs ys l kept = record { size = kept .size; same = λ k m. kept .same k (omega arith) }
 
-pub numbers-kept : (at actions : ℕ) (xs ys : List ℕ) → 576 ≤ at → KeptBefore at 1156 xs ys → Numbers xs actions
+pub numbers-kept : (at actions : ℕ) (xs ys : List ℕ) → 576 ≤ at → KeptBefore at 1220 xs ys → Numbers xs actions
     → Numbers ys actions
 numbers-kept at actions xs ys l kept numbers =
     let few = numbers .few in
@@ -76,7 +53,7 @@ sum-of-zeros f (suc n) set h =
 
 -- ---- a row stays within the weights while only entries behind it change
 module _ (sets : List ℕ) (start : ℕ) (xs ys : List ℕ) where
-  same-weight : (at i row : ℕ) → 576 ≤ at → i < 64 → row < 8 → KeptBefore at 1156 xs ys
+  same-weight : (at i row : ℕ) → 576 ≤ at → i < 64 → row < 9 → KeptBefore at 1220 xs ys
       → weightAt ys i row ≡ weightAt xs i row
   same-weight at i row l few inside kept =
       ⊎-elim
@@ -85,10 +62,16 @@ module _ (sets : List ℕ) (start : ℕ) (xs ys : List ℕ) where
       rw (lt-ltb row 4 first) (kept .same (i * 9 + 5 + row) (omega arith)))
       (λ a.
       rw (le-ltb row 4 (omega arith))
+      (⊎-elim
+      (λ b.
+      let second : row < 8 = omega arith in
+      rw (lt-ltb row 8 second)
       (ap₂ _*_ (kept .same (i * 9 + 1 + (row - 4)) (omega arith)) (kept .same (i * 9) (omega arith))))
+      (λ b. rw (le-ltb row 8 (omega arith)))
+      (le-or-lt row 7)))
       (le-or-lt row 3)
 
-  pub within-kept : (actions at row : ℕ) → actions ≤ 64 → row < 8 → rowAt row + 64 ≤ at → KeptBefore at 1156 xs ys
+  pub within-kept : (actions at row : ℕ) → actions ≤ 64 → row < 9 → rowAt row + 64 ≤ at → KeptBefore at 1220 xs ys
       → Within sets xs actions start row → Within sets ys actions start row
   within-kept actions at row few inside l kept within i known =
       let same = sum-same (shareFrom ys (rowAt row)) (shareFrom xs (rowAt row)) 64 (difference (addsAt sets i) start)
@@ -104,8 +87,8 @@ within-when-empty sets start xs ys actions row put i known =
     omega arith
 
 -- ---- row after row
-pub rows-on : (sets : List ℕ) (start : ℕ) (xs ys : List ℕ) (actions row : ℕ) → actions ≤ 64 → row < 8
-    → KeptBefore (rowAt row) 1156 xs ys → Within sets ys actions start row
+pub rows-on : (sets : List ℕ) (start : ℕ) (xs ys : List ℕ) (actions row : ℕ) → actions ≤ 64 → row < 9
+    → KeptBefore (rowAt row) 1220 xs ys → Within sets ys actions start row
     → ((k : ℕ) → k < row → Within sets xs actions start k) → (k : ℕ) → k < row + 1 → Within sets ys actions start k
 rows-on sets start xs ys actions row few inside kept here before k l =
     ⊎-elim (λ e. let same : k ≡ row = omega arith in rw same here)
@@ -117,11 +100,11 @@ rows-on sets start xs ys actions row few inside kept here before k l =
 pub stores-when-within : (J : Job) (sets numbers : List ℕ) (actions start : ℕ) → length (J .actions) ≡ actions
     → DescribesEach J sets numbers actions → WithinAll sets numbers actions start → (store : ℕ) → store < 4
     → store < length (J .stores)
-    → Shares J start (shareFrom numbers (rowAt store)) 64 (λ a. 2520 * getD (a .stores) store 0)
+    → Shares J start (shareFrom numbers (rowAt store)) 64 (λ a. 2520 * storeAmount J store a)
 stores-when-within J sets numbers actions start count described within store few inside i known =
     let below : i < actions = omega arith in
     let d = described i below in
-    let weight : weightAt numbers i store ≡ getD (actionOf J i .stores) store 0 =
+    let weight : weightAt numbers i store ≡ storeAmount J store (actionOf J i) =
     rw (lt-ltb store 4 few) (d .stores store inside) in
     rw (← d .adds, ← weight) (within store (omega arith) i below)
 
@@ -135,5 +118,14 @@ pools-when-within J sets numbers actions start count described within pool few i
     let d = described i below in
     let place : 4 + pool - 4 ≡ pool = omega arith in
     let weight : weightAt numbers i (4 + pool) ≡ getD (actionOf J i .pools) pool 0 * actionOf J i .duration =
-    rw (le-ltb (4 + pool) 4 (omega arith), place) (ap₂ _*_ (d .pools pool inside) (d .duration)) in
+    rw (le-ltb (4 + pool) 4 (omega arith), lt-ltb (4 + pool) 8 (omega arith), place)
+    (ap₂ _*_ (d .pools pool inside) (d .duration)) in
     rw (← d .adds, ← weight) (within (4 + pool) (omega arith) i below)
+
+-- and that of the row of steps
+pub steps-when-within : (J : Job) (sets numbers : List ℕ) (actions start : ℕ) → length (J .actions) ≡ actions
+    → DescribesEach J sets numbers actions → WithinAll sets numbers actions start
+    → Shares J start (shareFrom numbers (rowAt 8)) 64 (λ a. 2520 * 1)
+steps-when-within J sets numbers actions start count described within i known =
+    let below : i < actions = omega arith in
+    rw (← described i below .adds) (within 8 (omega arith) i below)

@@ -18,7 +18,7 @@ use Rattle.times.specs.Earliest.{actionOf}
 use Rattle.times.proofs.Singles.{only-in-single}
 use Rattle.tables.specs.Tables.{DescribesEach, needsAt}
 use Rattle.landmarks.specs.Landmarks.{Landmarks, marksOf, sumOver}
-use Rattle.landmarks.specs.Tables.{markAt, KeptBefore, Begun, Through, ByAdders, ClosedAt, Closed}
+use Rattle.landmarks.specs.Tables.{markAt, KeptBefore, PutBehind, Begun, Through, ByAdders, ClosedAt, Closed}
 use Rattle.landmarks.proofs.AddedOnTheWay.{mark-of}
 
 -- ---- over the facts of a set, from one to the next
@@ -89,26 +89,32 @@ kept-when-set at n xs ys k v l kept =
 pub kept-again : (at n : ℕ) (xs ys zs : List ℕ) → KeptBefore at n xs ys → KeptBefore at n ys zs → KeptBefore at n xs zs
 kept-again at n xs ys zs a b = record { size = b .size; same = λ k l. b .same k l ∙ a .same k l }
 
--- ---- the first sets
-pub begun-at-first : (start all : ℕ) (xs : List ℕ) → length xs ≡ 384 → Begun 0 start all xs xs
-begun-at-first start all xs size =
-    record { kept = kept-at-first 256 384 xs size; put = λ q l. absurd (omega arith) }
+-- ---- entries put one by one behind a place
+pub put-at-first : (at size : ℕ) (Asked : List ℕ → ℕ → ℕ → Type 0) (xs : List ℕ) → length xs ≡ size
+    → PutBehind at size 0 Asked xs xs
+put-at-first at size Asked xs long =
+    record { kept = kept-at-first at size xs long; put = λ k l. absurd (omega arith) }
 
-pub begun-on : (start all : ℕ) (xs ys : List ℕ) (q v : ℕ) → q < 64 → v ≡ cond (not (has start q)) all 0
-    → Begun q start all xs ys → Begun (q + 1) start all xs (set ys (256 + q) v)
-begun-on start all xs ys q v l e begun =
-    let size = begun .kept .size in
+-- what is asked of one of the entries stays while another is put
+pub put-on : (at size count : ℕ) (Asked : List ℕ → ℕ → ℕ → Type 0) → at + count ≤ size
+    → ((ys : List ℕ) (place v k entry : ℕ) → at ≤ place → k < count → Asked ys k entry → Asked (set ys place v) k entry)
+    → (xs ys : List ℕ) (n v : ℕ) → n < count → Asked ys n v → PutBehind at size n Asked xs ys
+    → PutBehind at size (n + 1) Asked xs (set ys (at + n) v)
+put-on at size count Asked fits stays xs ys n v below here before =
+    let long = before .kept .size in
     record {
-      kept = kept-when-set 256 384 xs ys (256 + q) v (omega arith) (begun .kept);
-      put = λ p m.
-          ⊎-elim
-          (λ s.
-          let same : p ≡ q = omega arith in
-          rw same (getD-set-same ys (256 + q) v 0 (omega arith) ∙ e))
+      kept = kept-when-set at size xs ys (at + n) v (omega arith) (before .kept);
+      put = λ k l.
+          stays ys (at + n) v k _ (omega arith) (omega arith)
+          (⊎-elim
+          (λ e.
+          let same : k ≡ n = omega arith in
+          let put = getD-set-same ys (at + n) v 0 (omega arith) in
+          rw (same, put) here)
           (λ less.
-          let other : 256 + p ≡ 256 + q → ⊥ = λ s. omega arith in
-          getD-set-other ys (256 + q) (256 + p) v 0 other ∙ begun .put p (omega arith))
-          (eq-or-lt-of-le m);
+          let other : at + k ≡ at + n → ⊥ = λ e. omega arith in
+          rw (getD-set-other ys (at + n) (at + k) v 0 other) (before .put k (omega arith)))
+          (eq-or-lt-of-le l));
     }
 
 -- ---- the adders of a fact, one after the other

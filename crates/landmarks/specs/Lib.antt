@@ -1,6 +1,5 @@
 pub mod Landmarks
 pub mod Bounds
 pub mod Tables
-pub mod Cliques
 pub mod Openings
 pub mod Marked

@@ -10,7 +10,7 @@ use Rattle.times.proofs.PlanSteps.{PlanOf}
 use Rattle.earliest.specs.Numbers.{setNumber}
 use Rattle.tables.specs.declared.Frame.{Frame}
 use Rattle.tables.specs.Tables.{needsAt, poolUseAt}
-use Rattle.landmarks.specs.Tables.{KeptBefore}
+use Rattle.landmarks.specs.Tables.{PutBehind}
 
 -- in every plan with the steps L, one of the others that starts at b or later and uses the pool starts at the minute or
 -- later
@@ -23,7 +23,7 @@ OpensAt J b L pool minute =
 
 -- where the table of numbers has the opening of a pool
 abbrev pub openAt : List ℕ → ℕ → ℕ
-openAt numbers pool = getD numbers (1088 + pool) 0
+openAt numbers pool = getD numbers (1152 + pool) 0
 
 -- what the first n actions need that use the pool is not there before the minute
 abbrev pub OpenTo : List ℕ → List ℕ → List ℕ → Frame → ℕ → ℕ → ℕ → Type 0
@@ -38,6 +38,5 @@ OpeningsTo sets numbers times frame n =
 -- ---- what inner functions promise
 
 -- the openings of the first n pools are put
-pub record OpeningsPut (sets times : List ℕ) (frame : Frame) (n : ℕ) (xs ys : List ℕ) : Type 0 where
-  pub kept : KeptBefore 1088 1156 xs ys
-  pub openings : OpeningsTo sets ys times frame n
+abbrev pub OpeningsPut : List ℕ → List ℕ → Frame → ℕ → List ℕ → List ℕ → Type 0
+OpeningsPut sets times frame n = PutBehind 1152 1220 n (λ ys. OpenTo sets ys times frame (frame .actions))

@@ -19,14 +19,15 @@ markAt sets q = getD sets (256 + q) 0
 abbrev pub shareFrom : List ℕ → ℕ → ℕ → ℕ
 shareFrom numbers at p = getD numbers (at + p) 0
 
--- where the table of numbers has the row of a store, 0 to 3, or of a pool, 4 to 7
+-- where the table of numbers has the row of a store, 0 to 3, of a pool, 4 to 7, or of steps, 8
 abbrev pub rowAt : ℕ → ℕ
 rowAt row = 576 + row * 64
 
--- what action i uses of the row's store, or its minutes times what it uses of the row's pool
+-- what action i uses of the row's store, or its minutes times what it uses of the row's pool, or one for a step
 abbrev pub weightAt : List ℕ → ℕ → ℕ → ℕ
 weightAt numbers i row =
-    cond (ltb row 4) (storeUseAt numbers i row) (poolUseAt numbers i (row - 4) * durationAt numbers i)
+    cond (ltb row 4) (storeUseAt numbers i row)
+    (cond (ltb row 8) (poolUseAt numbers i (row - 4) * durationAt numbers i) 1)
 
 -- the shares of what action i adds are within its weight, in parts of 2,520
 abbrev pub WithinAt : List ℕ → List ℕ → ℕ → ℕ → ℕ → Type 0
@@ -38,7 +39,7 @@ abbrev pub Within : List ℕ → List ℕ → ℕ → ℕ → ℕ → Type 0
 Within sets numbers actions start row = (i : ℕ) → i < actions → WithinAt sets numbers start row i
 
 abbrev pub WithinAll : List ℕ → List ℕ → ℕ → ℕ → Type 0
-WithinAll sets numbers actions start = (row : ℕ) → row < 8 → Within sets numbers actions start row
+WithinAll sets numbers actions start = (row : ℕ) → row < 9 → Within sets numbers actions start row
 
 -- ---- what inner functions promise
 
@@ -47,15 +48,18 @@ pub record KeptBefore (at n : ℕ) (xs ys : List ℕ) : Type 0 where
   pub size : length ys ≡ n
   pub same : SameBefore at xs ys
 
--- and behind them, for the first n facts, nothing for those at the start and all for the others
-pub record Begun (n start all : ℕ) (xs ys : List ℕ) : Type 0 where
-  pub kept : KeptBefore 256 384 xs ys
-  pub put : (q : ℕ) → q < n → markAt ys q ≡ cond (not (has start q)) all 0
+-- and of each of the first n entries from the place on holds what is asked of it
+pub record PutBehind (at size n : ℕ) (Asked : List ℕ → ℕ → ℕ → Type 0) (xs ys : List ℕ) : Type 0 where
+  pub kept : KeptBefore at size xs ys
+  pub put : (k : ℕ) → k < n → Asked ys k (getD ys (at + k) 0)
 
--- n times the number from the place on, and before it the entries of xs
-pub record PutFrom (n at number : ℕ) (xs ys : List ℕ) : Type 0 where
-  pub kept : KeptBefore at 1156 xs ys
-  pub put : (k : ℕ) → k < n → getD ys (at + k) 0 ≡ number
+-- for the first n facts, nothing for those at the start and all for the others
+abbrev pub Begun : ℕ → ℕ → ℕ → List ℕ → List ℕ → Type 0
+Begun n start all = PutBehind 256 384 n (λ ys q set. set ≡ cond (not (has start q)) all 0)
+
+-- n times the number from the place on
+abbrev pub PutFrom : ℕ → ℕ → ℕ → List ℕ → List ℕ → Type 0
+PutFrom n at number = PutBehind at 1220 n (λ ys k entry. entry ≡ number)
 
 -- r is within all, and within the landmarks of what action i needs, if it adds q
 pub record Through (sets : List ℕ) (i q all r : ℕ) : Type 0 where

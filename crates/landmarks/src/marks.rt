@@ -6,6 +6,10 @@ ghost use Prim.Native.Nat.{_≤_, _<_};
 ghost use lib.ListN.{length};
 ghost use Rattle.landmarks.specs.Landmarks.{marksOf};
 ghost use Rattle.landmarks.specs.Tables.{markAt, KeptBefore, Begun, Through, ByAdders, ClosedAt, Closed};
+use tables::layout::SetTable;
+
+// Rounds end when nothing changes; after so many the table is tested as it is.
+const ROUNDS: usize = 256;
 
 // The landmarks of the facts of a set.
 pub fn of_set(sets: &[u64], set: u64) -> u64
@@ -14,8 +18,8 @@ pub fn of_set(sets: &[u64], set: u64) -> u64
 {
     let mut all: u64 = 0;
     let mut q = facts::next(set, 0);
-    while q < 64 {
-        all = facts::union(sets[256 + q as usize], all);
+    while q < facts::BITS {
+        all = facts::union(sets[SetTable::MARKS + q as usize], all);
         q = facts::next(set, q + 1);
     }
     all
@@ -26,10 +30,10 @@ fn through(sets: &[u64], i: usize, q: u8, all: u64) -> u64
     requires { ⌜ (length (now sets) ≡ 384) × (i < 64) ⌝ }
     ensures { λ r. ⌜ Through (now (sets .entry)) i q all r ⌝ }
 {
-    if !facts::has(sets[i * 4 + 1], q) {
+    if !facts::has(sets[i * SetTable::ROW + SetTable::ADDS], q) {
         return all;
     }
-    facts::common(of_set(sets, sets[i * 4]), all)
+    facts::common(of_set(sets, sets[i * SetTable::ROW]), all)
 }
 
 // What is common to the landmarks of the needs of all actions that add q.
@@ -37,7 +41,7 @@ fn of_adders(sets: &[u64], actions: usize, q: u8) -> u64
     requires { ⌜ (length (now sets) ≡ 384) × (actions ≤ 64) ⌝ }
     ensures { λ r. ⌜ ByAdders (now (sets .entry)) actions q r ⌝ }
 {
-    let mut all: u64 = 18_446_744_073_709_551_615;
+    let mut all = facts::ALL;
     let mut i = 0;
     while i < actions {
         all = through(sets, i, q, all);
@@ -51,7 +55,7 @@ fn closed_at(sets: &[u64], actions: usize, start: u64, q: u8) -> bool
     requires { ⌜ (length (now sets) ≡ 384) × (actions ≤ 64) × (q < 64) ⌝ }
     ensures { λ r. ⌜ (r ≡ true → ClosedAt (now (sets .entry)) actions start q) ⌝ }
 {
-    let marks = sets[256 + q as usize];
+    let marks = sets[SetTable::MARKS + q as usize];
     if facts::has(start, q) {
         return marks == 0;
     }
@@ -67,7 +71,7 @@ fn closed(sets: &[u64], actions: usize, start: u64) -> bool
     ensures { λ r. ⌜ (r ≡ true → Closed (now (sets .entry)) actions start) ⌝ }
 {
     let mut q = 0u8;
-    while q < 64 {
+    while q < facts::BITS {
         if !closed_at(sets, actions, start, q) {
             return false;
         }
@@ -82,8 +86,8 @@ fn begin(sets: &mut [u64], start: u64, all: u64)
     ensures { λ r. ⌜ Begun 64 start all (now (sets .entry)) (now (sets .exit)) ⌝ }
 {
     let mut q = 0u8;
-    while q < 64 {
-        sets[256 + q as usize] = facts::when(!facts::has(start, q), all);
+    while q < facts::BITS {
+        sets[SetTable::MARKS + q as usize] = facts::when(!facts::has(start, q), all);
         q += 1;
     }
 }
@@ -93,10 +97,10 @@ fn lower(sets: &mut [u64], actions: usize, q: u8) -> bool
     requires { ⌜ (length (now sets) ≡ 384) × (actions ≤ 64) × (q < 64) ⌝ }
     ensures { λ r. ⌜ KeptBefore 256 384 (now (sets .entry)) (now (sets .exit)) ⌝ }
 {
-    let old = sets[256 + q as usize];
+    let old = sets[SetTable::MARKS + q as usize];
     let by_adders = of_adders(sets, actions, q);
     let new = facts::common(old, facts::union(facts::single(q), by_adders));
-    sets[256 + q as usize] = new;
+    sets[SetTable::MARKS + q as usize] = new;
     new != old
 }
 
@@ -107,7 +111,7 @@ fn round(sets: &mut [u64], actions: usize) -> bool
 {
     let mut changed = false;
     let mut q = 0u8;
-    while q < 64 {
+    while q < facts::BITS {
         changed = lower(sets, actions, q) | changed;
         q += 1;
     }
@@ -130,8 +134,8 @@ fn search(sets: &mut [u64], actions: usize, start: u64)
     requires { ⌜ (length (now sets) ≡ 384) × (actions ≤ 64) ⌝ }
     ensures { λ r. ⌜ KeptBefore 256 384 (now (sets .entry)) (now (sets .exit)) ⌝ }
 {
-    begin(sets, start, 18_446_744_073_709_551_615);
-    let mut left = 256;
+    begin(sets, start, facts::ALL);
+    let mut left = ROUNDS;
     while 0 < left {
         left = rounds_left(round(sets, actions), left);
     }

@@ -1,6 +1,6 @@
-// Shares: what a fact takes of each store, and of the minutes of each pool, at least, in parts of 2,520 to the unit.
-// Eight rows of 64 numbers, four for stores and four for pools, behind the numbers of the actions:
-// found, and then tested.
+// Shares: what a fact takes of each store, of the minutes of each pool, and of the steps, at least, in parts of 2,520
+// to the unit. Nine rows of 64 numbers, four for stores, four for pools and one for steps, behind the numbers of the
+// actions: found, and then tested.
 ghost use mathlib.Core.Path.{_≡_};
 ghost use mathlib.Core.Bool.{true};
 ghost use Prim.Native.Nat.{_+_, _*_, _^_, _≤_, _<_};
@@ -9,9 +9,22 @@ ghost use Rattle.tables.specs.Tables.{durationAt, Numbers};
 ghost use Rattle.landmarks.specs.Landmarks.{sumOver};
 ghost use Rattle.landmarks.specs.Tables.{KeptBefore, PutFrom, shareFrom, rowAt, weightAt};
 ghost use Rattle.landmarks.specs.Tables.{WithinAt, Within, WithinAll};
+use job::Job;
+use tables::layout::NumberTable;
+use tables::layout::SetTable;
 
 // Parts of a unit: a share of one unit among up to ten facts is a whole number of them.
 pub const SCALE: u64 = 2520;
+
+// A row has a number for each fact.
+const ROW_SIZE: usize = Job::FACTS as usize;
+
+// The largest share that an entry can have, and how many different ones there are.
+const LARGEST: u32 = 4_294_967_295;
+
+const LARGEST_WIDE: u64 = LARGEST as u64;
+
+const SPAN: u64 = LARGEST_WIDE + 1;
 
 // A number of 32 bits as one of 64.
 pub fn wide(number: u32) -> u64
@@ -22,42 +35,46 @@ pub fn wide(number: u32) -> u64
 
 // The sum over the facts of a set of the numbers from place `at` on.
 pub fn sum(numbers: &[u32], at: usize, set: u64) -> u64
-    requires { ⌜ (length (now numbers) ≡ 1156) × (at + 64 ≤ 1156) ⌝ }
+    requires { ⌜ (length (now numbers) ≡ 1220) × (at + 64 ≤ 1220) ⌝ }
     ensures { λ r. ⌜ (r ≡ sumOver (shareFrom (now (numbers .entry)) at) 64 set) × (r ≤ 2 ^ 38) ⌝ }
 {
     let mut all: u64 = 0;
     let mut p = facts::next(set, 0);
-    while p < 64 {
+    while p < facts::BITS {
         all = wide(numbers[at + p as usize]) + all;
         p = facts::next(set, p + 1);
     }
     all
 }
 
-// What action i uses of the row's store, or its minutes times what it uses of the row's pool.
+// What action i uses of the row's store, or its minutes times what it uses of the row's pool, or one for a step.
 fn weight(numbers: &[u32], i: usize, row: usize) -> u64
-    requires { ⌜ (length (now numbers) ≡ 1156) × (i < 64) × (row < 8) × (durationAt (now numbers) i ≤ 255) ⌝ }
+    requires { ⌜ (length (now numbers) ≡ 1220) × (i < 64) × (row < 9) × (durationAt (now numbers) i ≤ 255) ⌝ }
     ensures { λ r. ⌜ (r ≡ weightAt (now (numbers .entry)) i row) × (r ≤ 2 ^ 40) ⌝ }
 {
-    if row < 4 {
-        return wide(numbers[i * 9 + 5 + row]);
+    if row < Job::STORES {
+        return wide(numbers[i * NumberTable::ROW + NumberTable::STORES + row]);
     }
-    wide(numbers[i * 9 + 1 + (row - 4)]) * wide(numbers[i * 9])
+    if row < NumberTable::STEPS_ROW {
+        let amount = wide(numbers[i * NumberTable::ROW + NumberTable::POOLS + (row - Job::STORES)]);
+        return amount * wide(numbers[i * NumberTable::ROW]);
+    }
+    1
 }
 
 // Whether the shares of what action i adds are within its weight.
 fn within_at(sets: &[u64], numbers: &[u32], start: u64, row: usize, i: usize) -> bool
-    requires { ⌜ (length (now sets) ≡ 384) × (length (now numbers) ≡ 1156) × (i < 64) × (row < 8)
+    requires { ⌜ (length (now sets) ≡ 384) × (length (now numbers) ≡ 1220) × (i < 64) × (row < 9)
         × (durationAt (now numbers) i ≤ 255) ⌝ }
     ensures { λ r. ⌜ (r ≡ true → WithinAt (now (sets .entry)) (now (numbers .entry)) start row i) ⌝ }
 {
-    let new = facts::difference(sets[i * 4 + 1], start);
-    sum(numbers, 576 + row * 64, new) <= SCALE * weight(numbers, i, row)
+    let new = facts::difference(sets[i * SetTable::ROW + SetTable::ADDS], start);
+    sum(numbers, NumberTable::SHARES + row * ROW_SIZE, new) <= SCALE * weight(numbers, i, row)
 }
 
 // The same for every action.
 fn within(sets: &[u64], numbers: &[u32], actions: usize, start: u64, row: usize) -> bool
-    requires { ⌜ (length (now sets) ≡ 384) × Numbers (now numbers) actions × (row < 8) ⌝ }
+    requires { ⌜ (length (now sets) ≡ 384) × Numbers (now numbers) actions × (row < 9) ⌝ }
     ensures { λ r. ⌜ (r ≡ true → Within (now (sets .entry)) (now (numbers .entry)) actions start row) ⌝ }
 {
     let mut i = 0;
@@ -76,7 +93,7 @@ fn count(set: u64) -> u64
 {
     let mut all: u64 = 0;
     let mut p = facts::next(set, 0);
-    while p < 64 {
+    while p < facts::BITS {
         all += 1;
         p = facts::next(set, p + 1);
     }
@@ -91,16 +108,16 @@ fn share(weight: u64, among: u64) -> u32
         return 0;
     }
     let part = SCALE * weight / among;
-    if 4_294_967_295 < part {
-        return 4_294_967_295;
+    if LARGEST_WIDE < part {
+        return LARGEST;
     }
-    (part % 4_294_967_296) as u32
+    (part % SPAN) as u32
 }
 
 // Leaves the lesser of an entry and a share.
 fn lower_at(numbers: &mut [u32], at: usize, share: u32)
-    requires { ⌜ (length (now numbers) ≡ 1156) × (at < 1156) ⌝ }
-    ensures { λ r. ⌜ KeptBefore at 1156 (now (numbers .entry)) (now (numbers .exit)) ⌝ }
+    requires { ⌜ (length (now numbers) ≡ 1220) × (at < 1220) ⌝ }
+    ensures { λ r. ⌜ KeptBefore at 1220 (now (numbers .entry)) (now (numbers .exit)) ⌝ }
 {
     if share < numbers[at] {
         numbers[at] = share;
@@ -109,11 +126,11 @@ fn lower_at(numbers: &mut [u32], at: usize, share: u32)
 
 // The same for the facts of a set, from place `at` on.
 fn lower(numbers: &mut [u32], at: usize, set: u64, share: u32)
-    requires { ⌜ (length (now numbers) ≡ 1156) × (at + 64 ≤ 1156) ⌝ }
-    ensures { λ r. ⌜ KeptBefore at 1156 (now (numbers .entry)) (now (numbers .exit)) ⌝ }
+    requires { ⌜ (length (now numbers) ≡ 1220) × (at + 64 ≤ 1220) ⌝ }
+    ensures { λ r. ⌜ KeptBefore at 1220 (now (numbers .entry)) (now (numbers .exit)) ⌝ }
 {
     let mut p = facts::next(set, 0);
-    while p < 64 {
+    while p < facts::BITS {
         lower_at(numbers, at + p as usize, share);
         p = facts::next(set, p + 1);
     }
@@ -121,11 +138,11 @@ fn lower(numbers: &mut [u32], at: usize, set: u64, share: u32)
 
 // Puts a number into each of 64 entries from place `at` on.
 fn put(numbers: &mut [u32], at: usize, number: u32)
-    requires { ⌜ (length (now numbers) ≡ 1156) × (at + 64 ≤ 1156) ⌝ }
+    requires { ⌜ (length (now numbers) ≡ 1220) × (at + 64 ≤ 1220) ⌝ }
     ensures { λ r. ⌜ PutFrom 64 at number (now (numbers .entry)) (now (numbers .exit)) ⌝ }
 {
     let mut k = 0;
-    while k < 64 {
+    while k < ROW_SIZE {
         numbers[at + k] = number;
         k += 1;
     }
@@ -133,14 +150,14 @@ fn put(numbers: &mut [u32], at: usize, number: u32)
 
 // Puts the least share of each fact into the row.
 fn search(numbers: &mut [u32], sets: &[u64], actions: usize, start: u64, row: usize)
-    requires { ⌜ (length (now sets) ≡ 384) × Numbers (now numbers) actions × (row < 8) ⌝ }
-    ensures { λ r. ⌜ KeptBefore (rowAt row) 1156 (now (numbers .entry)) (now (numbers .exit)) ⌝ }
+    requires { ⌜ (length (now sets) ≡ 384) × Numbers (now numbers) actions × (row < 9) ⌝ }
+    ensures { λ r. ⌜ KeptBefore (rowAt row) 1220 (now (numbers .entry)) (now (numbers .exit)) ⌝ }
 {
-    let at = 576 + row * 64;
-    put(numbers, at, 4_294_967_295);
+    let at = NumberTable::SHARES + row * ROW_SIZE;
+    put(numbers, at, LARGEST);
     let mut i = 0;
     while i < actions {
-        let new = facts::difference(sets[i * 4 + 1], start);
+        let new = facts::difference(sets[i * SetTable::ROW + SetTable::ADDS], start);
         let part = share(weight(numbers, i, row), count(new));
         lower(numbers, at, new, part);
         i += 1;
@@ -149,24 +166,24 @@ fn search(numbers: &mut [u32], sets: &[u64], actions: usize, start: u64, row: us
 
 // Fills one row, and puts it to nothing should it not pass the test.
 fn fill_row(numbers: &mut [u32], sets: &[u64], actions: usize, start: u64, row: usize)
-    requires { ⌜ (length (now sets) ≡ 384) × Numbers (now numbers) actions × (row < 8) ⌝ }
-    ensures { λ r. ⌜ KeptBefore (rowAt row) 1156 (now (numbers .entry)) (now (numbers .exit))
+    requires { ⌜ (length (now sets) ≡ 384) × Numbers (now numbers) actions × (row < 9) ⌝ }
+    ensures { λ r. ⌜ KeptBefore (rowAt row) 1220 (now (numbers .entry)) (now (numbers .exit))
         × Within (now (sets .entry)) (now (numbers .exit)) actions start row ⌝ }
 {
     search(numbers, sets, actions, start, row);
     if !within(sets, numbers, actions, start, row) {
-        put(numbers, 576 + row * 64, 0);
+        put(numbers, NumberTable::SHARES + row * ROW_SIZE, 0);
     }
 }
 
 // Fills all rows.
 pub fn fill(numbers: &mut [u32], sets: &[u64], actions: usize, start: u64)
     requires { ⌜ (length (now sets) ≡ 384) × Numbers (now numbers) actions ⌝ }
-    ensures { λ r. ⌜ KeptBefore 576 1156 (now (numbers .entry)) (now (numbers .exit))
+    ensures { λ r. ⌜ KeptBefore 576 1220 (now (numbers .entry)) (now (numbers .exit))
         × WithinAll (now (sets .entry)) (now (numbers .exit)) actions start ⌝ }
 {
     let mut row = 0;
-    while row < 8 {
+    while row < NumberTable::SHARE_ROWS {
         fill_row(numbers, sets, actions, start, row);
         row += 1;
     }

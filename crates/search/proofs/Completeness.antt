@@ -3,7 +3,6 @@
 use Prim.Native.Nat.{ℕ, _≤_, _<_}
 use mathlib.Core.Path.{_≡_, refl, ap}
 use mathlib.Core.Bool.{true, false, not}
-use mathlib.Core.Logic.{⊎-elim}
 use mathlib.Core.List.{List, _∷_}
 use native.Mathlib.Omega.{arith}
 use lib.Dec.{eqb}
@@ -13,14 +12,12 @@ use Rattle.lists.proofs.Bools.{or-left, or-right}
 use Rattle.facts.specs.FactSet.{has, single, difference}
 use Rattle.facts.proofs.Membership.{has-zero}
 use Rattle.facts.proofs.SetLaws.{in-difference}
-use Rattle.job.specs.Resources.{handover}
 use Rattle.job.specs.Job.{Job}
 use Rattle.timeline.specs.Step.{Step}
 use Rattle.timeline.proofs.Tests.{not-both, false-unless}
-use Rattle.timeline.proofs.Places.{EachStep, below-none}
+use Rattle.timeline.proofs.Places.{below-none}
 use Rattle.times.proofs.Singles.{only-in-single}
 use Rattle.regression.specs.DeadEnd.{Until, Open}
-use Rattle.regression.proofs.BlockedSteps.{Touches}
 use Rattle.regression.proofs.Decisions.{alsoDecided, dead-choose, dead-decided}
 use Rattle.regression.proofs.Decisions.{dead-when-barred, dead-when-none-decided}
 use Rattle.regression.proofs.Minutes.{no-event, dead-back-to-event}
@@ -29,7 +26,7 @@ use Rattle.tables.specs.declared.Frame.{Frame}
 use Rattle.states.specs.declared.state.State.{State}
 use Rattle.states.specs.States.{DeadFor, Barred, nextStep, OpenIn}
 use Rattle.states.specs.Moves.{NoStartBetween}
-use Rattle.states.proofs.Chosen.{place-of-chosen}
+use Rattle.states.proofs.Events.{untouched-between}
 
 -- the set of all ones has every fact below 64
 in-all-facts : (n : ℕ) → n < 64 → has 18446744073709551615 n ≡ true
@@ -84,16 +81,8 @@ module _ (J : Job) (frame : Frame) (st : State) where
   -- ---- back to the event before
   module _ (inTime : st .minute ≤ frame .horizon) (s : ℕ)
       (earlier : s < st .minute) (none : NoStartBetween (st .steps) s (st .minute)) where
-    untouched : (m : ℕ) → s < m → m < t → EachStep (λ x. Touches J m x → ⊥) L
-    unfolding handover
-    untouched m a b x Q p touches =
-        let k = place-of-chosen J (st .steps) (st .steps .count) p in
-        let start : x .start ≡ m = ⊎-elim (λ e. e) (λ r. let e = r .2 in omega arith) touches in
-        let same = ap (λ (y : Step). y .start) (k .2) in
-        none (k .0) (k .1) (omega arith) (omega arith)
-
     pub dead-back : DeadFor J frame (Until (fromOf frame) s) L → DeadFor J frame (OpenIn frame st 0) L
     dead-back dead =
         dead-back-to-event J (fromOf frame) (frame .goal) (frame .horizon) L s t earlier (λ a. not (has 0 a))
         (λ a l. ap not (has-zero a))
-        (λ m a b. no-event J (frame .horizon) L m (λ e. omega arith) (untouched m a b)) dead
+        (λ m a b. no-event J (frame .horizon) L m (λ e. omega arith) (untouched-between J (st .steps) s t none m a b)) dead

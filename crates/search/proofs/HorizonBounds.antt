@@ -66,6 +66,7 @@ module _ (file sets numbers times : List ℕ) (frame : Frame) (T : ℕ) (within 
           landmarks = task .marked .landmarks;
           stores = task .marked .stores;
           pools = task .marked .pools;
+          steps = task .marked .steps;
           opens = task .marked .opens;
           cliques = task .marked .cliques;
         };

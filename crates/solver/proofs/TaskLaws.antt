@@ -23,14 +23,14 @@ use Rattle.tables.specs.Tables.{Numbers, Describes, Known, chosen}
 use Rattle.tables.proofs.Describing.{ByteDurations, describes}
 use Rattle.landmarks.specs.Bounds.{TimesBound, AddedByNew}
 use Rattle.landmarks.specs.Tables.{KeptBefore, markAt}
-use Rattle.landmarks.specs.Cliques.{WithinLimits}
-use Rattle.landmarks.specs.Marked.{MarkedTables}
+use Rattle.landmarks.specs.Marked.{WithinLimits}
 use Rattle.landmarks.proofs.TableLaws.{landmarks-when-closed}
-use Rattle.landmarks.proofs.ShareLaws.{stores-when-within, pools-when-within}
+use Rattle.landmarks.proofs.ShareLaws.{stores-when-within, pools-when-within, steps-when-within}
 use Rattle.landmarks.proofs.OpeningLaws.{opens-of-tables}
-use Rattle.landmarks.proofs.CliqueTables.{cliques-of-tables}
 use Rattle.landmarks.proofs.TimeBounds.{whole-day-bounds}
 use Rattle.landmarks.proofs.AddedByNew.{added-by-new-whole}
+use Rattle.cliques.specs.Marked.{MarkedTables}
+use Rattle.cliques.proofs.CliqueTables.{cliques-of-tables}
 use Rattle.earliest.specs.Sweep as earliest
 use Rattle.leaf.specs.declared.Answer.{Answer}
 use Rattle.leaf.specs.Answer.{FileOf}
@@ -57,7 +57,7 @@ numbers-of-job job sets numbers passes filled =
 
 -- the tables of the actions stay while those of the facts are filled
 pub filled-still : (job : held.Job) (sets numbers sets′ numbers′ : List ℕ) → first (jobRows (jobIn job)) ≡ Pass
-    → Filled job sets numbers → KeptBefore 256 384 sets sets′ → KeptBefore 576 1156 numbers numbers′
+    → Filled job sets numbers → KeptBefore 256 384 sets sets′ → KeptBefore 576 1220 numbers numbers′
     → Filled job sets′ numbers′
 filled-still job sets numbers sets′ numbers′ passes filled keptSets keptNumbers =
     let fits = fits-of-pass job passes in
@@ -192,14 +192,16 @@ module _ (day : held.Job) (task : Task) (fits : TaskFits (jobIn day) task) (give
                   (sym adds)
                   (added-by-new-whole J (task .first) (chosen J (task .kept)) 64 (markAt sets)
                   (landmarks-when-closed J sets numbers _ (day .start) (described .actions) (described .each)
-                  (tables .closed)));
+                  (tables .landmarks .closed)));
               stores = stores-when-within J sets numbers _ (day .start) (described .actions) (described .each)
-                  (tables .within);
+                  (tables .landmarks .within);
               pools = pools-when-within J sets numbers _ (day .start) (described .actions) (described .each)
-                  (tables .within);
+                  (tables .landmarks .within);
+              steps = steps-when-within J sets numbers _ (day .start) (described .actions) (described .each)
+                  (tables .landmarks .within);
               opens = λ pool few inside.
                   opens-of-tables J sets numbers times _ described (task .first) _ 0 timely pool _ inside
-                  (tables .openings pool few);
+                  (tables .landmarks .openings pool few);
               cliques = cliques-of-tables J sets numbers times _ described (task .first) _ 0 timely (tables .cliques);
             };
           })

@@ -79,7 +79,7 @@ pub fn solve(job: Job, task: Task) -> Answer
     let mut times = [set_time::NONE; Pair::COUNT];
     earliest::sweep::fill(&mut times, day);
     let frame = Frame::of(day, task.goal, task.first, kept, given(&sets, kept));
-    landmarks::fill(&mut sets, &mut numbers, &times, frame, day.start);
+    cliques::fill(&mut sets, &mut numbers, &times, frame, day.start);
     let mut file = [0u8; Layout::FILE];
     let written = writer::write(job, &mut file);
     let Written::Length(length) = written else {

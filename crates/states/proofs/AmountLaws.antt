@@ -11,11 +11,11 @@ use lib.Dec.{leb, ltb, leb·suc-suc}
 use lib.ListN.{length, getD, set, length-set, replicate, getD-replicate}
 use lib.Seq.{getD-set-same, getD-set-other}
 use borrow.Author.Tests.{lt-ltb, le-ltb}
-use Rattle.job.specs.Resources.{storeCap}
 use Rattle.job.specs.Job.{Job}
 use Rattle.job.specs.Valid.{over}
 use Rattle.timeline.specs.Step.{Step, stepOf}
-use Rattle.timeline.specs.Timeline.{free, hasShare, storeUse}
+use Rattle.timeline.specs.Timeline.{hasShare}
+use Rattle.timeline.proofs.Shares.{free-at-stop}
 use Rattle.timeline.proofs.Tests.{or-neither}
 use Rattle.timeline.proofs.Below.{below-more, below-found, below-same}
 use Rattle.times.specs.Earliest.{actionOf}
@@ -133,18 +133,18 @@ module _ (numbers : List ℕ) (t i start : ℕ) (uses r : Uses)
         ∙ ap₂ _+_ (ap₂ (λ b (n : ℕ). cond b n 0) (same pool) (described .pools pool inside)) (holds pool few inside)
 
     has-share-now : (pool : ℕ) → (leb start t && ltb t (start + durationAt numbers i)) ≡ hasShare J pool t x
-    unfolding free
-    has-share-now pool = ap (λ (d : ℕ). leb start t && ltb t (start + d)) (described .duration)
+    has-share-now pool =
+        ap (λ (d : ℕ). leb start t && ltb t (start + d)) (described .duration)
+        ∙ ap (λ (f : ℕ). leb start t && ltb t f) (sym (free-at-stop J pool x))
 
     has-share-before : (m : ℕ) → suc m ≡ t → (pool : ℕ)
         → (ltb start t && leb t (start + durationAt numbers i)) ≡ hasShare J pool m x
-    unfolding free
     has-share-before m e pool =
         ap₂ (λ (u d : ℕ). ltb start u && leb u (start + d)) (sym e) (described .duration)
         ∙ ap (λ (b : Bool). b && ltb m (start + actionOf J i .duration)) (leb·suc-suc start m)
+        ∙ ap (λ (f : ℕ). leb start m && ltb m f) (sym (free-at-stop J pool x))
 
     use-joined : UsesOf J t L uses → UsesOf J t (x ∷ L) r
-    unfolding storeUse
     use-joined u =
         record {
           before = λ m e. share-joined m _ _ _ (has-share-before m e) before (u .before m e);
@@ -187,7 +187,6 @@ module _ (J : Job) (sets numbers : List ℕ) (frame : Frame) (described : Descri
 
   pub exceeds-as-stores : frame .stores ≤ 4 → (t : ℕ) (uses : Uses) → UsesOf J t L uses
       → exceeds numbers (i * 9 + 5) (uses .spent) (frame .stocks) (frame .stores) ≡ exceedsStores J L i
-  unfolding storeCap
   exceeds-as-stores few t uses holds =
       let count = described .stores in
       ap (λ (n : ℕ). exceeds numbers (i * 9 + 5) (uses .spent) (frame .stocks) n) (sym count)

@@ -15,12 +15,13 @@ use Rattle.facts.specs.FactSet.{has, union, difference, meets, single}
 use Rattle.facts.proofs.Membership.{meets-some}
 use Rattle.facts.proofs.SetLaws.{in-union-left, in-union-right, in-union-cases, in-difference, in-difference-parts}
 use Rattle.facts.proofs.SetLaws.{not-in-both, no-common-member}
-use Rattle.job.specs.Resources.{storeCap}
+use Rattle.job.specs.Resources.{storeAmount, storeCap}
 use Rattle.job.specs.Job.{Job}
 use Rattle.timeline.specs.Step.{Step, unionOf}
 use Rattle.timeline.specs.From.{IsNew, FitsFrom}
-use Rattle.timeline.specs.Timeline.{free, inUse, storeUse, usedUp, clash}
+use Rattle.timeline.specs.Timeline.{free, inUse, usedUp, clash}
 use Rattle.timeline.specs.Accepted.{clashing}
+use Rattle.timeline.proofs.Shares.{free-at-stop}
 use Rattle.timeline.proofs.Tests.{and-both, decided, or-neither}
 use Rattle.timeline.proofs.Below.{below-same}
 use Rattle.job.specs.Valid.{over}
@@ -292,7 +293,7 @@ module _ (J : Job) (sets numbers : List ℕ) (frame : Frame) (described : Descri
             (ap (λ (b : Bool). has (cond b (y .action .needs) 0) n) (eq-eqb (y .start) t e) ∙ h)
 
     pub barred-when-free : st .minute < frame .horizon → exceedsPools J L i (st .minute) ≡ false → Result
-    unfolding blocked free
+    unfolding blocked
     barred-when-free early room =
         let s = stops in
         dead-when-not-blocked J (fromOf frame) (frame .goal) (frame .horizon) t (x ∷ L) first-place (omega arith) new
@@ -301,15 +302,18 @@ module _ (J : Job) (sets numbers : List ℕ) (frame : Frame) (described : Descri
         (any-of-none (blocks x) (x ∷ L) (each-cons (λ y. blocks x y ≡ false) x L spares-own spares)) has-room))
       where
         own-share : (pool : ℕ)
-            → cond (leb (x .start) (x .stop) && ltb (x .stop) (x .stop)) (getD (x .action .pools) pool 0) 0 ≡ 0
+            → cond (leb (x .start) (free J pool x) && ltb (free J pool x) (free J pool x))
+            (getD (x .action .pools) pool 0) 0 ≡ 0
         own-share pool =
-            rw (le-ltb (x .stop) (x .stop) (le-refl (x .stop)), and-false (leb (x .start) (x .stop)))
+            let late = free J pool x in
+            rw (le-ltb late late (le-refl late), and-false (leb (x .start) late))
 
-        same-use : (pool : ℕ) → inUse J pool (x .stop) (x ∷ L) ≡ inUse J pool t L
+        same-use : (pool : ℕ) → inUse J pool (free J pool x) (x ∷ L) ≡ inUse J pool t L
         same-use pool =
-            let zero-first : 0 + inUse J pool (x .stop) L ≡ inUse J pool (x .stop) L = omega arith in
-            ap (λ (m : ℕ). m + inUse J pool (x .stop) L) (own-share pool) ∙ zero-first
-            ∙ ap (λ (m : ℕ). inUse J pool m L) stops
+            let late = free J pool x in
+            let zero-first : 0 + inUse J pool late L ≡ inUse J pool late L = omega arith in
+            ap (λ (m : ℕ). m + inUse J pool late L) (own-share pool) ∙ zero-first
+            ∙ ap (λ (m : ℕ). inUse J pool m L) (free-at-stop J pool x ∙ stops)
 
         has-room : lacksRoom J (x ∷ L) x ≡ false
         has-room =
@@ -320,15 +324,15 @@ module _ (J : Job) (sets numbers : List ℕ) (frame : Frame) (described : Descri
 
   -- ---- pools and stores do not suffice
   pub barred-when-pools-exceeded-while-running : (m : ℕ) → x .start ≤ m → m < t → exceedsPools J L i m ≡ true → Result
-  unfolding free
   barred-when-pools-exceeded-while-running m after before h =
       let r = below-some (length (J .pools)) _ h in
       let pool : ℕ = r .0 in
       let over = ltb-true (getD (J .pools) pool 0) (inUse J pool m L + getD (x .action .pools) pool 0) (r .2) in
       let s = stops in
       let share = getD (x .action .pools) pool 0 in
-      let own : cond (leb (x .start) m && ltb m (x .stop)) share 0 ≡ share =
-      rw (le-leb (x .start) m (omega arith), lt-ltb m (x .stop) (omega arith)) in
+      let late = free-at-stop J pool x in
+      let own : cond (leb (x .start) m && ltb m (free J pool x)) share 0 ≡ share =
+      rw (le-leb (x .start) m (omega arith), lt-ltb m (free J pool x) (omega arith)) in
       dead-when-pool-exceeded J (fromOf frame) (frame .goal) (frame .horizon) _ (x ∷ L) pool m (r .1) (omega arith)
 
   -- in the minute before it stops
@@ -337,9 +341,8 @@ module _ (J : Job) (sets numbers : List ℕ) (frame : Frame) (described : Descri
       let l = starts-before in barred-when-pools-exceeded-while-running m (omega arith) (omega arith) h
 
   pub barred-when-stores-exceeded : exceedsStores J L i ≡ true → Result
-  unfolding storeUse storeCap
   barred-when-stores-exceeded h =
       let r = below-some (length (J .stores)) _ h in
       let store : ℕ = r .0 in
-      let over = ltb-true (storeCap J store) (usedUp J store L + getD (x .action .stores) store 0) (r .2) in
+      let over = ltb-true (storeCap J store) (usedUp J store L + storeAmount J store (x .action)) (r .2) in
       dead-when-store-exceeded J (fromOf frame) (frame .goal) (frame .horizon) _ (x ∷ L) store (r .1) (omega arith)

@@ -25,6 +25,7 @@ use Rattle.states.specs.Minutes.{runsInto}
 use Rattle.states.specs.States.{Stands}
 use Rattle.states.specs.Moves.{NoStartBetween}
 use Rattle.states.specs.Carried.{AddsOf, LatestStart}
+use Rattle.states.proofs.Events.{untouched-between}
 use Rattle.states.proofs.Chosen.{stepAt, place-of-chosen, chosen-at-place}
 
 module _ (J : Job) (sets numbers : List ℕ) (frame : Frame) (described : Describes J sets numbers frame)
@@ -48,10 +49,7 @@ module _ (J : Job) (sets numbers : List ℕ) (frame : Frame) (described : Descri
       let count = described .actions in
       record {
         earlier = before;
-        noStart = λ x Q p a b.
-            let k = place-of-chosen J (st .steps) (st .steps .count) p in
-            let same = ap (λ (y : Step). y .start) (k .2) in
-            none (k .0) (k .1) (omega arith) (omega arith);
+        noEvent = λ m a b. untouched-between J (st .steps) from t none m (omega arith) b;
         openStarts = λ a known undecided.
             let d = described .each a (omega arith) in
             let duration = d .duration in

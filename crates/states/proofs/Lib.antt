@@ -1,6 +1,7 @@
 mod Looks
 pub mod AmountLaws
 pub mod Chosen
+pub mod Events
 mod BarredActions
 mod BesideLaws
 pub mod StateLaws

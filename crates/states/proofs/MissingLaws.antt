@@ -8,7 +8,6 @@ use native.Mathlib.Omega.{arith}
 use lib.ListN.{length, getD}
 use borrow.Author.Tests.{leb-false}
 use Rattle.facts.specs.FactSet.{union, difference}
-use Rattle.job.specs.Resources.{storeCap}
 use Rattle.job.specs.Job.{Job}
 use Rattle.timeline.specs.Step.{Step, total}
 use Rattle.timeline.specs.From.{IsNew}
@@ -21,13 +20,13 @@ use Rattle.tables.specs.declared.Frame.{Frame}
 use Rattle.landmarks.specs.Landmarks.{marksOf, sumOver, minutesIn}
 use Rattle.landmarks.specs.Tables.{markAt, shareFrom, rowAt}
 use Rattle.landmarks.specs.Openings.{openAt}
-use Rattle.landmarks.specs.Cliques.{apartAt, leastAt, CliqueMinutes}
-use Rattle.landmarks.proofs.DeadEnds.{dead-when-store-short, dead-when-pool-short}
-use Rattle.landmarks.proofs.CliqueLaws.{dead-when-clique-too-long}
+use Rattle.cliques.specs.Cliques.{apartAt, leastAt, CliqueMinutes}
+use Rattle.landmarks.proofs.DeadEnds.{dead-when-store-short, dead-when-steps-short, dead-when-pool-short}
+use Rattle.cliques.proofs.CliqueLaws.{dead-when-clique-too-long}
 use Rattle.states.specs.declared.state.State.{State}
 use Rattle.states.specs.States.{Stands, DeadFor}
 use Rattle.states.specs.Missing.{Marked, Fresh, Missing, fits, UsedBefore}
-use Rattle.states.proofs.Chosen.{chosen-splits, since-new}
+use Rattle.states.proofs.Chosen.{length-chosen, chosen-splits, since-new}
 
 -- what the code computes of the state is what is missing
 pub missing-is : (sets : List ℕ) (frame : Frame) (st : State) (must marks missing : ℕ)
@@ -82,7 +81,7 @@ module _ (J : Job) (sets numbers : List ℕ) (frame : Frame) (described : Descri
       → Missing sets frame st missing
       → fits numbers store missing (getD (st .uses .spent) store 0) (getD (frame .stocks) store 0) ≡ false
       → DeadFor J frame (Until (fromOf frame) (st .minute)) L
-  unfolding storeCap both
+  unfolding both
   dead-when-store-exceeded store missing few inside is fails =
       let count = described .stores in
       let known : store < length (J .stores) = omega arith in
@@ -96,6 +95,20 @@ module _ (J : Job) (sets numbers : List ℕ) (frame : Frame) (described : Descri
       (keptOf J frame) later-steps new-steps (frame .given) (marked .hand) 64 (markAt sets) (marked .landmarks)
       (shareFrom numbers (rowAt store)) store known 2520 (marked .stores store few known)
       (rw (is ∙ missing-of, used, stock) at more))
+
+  pub dead-when-steps-exceeded : (missing : ℕ) → Missing sets frame st missing
+      → fits numbers 8 missing (st .steps .count) 32 ≡ false → DeadFor J frame (Until (fromOf frame) (st .minute)) L
+  unfolding both
+  dead-when-steps-exceeded missing is fails =
+      let used = sym (length-chosen J (st .steps) (st .steps .count)) ∙ ap length same in
+      let row = shareFrom numbers (rowAt 8) in
+      let more : 2520 * 32 < sumOver row 64 missing + 2520 * length both =
+      subst (λ (n : ℕ). 2520 * 32 < sumOver row 64 missing + 2520 * n) used
+      (leb-false (sumOver row 64 missing + 2520 * st .steps .count) (2520 * 32) fails) in
+      back
+      (dead-when-steps-short J (fromOf frame) (frame .goal) (frame .horizon) t notBefore (stands .inTime) since
+      (keptOf J frame) later-steps new-steps (frame .given) (marked .hand) 64 (markAt sets) (marked .landmarks)
+      row 2520 (marked .steps) (rw (is ∙ missing-of) at more))
 
   pub dead-when-minutes-exceeded : (missing minutes : ℕ) → Missing sets frame st missing
       → CliqueMinutes sets numbers missing minutes → st .minute - frame .first < minutes

@@ -5,7 +5,7 @@ use mathlib.Core.Path.{_≡_}
 use mathlib.Core.Bool.{Bool, cond}
 use mathlib.Core.List.{List, [], _∷_}
 use lib.ListN.{length, getD}
-use Rattle.job.specs.Resources.{storeCap}
+use Rattle.job.specs.Resources.{storeAmount, storeCap}
 use Rattle.job.specs.Job.{Job}
 use Rattle.job.specs.Valid.{over}
 use Rattle.timeline.specs.Step.{Step, stepOf}
@@ -76,4 +76,4 @@ exceedsPools J L i minute =
 abbrev pub exceedsStores : Job → List Step → ℕ → Bool
 exceedsStores J L i =
     anyBelow (length (J .stores))
-    (λ store. over (storeCap J store) (usedUp J store L + getD (actionOf J i .stores) store 0))
+    (λ store. over (storeCap J store) (usedUp J store L + storeAmount J store (actionOf J i)))

@@ -8,6 +8,7 @@ use lib.Dec.{leb}
 use lib.ListN.{length, getD}
 use Rattle.facts.specs.FactSet.{union, difference}
 use Rattle.job.specs.Job.{Job}
+use Rattle.job.specs.Resources.{storeAmount}
 use Rattle.regression.specs.DeadEnd.{Until}
 use Rattle.timeline.specs.Step.{total}
 use Rattle.tables.specs.Tables.{Describes, DescribesEach, chosenTo, chosen, keptOf, fromOf, KeepsKept}
@@ -17,7 +18,7 @@ use Rattle.landmarks.specs.Landmarks.{marksOf, sumOver, Shares, minutesIn}
 use Rattle.landmarks.specs.Bounds.{AddedByNew}
 use Rattle.landmarks.specs.Openings.{OpensAt, openAt}
 use Rattle.landmarks.specs.Tables.{markAt, shareFrom, rowAt}
-use Rattle.landmarks.specs.Cliques.{Cliques, apartAt, leastAt}
+use Rattle.cliques.specs.Cliques.{Cliques, apartAt, leastAt}
 use Rattle.states.specs.declared.state.State.{State}
 use Rattle.states.specs.States.{Stands, DeadFor}
 
@@ -26,10 +27,11 @@ pub record Marked (J : Job) (sets numbers : List ℕ) (frame : Frame) : Type 0 w
   pub hand : ℕ
   pub landmarks : AddedByNew J (frame .first) (keptOf J frame) (frame .given) hand 64 (markAt sets)
   pub stores : (store : ℕ) → store < 4 → store < length (J .stores)
-      → Shares J hand (shareFrom numbers (rowAt store)) 64 (λ a. 2520 * getD (a .stores) store 0)
+      → Shares J hand (shareFrom numbers (rowAt store)) 64 (λ a. 2520 * storeAmount J store a)
   pub pools : (pool : ℕ) → pool < 4 → pool < length (J .pools)
       → Shares J hand (shareFrom numbers (rowAt (4 + pool))) 64
       (λ a. 2520 * (getD (a .pools) pool 0 * a .duration))
+  pub steps : Shares J hand (shareFrom numbers (rowAt 8)) 64 (λ a. 2520 * 1)
   pub opens : (pool : ℕ) → pool < 4 → pool < length (J .pools)
       → OpensAt J (frame .first) (keptOf J frame) pool (openAt numbers pool + frame .origin)
   pub cliques : Cliques J (frame .first) (keptOf J frame) 64 (apartAt sets) (leastAt numbers)

@@ -29,7 +29,7 @@ pub fn amount(counts: bool, number: u32) -> u64
 
 // The sums with the table's four amounts from place `at` on, where they count.
 fn plus(numbers: &[u32], at: usize, counts: bool, sums: [u64; Job::POOLS]) -> [u64; Job::POOLS]
-    requires { ⌜ (at + 4 ≤ length (now numbers)) × (length (now numbers) ≤ 1156) × Sums 32 sums ⌝ }
+    requires { ⌜ (at + 4 ≤ length (now numbers)) × (length (now numbers) ≤ 1220) × Sums 32 sums ⌝ }
     ensures { λ r. ⌜ Added (now (numbers .entry)) at counts sums r ⌝ }
 {
     let mut out = sums;
@@ -43,7 +43,7 @@ fn plus(numbers: &[u32], at: usize, counts: bool, sums: [u64; Job::POOLS]) -> [u
 
 // What is used with one more step of an action.
 pub fn joined(numbers: &[u32], uses: Uses, t: u32, i: u8, start: u16) -> Uses
-    requires { ⌜ (length (now numbers) ≡ 1156) × (i < 64) × (durationAt (now numbers) i ≤ 255) × Small 32 uses ⌝ }
+    requires { ⌜ (length (now numbers) ≡ 1220) × (i < 64) × (durationAt (now numbers) i ≤ 255) × Small 32 uses ⌝ }
     ensures { λ r. ⌜ JoinsUses (now (numbers .entry)) t i start uses r ⌝ }
 {
     let at = i as usize * NumberTable::ROW;
@@ -105,7 +105,7 @@ pub fn exceeds(
     limits: [u32; Job::POOLS],
     count: usize,
 ) -> bool
-    requires { ⌜ (at + 4 ≤ length (now numbers)) × (length (now numbers) ≤ 1156) × Sums 32 sums × (count ≤ 4) ⌝ }
+    requires { ⌜ (at + 4 ≤ length (now numbers)) × (length (now numbers) ≤ 1220) × Sums 32 sums × (count ≤ 4) ⌝ }
     ensures { λ r. ⌜ r ≡ exceeds (now (numbers .entry)) at sums limits count ⌝ }
 {
     let mut k = 0;

@@ -28,7 +28,7 @@ fn adds_of(sets: &[u64], left: u64) -> u64
 
 // The latest of a minute and the starts of the actions of a set, should they stop at the state's minute.
 fn latest_start(numbers: &[u32], frame: Frame, st: State, left: u64, from: u16) -> u16
-    requires { ⌜ (length (now numbers) ≡ 1156) × (frame .actions ≤ 64) × FitAll (now numbers) frame st left
+    requires { ⌜ (length (now numbers) ≡ 1220) × (frame .actions ≤ 64) × FitAll (now numbers) frame st left
         × (from < st .minute) ⌝ }
     ensures { λ r. ⌜ LatestStart (now (numbers .entry)) left (st .minute) from 64 r ⌝ }
 {

@@ -11,18 +11,21 @@ use crate::minute;
 use crate::pool_minutes;
 use crate::state::State;
 use job::Job;
-use landmarks::cliques;
 use landmarks::marks;
 use landmarks::shares;
 use tables::Frame;
 use tables::layout::NumberTable;
+use timeline::Plan;
 
 // A row of shares has one for each fact.
 const SHARE_ROW: usize = Job::FACTS as usize;
 
+// The most steps of a plan.
+const STEPS: u64 = Plan::STEPS as u64;
+
 // Whether the row's shares of a set, and what is used besides, are at most so much.
 fn fits(numbers: &[u32], row: usize, missing: u64, used: u64, most: u64) -> bool
-    requires { ⌜ (length (now numbers) ≡ 1156) × (row < 8) × (used ≤ 2 ^ 46) × (most ≤ 2 ^ 48) ⌝ }
+    requires { ⌜ (length (now numbers) ≡ 1220) × (row < 9) × (used ≤ 2 ^ 46) × (most ≤ 2 ^ 48) ⌝ }
     ensures { λ r. ⌜ r ≡ fits (now (numbers .entry)) row missing used most ⌝ }
 {
     shares::sum(numbers, NumberTable::SHARES + row * SHARE_ROW, missing) + shares::SCALE * used
@@ -31,7 +34,7 @@ fn fits(numbers: &[u32], row: usize, missing: u64, used: u64, most: u64) -> bool
 
 // Whether the stores have enough left for what is missing.
 fn stores_suffice(numbers: &[u32], frame: Frame, st: State, missing: u64) -> bool
-    requires { ⌜ (length (now numbers) ≡ 1156) × (frame .stores ≤ 4) × Sums 32 (st .uses .spent) × Fresh st
+    requires { ⌜ (length (now numbers) ≡ 1220) × (frame .stores ≤ 4) × Sums 32 (st .uses .spent) × Fresh st
         × (frame .first ≤ st .minute) ⌝ }
     ensures { λ r. ⌜ ((sets : List ℕ) → Missing sets frame st missing
         → DeadUnlessSuffices sets (now (numbers .entry)) frame st r) ⌝ }
@@ -72,9 +75,19 @@ fn pools_suffice(numbers: &[u32], frame: Frame, st: State, missing: u64) -> bool
     true
 }
 
+// Whether enough steps are left for what is missing.
+fn steps_suffice(numbers: &[u32], frame: Frame, st: State, missing: u64) -> bool
+    requires { ⌜ (length (now numbers) ≡ 1220) × (st .steps .count ≤ 32) × Fresh st × (frame .first ≤ st .minute) ⌝ }
+    ensures { λ r. ⌜ ((sets : List ℕ) → Missing sets frame st missing
+        → DeadUnlessSuffices sets (now (numbers .entry)) frame st r) ⌝ }
+{
+    let used = st.steps.count as u64;
+    fits(numbers, NumberTable::STEPS_ROW, missing, used, STEPS)
+}
+
 // Whether there are minutes enough for what is missing and can only be added one after the other.
 fn minutes_suffice(sets: &[u64], numbers: &[u32], frame: Frame, st: State, missing: u64) -> bool
-    requires { ⌜ (length (now sets) ≡ 384) × (length (now numbers) ≡ 1156) × (frame .first ≤ st .minute) × Fresh st ⌝ }
+    requires { ⌜ (length (now sets) ≡ 384) × (length (now numbers) ≡ 1220) × (frame .first ≤ st .minute) × Fresh st ⌝ }
     ensures { λ r. ⌜ (Missing (now (sets .entry)) frame st missing
         → DeadUnlessSuffices (now (sets .entry)) (now (numbers .entry)) frame st r) ⌝ }
 {
@@ -82,13 +95,16 @@ fn minutes_suffice(sets: &[u64], numbers: &[u32], frame: Frame, st: State, missi
     minutes <= shares::wide(minute::wide(st.minute) - minute::wide(frame.first))
 }
 
-// Whether stores, pools and minutes suffice for what is missing.
+// Whether steps, stores, pools and minutes suffice for what is missing.
 pub fn suffices(sets: &[u64], numbers: &[u32], frame: Frame, st: State) -> bool
     requires { ⌜ Safe (now sets) (now numbers) frame st × Fresh st × (frame .first ≤ st .minute) ⌝ }
     ensures { λ r. ⌜ DeadUnlessSuffices (now (sets .entry)) (now (numbers .entry)) frame st r ⌝ }
 {
     let must = facts::union(st.wanted, st.at.across);
     let missing = facts::difference(marks::of_set(sets, must), frame.given);
+    if !steps_suffice(numbers, frame, st, missing) {
+        return false;
+    }
     if !stores_suffice(numbers, frame, st, missing) {
         return false;
     }

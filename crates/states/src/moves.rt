@@ -15,7 +15,7 @@ use tables::layout::SetTable;
 
 // When action i starts that stops then.
 pub fn start_of(numbers: &[u32], i: u8, stop: u16) -> u16
-    requires { ⌜ (length (now numbers) ≡ 1156) × (i < 64) × (durationAt (now numbers) i ≤ stop) ⌝ }
+    requires { ⌜ (length (now numbers) ≡ 1220) × (i < 64) × (durationAt (now numbers) i ≤ stop) ⌝ }
     ensures { λ r. ⌜ r ≡ stop - durationAt (now (numbers .entry)) i ⌝ }
 {
     let start = minute::wide(stop) - numbers[i as usize * NumberTable::ROW];
@@ -24,7 +24,7 @@ pub fn start_of(numbers: &[u32], i: u8, stop: u16) -> u16
 
 // The state with action i stopping at its minute.
 pub fn take(sets: &[u64], numbers: &[u32], st: State, i: u8) -> State
-    requires { ⌜ (length (now sets) ≡ 384) × (length (now numbers) ≡ 1156) × (i < 64) × (st .steps .count < 32)
+    requires { ⌜ (length (now sets) ≡ 384) × (length (now numbers) ≡ 1220) × (i < 64) × (st .steps .count < 32)
         × (durationAt (now numbers) i ≤ 255) × (durationAt (now numbers) i ≤ st .minute) × Small 32 (st .uses) ⌝ }
     ensures { λ r. ⌜ Taken (now (sets .entry)) (now (numbers .entry)) st i r ⌝ }
 {
@@ -76,7 +76,7 @@ pub fn event(steps: Steps, first: u16, t: u16) -> u16
 
 // What a step of action i adds, if it stops after minute s and by minute t.
 fn gone_of(sets: &[u64], numbers: &[u32], i: u8, start: u16, s: u32, t: u32) -> u64
-    requires { ⌜ (length (now sets) ≡ 384) × (length (now numbers) ≡ 1156) × (i < 64)
+    requires { ⌜ (length (now sets) ≡ 384) × (length (now numbers) ≡ 1220) × (i < 64)
         × (durationAt (now numbers) i ≤ 255) ⌝ }
     ensures { λ r. ⌜ GoneOf (now (sets .entry)) (now (numbers .entry)) i start s t r ⌝ }
 {

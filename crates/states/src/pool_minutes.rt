@@ -13,7 +13,7 @@ use tables::layout::NumberTable;
 
 // The minute at which a pool opens, where the table counts from the origin.
 pub fn opening(numbers: &[u32], pool: usize, origin: u16) -> u64
-    requires { ⌜ (length (now numbers) ≡ 1156) × (pool < 4) ⌝ }
+    requires { ⌜ (length (now numbers) ≡ 1220) × (pool < 4) ⌝ }
     ensures { λ r. ⌜ r ≡ openAt (now (numbers .entry)) pool + origin ⌝ }
 {
     shares::wide(numbers[NumberTable::OPENINGS + pool]) + shares::wide(minute::wide(origin))
@@ -60,7 +60,7 @@ fn minutes_in(from: u64, t: u64, start: u64, stop: u64) -> u64
 
 // What a step of action i uses of the pool from a minute on and before t.
 fn used_by(numbers: &[u32], i: u8, start: u16, pool: usize, from: u64, t: u64) -> u64
-    requires { ⌜ (length (now numbers) ≡ 1156) × (i < 64) × (durationAt (now numbers) i ≤ 255) × (pool < 4) ⌝ }
+    requires { ⌜ (length (now numbers) ≡ 1220) × (i < 64) × (durationAt (now numbers) i ≤ 255) × (pool < 4) ⌝ }
     ensures { λ r. ⌜ (r ≡ poolUseAt (now (numbers .entry)) i pool
         * (min (start + durationAt (now (numbers .entry)) i) t - max start from)) × (r ≤ 2 ^ 40) ⌝ }
 {

@@ -160,7 +160,7 @@ pub fn candidates(sets: &[u64], numbers: &[u32], frame: Frame, st: State, undeci
 
 // The one of two actions that lasts longer, the second where both last as long.
 fn longer(numbers: &[u32], i: u8, k: u8) -> u8
-    requires { ⌜ (length (now numbers) ≡ 1156) × (i < 64) × (k < 64) ⌝ }
+    requires { ⌜ (length (now numbers) ≡ 1220) × (i < 64) × (k < 64) ⌝ }
     ensures { λ r. ⌜ (r ≡ i) ⊎ (r ≡ k) ⌝ }
 {
     if numbers[k as usize * NumberTable::ROW] < numbers[i as usize * NumberTable::ROW] {
@@ -172,7 +172,7 @@ fn longer(numbers: &[u32], i: u8, k: u8) -> u8
 // The candidate to take first: the longest, of equally long ones the last. Any would do; with this one the order of the
 // file's actions matters least (docs/DECISIONS.md).
 pub fn pick(numbers: &[u32], left: u64) -> u8
-    requires { ⌜ (length (now numbers) ≡ 1156) × (0 < left) ⌝ }
+    requires { ⌜ (length (now numbers) ≡ 1220) × (0 < left) ⌝ }
     ensures { λ r. ⌜ (r < 64) × (has left r ≡ true) ⌝ }
 {
     let mut longest = facts::next(left, 0);

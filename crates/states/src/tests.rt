@@ -44,7 +44,7 @@ pub fn all_needed(sets: &[u64], actions: usize, st: State) -> bool
 
 // What a step of action i needs, if it runs in minute t.
 fn need_of(sets: &[u64], numbers: &[u32], i: u8, start: u16, t: u32) -> u64
-    requires { ⌜ (length (now sets) ≡ 384) × (length (now numbers) ≡ 1156) × (i < 64)
+    requires { ⌜ (length (now sets) ≡ 384) × (length (now numbers) ≡ 1220) × (i < 64)
         × (durationAt (now numbers) i ≤ 255) ⌝ }
     ensures { λ r. ⌜ NeedOf (now (sets .entry)) (now (numbers .entry)) i start t r ⌝ }
 {

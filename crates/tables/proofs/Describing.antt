@@ -6,6 +6,7 @@ use mathlib.Core.List.{List}
 use native.Mathlib.Omega.{arith}
 use lib.ListN.{getD}
 use Rattle.lists.proofs.Tabulate.{length-tabulate, getD-tabulate, each-at}
+use Rattle.job.proofs.ResourceLaws.{allowed-is}
 use Rattle.job.specs.declared.Job as held
 use Rattle.job.specs.declared.refusal.Verdict.the-variants.{Pass}
 use Rattle.job.specs.Job.{Action, jobIn, actionAt, beyond}
@@ -58,7 +59,7 @@ module _ (job : held.Job) (sets numbers : List ℕ) (filled : Filled job sets nu
           pools = length-tabulate (job .counts .pools) (λ k. getD (job .pools) k 0);
           stores = length-tabulate (job .counts .stores) (λ k. getD (job .stores) k 0);
           available = λ k l. sym (getD-tabulate (job .counts .pools) (λ m. getD (job .pools) m 0) k 0 l);
-          stocks = λ k l. sym (getD-tabulate (job .counts .stores) (λ m. getD (job .stores) m 0) k 0 l);
+          stocks = λ k l. allowed-is job k l;
           inTime = omega arith;
           each = describes-action;
         }

@@ -14,6 +14,8 @@ use borrow.Author.Tests.{eq-eqb, ne-eqb}
 use Rattle.lists.proofs.Tabulate.{length-tabulate, getD-tabulate}
 use Rattle.facts.specs.FactSet.{has, single}
 use Rattle.facts.proofs.Membership.{has-zero}
+use Rattle.job.specs.Resources.{storeAmount, chargedIn}
+use Rattle.job.proofs.ResourceLaws.{charged-is}
 use Rattle.job.specs.declared.Action as value
 use Rattle.job.specs.declared.Job as held
 use Rattle.job.specs.Job.{Action, Job, Fits, jobIn, actionAt, beyond}
@@ -124,10 +126,10 @@ module _ (job : held.Job) (i : ℕ) (known : i < job .counts .actions) where
         clash = λ j l. ap (λ (m : ℕ). has m j) (put .put 3 (omega arith)) ∙ clashing j (omega arith);
       }
 
-  pub numbers-put : (xs ys zs : List ℕ) (d : ℕ) → Fits (job .counts) → i * 9 < length xs → d ≡ a .duration → d < 256
-      → ValuesPut (set xs (i * 9) d) (i * 9 + 1) 4 (a .pools) ys → ValuesPut ys (i * 9 + 5) 4 (a .stores) zs
+  pub numbers-put : (xs ys zs amounts : List ℕ) (d : ℕ) → amounts ≡ chargedIn job a → Fits (job .counts) → i * 9 < length xs → d ≡ a .duration → d < 256
+      → ValuesPut (set xs (i * 9) d) (i * 9 + 1) 4 (a .pools) ys → ValuesPut ys (i * 9 + 5) 4 amounts zs
       → NumbersFilled (jobIn job) zs i
-  numbers-put xs ys zs d fits room is-d byte pools stores =
+  numbers-put xs ys zs amounts d charges fits room is-d byte pools stores =
       let same = action-of-value job i known in
       let poolCount = length-tabulate (job .counts .pools) (λ k. getD (job .pools) k 0) in
       let storeCount = length-tabulate (job .counts .stores) (λ k. getD (job .stores) k 0) in
@@ -145,8 +147,9 @@ module _ (job : held.Job) (i : ℕ) (known : i < job .counts .actions) where
         stores =
             λ k l.
             stores .put k (omega arith)
-            ∙ sym (getD-tabulate (job .counts .stores) (λ m. getD (a .stores) m 0) k 0 (omega arith))
-            ∙ sym (ap (λ (x : Action). getD (x .stores) k 0) same);
+            ∙ ap (λ (list : List ℕ). getD list k 0) charges
+            ∙ charged-is job a k (omega arith)
+            ∙ sym (ap (storeAmount (jobIn job) k) same);
       }
 
 -- ---- one action after the other

@@ -11,6 +11,7 @@ use Rattle.job.specs.declared.Action as value
 use Rattle.job.specs.declared.Counts.{Counts}
 use Rattle.job.specs.declared.Job as held
 use Rattle.job.specs.Job.{Job, actionIn, jobIn}
+use Rattle.job.specs.Resources.{storeAmount, allowedIn}
 use Rattle.timeline.specs.Timeline.{hinders}
 use Rattle.times.specs.Earliest.{actionOf}
 use Rattle.tables.specs.declared.Frame.{Frame}
@@ -30,7 +31,7 @@ pub record NumbersFilled (J : Job) (numbers : List ℕ) (i : ℕ) : Type 0 where
   pub byte : actionOf J i .duration ≤ 255
   pub pools : (pool : ℕ) → pool < length (J .pools) → poolUseAt numbers i pool ≡ getD (actionOf J i .pools) pool 0
   pub stores : (store : ℕ) → store < length (J .stores)
-      → storeUseAt numbers i store ≡ getD (actionOf J i .stores) store 0
+      → storeUseAt numbers i store ≡ storeAmount J store (actionOf J i)
 
 -- each action of the job value is in the table
 abbrev pub EachFilled : (Job → List ℕ → ℕ → Type 0) → held.Job → List ℕ → Type 0
@@ -39,7 +40,7 @@ EachFilled Put job xs = (i : ℕ) → i < job .counts .actions → Put (jobIn jo
 -- all actions of the job value are in both tables
 pub record Filled (job : held.Job) (sets numbers : List ℕ) : Type 0 where
   pub setCount : length sets ≡ 384
-  pub numberCount : length numbers ≡ 1156
+  pub numberCount : length numbers ≡ 1220
   pub eachSets : EachFilled SetsFilled job sets
   pub eachNumbers : EachFilled NumbersFilled job numbers
 
@@ -52,7 +53,7 @@ frameOf job goal first kept given =
       pools = job .counts .pools;
       stores = job .counts .stores;
       available = job .pools;
-      stocks = job .stores;
+      stocks = allowedIn job;
       start = job .start;
       goal = goal;
       first = first;

@@ -8,6 +8,7 @@ use lib.Dec.{eqb}
 use lib.ListN.{length, getD, set, replicate}
 use Rattle.facts.specs.FactSet.{has}
 use Rattle.job.specs.Job.{Job}
+use Rattle.job.specs.Resources.{storeAmount, storeCap}
 use Rattle.timeline.specs.Step.{Step, stepOf}
 use Rattle.timeline.specs.From.{From, IsNew}
 use Rattle.timeline.specs.Timeline.{hinders}
@@ -53,7 +54,7 @@ pub record DescribesAction (J : Job) (sets numbers : List ℕ) (i : ℕ) : Type 
   pub byte : actionOf J i .duration ≤ 255
   pub pools : (pool : ℕ) → pool < length (J .pools) → poolUseAt numbers i pool ≡ getD (actionOf J i .pools) pool 0
   pub stores : (store : ℕ) → store < length (J .stores)
-      → storeUseAt numbers i store ≡ getD (actionOf J i .stores) store 0
+      → storeUseAt numbers i store ≡ storeAmount J store (actionOf J i)
 
 -- the tables describe each action of the job
 abbrev pub DescribesEach : Job → List ℕ → List ℕ → ℕ → Type 0
@@ -66,13 +67,13 @@ pub record Describes (J : Job) (sets numbers : List ℕ) (frame : Frame) : Type 
   pub pools : length (J .pools) ≡ frame .pools
   pub stores : length (J .stores) ≡ frame .stores
   pub available : (pool : ℕ) → pool < frame .pools → getD (frame .available) pool 0 ≡ getD (J .pools) pool 0
-  pub stocks : (store : ℕ) → store < frame .stores → getD (frame .stocks) store 0 ≡ getD (J .stores) store 0
+  pub stocks : (store : ℕ) → store < frame .stores → getD (frame .stocks) store 0 ≡ storeCap J store
   pub inTime : frame .horizon ≤ J .deadline
   pub each : DescribesEach J sets numbers (frame .actions)
 
 -- a table of numbers that is long enough, with durations of one byte
 pub record Numbers (numbers : List ℕ) (actions : ℕ) : Type 0 where
-  pub numberCount : length numbers ≡ 1156
+  pub numberCount : length numbers ≡ 1220
   pub few : actions ≤ 64
   pub short : (i : ℕ) → i < actions → durationAt numbers i ≤ 255
 

@@ -9,6 +9,7 @@ use crate::layout::NumberTable;
 use crate::layout::SetTable;
 use job::Action;
 use job::Job;
+use job::resources;
 
 // A duration as a number of 32 bits.
 fn minutes(duration: u8) -> u32
@@ -85,13 +86,13 @@ fn put_amounts(numbers: &mut [u32], at: usize, amounts: [u32; Job::POOLS])
 
 // Puts the numbers of action i into the table, and leaves the entries before them.
 fn put_numbers(numbers: &mut [u32], job: Job, i: usize)
-    requires { ⌜ (length (now numbers) ≡ 1156) × Fits (job .counts) × (i < job .counts .actions) ⌝ }
-    ensures { λ r. ⌜ (length (now (numbers .exit)) ≡ 1156) × NumbersFilled (jobIn job) (now (numbers .exit)) i
+    requires { ⌜ (length (now numbers) ≡ 1220) × Fits (job .counts) × (i < job .counts .actions) ⌝ }
+    ensures { λ r. ⌜ (length (now (numbers .exit)) ≡ 1220) × NumbersFilled (jobIn job) (now (numbers .exit)) i
         × SameBefore (i * 9) (now (numbers .entry)) (now (numbers .exit)) ⌝ }
 {
     let action = job.actions[i];
     let pools = action.pools;
-    let stores = action.stores;
+    let stores = resources::charged(job, action);
     let at = i * NumberTable::ROW;
     numbers[at] = minutes(action.duration);
     put_amounts(numbers, at + NumberTable::POOLS, pools);
@@ -100,8 +101,8 @@ fn put_numbers(numbers: &mut [u32], job: Job, i: usize)
 
 // Puts the numbers of all actions into the table.
 fn fill_numbers(numbers: &mut [u32], job: Job)
-    requires { ⌜ (length (now numbers) ≡ 1156) × Fits (job .counts) ⌝ }
-    ensures { λ r. ⌜ (length (now (numbers .exit)) ≡ 1156)
+    requires { ⌜ (length (now numbers) ≡ 1220) × Fits (job .counts) ⌝ }
+    ensures { λ r. ⌜ (length (now (numbers .exit)) ≡ 1220)
         × EachFilled NumbersFilled job (now (numbers .exit)) ⌝ }
 {
     let counts = job.counts;
@@ -114,7 +115,7 @@ fn fill_numbers(numbers: &mut [u32], job: Job)
 
 // Puts the sets and numbers of all actions into the tables. What the entries behind them hold is not promised.
 pub fn fill(sets: &mut [u64], numbers: &mut [u32], job: Job)
-    requires { ⌜ (length (now sets) ≡ 384) × (length (now numbers) ≡ 1156) × Fits (job .counts) ⌝ }
+    requires { ⌜ (length (now sets) ≡ 384) × (length (now numbers) ≡ 1220) × Fits (job .counts) ⌝ }
     ensures { λ r. ⌜ Filled job (now (sets .exit)) (now (numbers .exit)) ⌝ }
 {
     fill_sets(sets, job);

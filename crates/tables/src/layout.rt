@@ -33,10 +33,12 @@ impl NumberTable {
 
     pub const STORES: usize = NumberTable::POOLS + Job::POOLS;
 
-    // Behind the rows the shares, a row of all facts for each store and then for each pool.
+    // Behind the rows the shares, a row of all facts for each store, then for each pool, and the last for steps.
     pub const SHARES: usize = NumberTable::ROW * Job::ACTIONS;
 
-    pub const SHARE_ROWS: usize = Job::STORES + Job::POOLS;
+    pub const STEPS_ROW: usize = Job::STORES + Job::POOLS;
+
+    pub const SHARE_ROWS: usize = NumberTable::STEPS_ROW + 1;
 
     // Then the minute at which each pool opens, and for each fact the least minutes of an adder.
     pub const OPENINGS: usize = NumberTable::SHARES + NumberTable::SHARE_ROWS * Job::FACTS as usize;

@@ -7,6 +7,7 @@ ghost use Prim.Native.Nat.{_<_};
 ghost use Rattle.tables.specs.Tables.{noSteps, pushed};
 ghost use Rattle.tables.specs.Filled.{frameOf};
 use job::Job;
+use job::resources;
 use timeline::Plan;
 
 // What of the job is no table, and what is asked of it. The search is for the goal, from the first free minute up to
@@ -37,7 +38,7 @@ impl Frame {
     {
         let counts = job.counts;
         let available = job.pools;
-        let stocks = job.stores;
+        let stocks = resources::allowed(job);
         Frame {
             facts: job.facts,
             actions: counts.actions,

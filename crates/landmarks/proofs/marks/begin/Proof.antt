@@ -4,7 +4,7 @@ use Prim.Native.Nat.{_-_, _≤_}
 use mathlib.Core.Path.{_≡_, ap, _∙_}
 use mathlib.Core.Bool.{Bool, cond, not}
 use Rattle.landmarks.specs.Tables.{Begun}
-use Rattle.landmarks.proofs.TableLaws.{begun-at-first, begun-on}
+use Rattle.landmarks.proofs.TableLaws.{put-at-first, put-on}
 use native.Mathlib.Omega.{arith}
 use Rattle.landmarks.proofs.marks.begin.Statement.{statement}
 use Rattle.landmarks.proofs.marks.begin.Tie as tie
@@ -16,7 +16,7 @@ abbrev μ-loop : tie.MeasureT-loop
 μ-loop sets₀ start all q₀ sets q = 64 - q
 
 loop-holds : tie.Need-loop-holds Inv-loop μ-loop
-loop-holds c = (omega arith, begun-at-first _ _ _ (c .before .pre))
+loop-holds c = (omega arith, put-at-first _ _ _ _ (c .before .pre))
 
 has-requires : tie.Need-has-requires Inv-loop μ-loop
 has-requires c κs = tt
@@ -46,8 +46,11 @@ loop-again : tie.Need-loop-again Inv-loop μ-loop
 loop-again c =
     let c-args = c .before .before .before .before .before .args in
     let c-loop = c .before .before .before .loop in
-    let e = c .when .ensures ∙ ap (λ (b : Bool). cond (not b) (c-args .all) 0) (c .before .has .ensures) in
-    (omega arith, begun-on _ _ _ _ (c-loop .q) _ (omega arith) e (c-loop .inv .1))
+    let e = c .when .ensures ∙ ap (λ (b : Bool). cond (not b) (c-args .all) 0) (c .before .has .ensures) in (
+      omega arith,
+      put-on 256 384 64 _ (omega arith) (λ ys place v k entry behind below h. h) _ _ (c-loop .q) _ (omega arith) e
+          (c-loop .inv .1),
+    )
 
 same-length : tie.Need-same-length Inv-loop μ-loop
 same-length c =

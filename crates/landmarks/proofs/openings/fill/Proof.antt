@@ -3,7 +3,8 @@
 use Prim.Native.Nat.{_-_, _≤_}
 use mathlib.Core.Path.{_≡_}
 use Rattle.landmarks.specs.Openings.{OpeningsPut}
-use Rattle.landmarks.proofs.OpeningLaws.{openings-at-first, openings-on}
+use Rattle.landmarks.proofs.TableLaws.{put-at-first}
+use Rattle.landmarks.proofs.OpeningLaws.{openings-on}
 use native.Mathlib.Omega.{arith}
 use Rattle.landmarks.proofs.openings.fill.Statement.{statement}
 use Rattle.landmarks.proofs.openings.fill.Tie as tie
@@ -15,7 +16,7 @@ abbrev μ-loop : tie.MeasureT-loop
 μ-loop numbers₀ sets times frame pool₀ numbers pool = 4 - pool
 
 loop-holds : tie.Need-loop-holds Inv-loop μ-loop
-loop-holds c = (omega arith, openings-at-first _ _ _ _ (c .before .before .before .pre .1))
+loop-holds c = (omega arith, put-at-first _ _ _ _ (c .before .before .before .pre .1))
 
 opening-requires : tie.Need-opening-requires Inv-loop μ-loop
 opening-requires c κs =

@@ -10,14 +10,14 @@ use Rattle.landmarks.proofs.shares.fill.Tie as tie
 
 abbrev Inv-loop : tie.InvT-loop
 Inv-loop numbers₀ sets actions start row₀ numbers row =
-    (row ≤ 8) × KeptBefore 576 1156 numbers₀ numbers × ((k : ℕ) → k < row → Within sets numbers actions start k)
+    (row ≤ 9) × KeptBefore 576 1220 numbers₀ numbers × ((k : ℕ) → k < row → Within sets numbers actions start k)
 
 abbrev μ-loop : tie.MeasureT-loop
-μ-loop numbers₀ sets actions start row₀ numbers row = 8 - row
+μ-loop numbers₀ sets actions start row₀ numbers row = 9 - row
 
 loop-holds : tie.Need-loop-holds Inv-loop μ-loop
 loop-holds c =
-    (omega arith, kept-at-first 576 1156 _ (c .before .before .pre .1 .numberCount), λ k l. absurd (omega arith))
+    (omega arith, kept-at-first 576 1220 _ (c .before .before .pre .1 .numberCount), λ k l. absurd (omega arith))
 
 fill-row-requires : tie.Need-fill-row-requires Inv-loop μ-loop
 fill-row-requires c κs =
@@ -40,7 +40,7 @@ loop-again c =
     let few = c-pre .1 .few in
     let r = c .before .before .fill-row .ensures in (
       omega arith,
-      kept-again 576 1156 _ _ _ (inv .1) (kept-less 576 _ 1156 _ _ (omega arith) (r .0)),
+      kept-again 576 1220 _ _ _ (inv .1) (kept-less 576 _ 1220 _ _ (omega arith) (r .0)),
       rows-on (c-args .sets .now) (c-args .start) _ _ (c-args .actions) (c-loop .row) few (omega arith)
           (r .0) (r .1) (inv .2),
     )

@@ -48,7 +48,7 @@ returns c =
     let c-args = at8 .before .before .before .before .before .args in
     let c-search = at8 .before .search in
     let c-put = c .before .before .put in (
-      kept-again _ 1156 _ _ _ (c-search .ensures) (c-put .ensures .kept),
+      kept-again _ 1220 _ _ _ (c-search .ensures) (c-put .ensures .kept),
       within-when-empty (c-args .sets .now) (c-args .start) _ _ (c-args .actions) _ (c-put .ensures),
     )
 

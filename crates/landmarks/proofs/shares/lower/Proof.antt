@@ -9,7 +9,7 @@ use Rattle.landmarks.proofs.shares.lower.Statement.{statement}
 use Rattle.landmarks.proofs.shares.lower.Tie as tie
 
 abbrev Inv-loop : tie.InvT-loop
-Inv-loop numbers₀ at set share p₀ numbers p = (p ≤ 64) × KeptBefore at 1156 numbers₀ numbers
+Inv-loop numbers₀ at set share p₀ numbers p = (p ≤ 64) × KeptBefore at 1220 numbers₀ numbers
 
 abbrev μ-loop : tie.MeasureT-loop
 μ-loop numbers₀ at set share p₀ numbers p = 64 - p
@@ -18,7 +18,7 @@ next-requires : tie.Need-next-requires Inv-loop μ-loop
 next-requires c κs = tt
 
 loop-holds : tie.Need-loop-holds Inv-loop μ-loop
-loop-holds c = (c .next .ensures .within, kept-at-first _ 1156 _ (c .before .before .pre .0))
+loop-holds c = (c .next .ensures .within, kept-at-first _ 1220 _ (c .before .before .pre .0))
 
 cast-lower-at : tie.Need-cast-lower-at Inv-loop μ-loop
 cast-lower-at c = omega arith
@@ -49,7 +49,7 @@ loop-again c =
     let c-loop = c .before .before .before .before .before .before .loop in
     let c-lower-at = c .before .before .before .lower-at in (
       c .next2 .ensures .within,
-      kept-again _ 1156 _ _ _ (c-loop .inv .1) (kept-less (c-args .at) _ 1156 _ _ (omega arith) (c-lower-at .ensures)),
+      kept-again _ 1220 _ _ _ (c-loop .inv .1) (kept-less (c-args .at) _ 1220 _ _ (omega arith) (c-lower-at .ensures)),
     )
 
 same-length : tie.Need-same-length Inv-loop μ-loop

@@ -1,9 +1,9 @@
 -- `put` meets its contract: the first k entries are put.
 -- Assumes nothing.
 use Prim.Native.Nat.{_-_, _≤_}
-use mathlib.Core.Path.{_≡_}
+use mathlib.Core.Path.{_≡_, refl}
 use Rattle.landmarks.specs.Tables.{PutFrom}
-use Rattle.landmarks.proofs.ShareLaws.{put-at-first, put-on}
+use Rattle.landmarks.proofs.TableLaws.{put-at-first, put-on}
 use native.Mathlib.Omega.{arith}
 use Rattle.landmarks.proofs.shares.put.Statement.{statement}
 use Rattle.landmarks.proofs.shares.put.Tie as tie
@@ -15,7 +15,7 @@ abbrev μ-loop : tie.MeasureT-loop
 μ-loop numbers₀ at number k₀ numbers k = 64 - k
 
 loop-holds : tie.Need-loop-holds Inv-loop μ-loop
-loop-holds c = (omega arith, put-at-first _ _ _ (c .pre .0))
+loop-holds c = (omega arith, put-at-first _ _ _ _ (c .pre .0))
 
 add-numbers : tie.Need-add-numbers Inv-loop μ-loop
 add-numbers c = let h = c .before .before .pre in omega arith
@@ -35,8 +35,11 @@ loop-less c = omega arith
 
 loop-again : tie.Need-loop-again Inv-loop μ-loop
 loop-again c =
-    let h = c .before .before .pre in
-    (omega arith, put-on _ _ _ _ (c .before .loop .k) (omega arith) (c .before .loop .inv .1))
+    let h = c .before .before .pre in (
+      omega arith,
+      put-on _ 1220 64 _ (h .1) (λ ys place v k entry behind below e. e) _ _ (c .before .loop .k) _ (omega arith) refl
+          (c .before .loop .inv .1),
+    )
 
 same-length : tie.Need-same-length Inv-loop μ-loop
 same-length c =

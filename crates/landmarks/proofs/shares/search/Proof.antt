@@ -9,7 +9,7 @@ use Rattle.landmarks.proofs.shares.search.Statement.{statement}
 use Rattle.landmarks.proofs.shares.search.Tie as tie
 
 abbrev Inv-loop : tie.InvT-loop
-Inv-loop numbers₀ sets actions start row at i₀ numbers i = (i ≤ actions) × KeptBefore (rowAt row) 1156 numbers₀ numbers
+Inv-loop numbers₀ sets actions start row at i₀ numbers i = (i ≤ actions) × KeptBefore (rowAt row) 1220 numbers₀ numbers
 
 abbrev μ-loop : tie.MeasureT-loop
 μ-loop numbers₀ sets actions start row at i₀ numbers i = actions - i
@@ -24,7 +24,7 @@ put-requires : tie.Need-put-requires Inv-loop μ-loop
 put-requires c κs = let h = c .before .before .before .pre in (h .1 .numberCount, omega arith)
 
 loop-holds : tie.Need-loop-holds Inv-loop μ-loop
-loop-holds c = (omega arith, kept-at-first _ 1156 _ (c .before .before .put .ensures .kept .size))
+loop-holds c = (omega arith, kept-at-first _ 1220 _ (c .before .before .put .ensures .kept .size))
 
 mul-difference : tie.Need-mul-difference Inv-loop μ-loop
 mul-difference c =
@@ -86,7 +86,7 @@ loop-again : tie.Need-loop-again Inv-loop μ-loop
 loop-again c =
     let at8 = c .before .before .before .before .before .before .before .before in
     let c-loop = at8 .before .before .before .loop in
-    (omega arith, kept-again _ 1156 _ _ _ (c-loop .inv .1) (c .before .before .lower .ensures))
+    (omega arith, kept-again _ 1220 _ _ _ (c-loop .inv .1) (c .before .before .lower .ensures))
 
 same-length : tie.Need-same-length Inv-loop μ-loop
 same-length c =
@@ -96,7 +96,7 @@ same-length c =
 returns : tie.Need-returns Inv-loop μ-loop
 returns c =
     let c-put = c .before .before .before .before .put in
-    kept-again _ 1156 _ _ _ (c-put .ensures .kept) (c .before .loop .inv .1)
+    kept-again _ 1220 _ _ _ (c-put .ensures .kept) (c .before .loop .inv .1)
 
 pub search-spec : {M : Type 1} → statement M
 search-spec =

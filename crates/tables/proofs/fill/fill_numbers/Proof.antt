@@ -13,7 +13,7 @@ use Rattle.tables.proofs.fill.fill_numbers.Tie as tie
 
 abbrev Inv-loop : tie.InvT-loop
 Inv-loop numbers₀ job counts i₀ numbers i =
-    (i ≤ counts .actions) × (length numbers ≡ 1156) × ((k : ℕ) → k < i → NumbersFilled (jobIn job) numbers k)
+    (i ≤ counts .actions) × (length numbers ≡ 1220) × ((k : ℕ) → k < i → NumbersFilled (jobIn job) numbers k)
 
 abbrev μ-loop : tie.MeasureT-loop
 μ-loop numbers₀ job counts i₀ numbers i = counts .actions - i

@@ -1,4 +1,4 @@
--- `put_numbers` meets its contract: the duration, then the uses of the pools, then those of the stores.
+-- `put_numbers` meets its contract: the duration, then what the action uses of pools and stores.
 -- Assumes nothing.
 use Prim.Native.Nat.{_*_}
 use mathlib.Core.Path.{_∙_}
@@ -15,6 +15,9 @@ mul-action c = search needs
 
 element-copy-out-action : tie.Need-element-copy-out-action
 element-copy-out-action c = search needs
+
+charged-requires : tie.Need-charged-requires
+charged-requires c κs = search needs
 
 mul-at : tie.Need-mul-at
 mul-at c = search needs
@@ -62,6 +65,7 @@ returns c =
     let at8 = c .before .before .before .before .before .before .before .before in
     let c-pre = at8 .before .before .before .before .before .pre in
     let c-args = at8 .before .before .before .before .before .args in
+    let c-charged = at8 .before .charged in
     let c-minutes = c .before .before .before .before .before .before .before .before .minutes in
     let c-put-amounts = c .before .before .before .before .before .before .put-amounts in
     let h = c-pre in
@@ -73,7 +77,7 @@ returns c =
     let pools = c-put-amounts .ensures in
     let stores = c .before .before .put-amounts2 .ensures in (
       stores .size ∙ pools .size ∙ length-set xs (i * 9) d ∙ h .0,
-      numbers-put (at .t2) i (h .2) xs _ _ d (h .1) (omega arith) (byte .0) (byte .1) pools stores,
+      numbers-put (at .t2) i (h .2) xs _ _ _ d (c-charged .ensures) (h .1) (omega arith) (byte .0) (byte .1) pools stores,
       λ k l.
           stores .before k (omega arith) ∙ pools .before k (omega arith)
           ∙ getD-set-other xs (i * 9) k d 0 (λ e. omega arith),
@@ -85,6 +89,7 @@ put-numbers-spec =
     (tie.spec
     mul-action
     element-copy-out-action
+    charged-requires
     mul-at
     minutes-requires
     mul-numbers

@@ -1,0 +1,4 @@
+pub mod CliqueLaws
+pub mod CliqueTables
+mod FillLaws
+mod RemainingLaws

@@ -1,0 +1,2 @@
+pub mod Cliques
+pub mod Marked
