@@ -2,7 +2,6 @@
 use crate::Record;
 use crate::lent;
 use crate::lent::front;
-use checker::Checked;
 use earliest::EarliestTime;
 use job::Job;
 use job::refusal::Refusal;
@@ -12,7 +11,7 @@ use libc::STDOUT_FILENO;
 use made_jobs::parts::same_everywhere;
 use output::number;
 use output::text;
-use planner::Planned;
+use timeline::Day;
 use timeline::Plan;
 
 fn refused(why: Refusal) {
@@ -107,13 +106,16 @@ fn digit_pair(is_first: bool, byte: u8) {
     io::print_hex(STDOUT_FILENO, byte as u64, 2);
 }
 
-fn print_checked(checked: Checked) {
-    match checked {
-        Checked::Ends(end) => {
-            text(b"ends ");
-            number(end as u64);
-        }
-        Checked::Refused(why) => refused(why),
+fn print_end(end: u32) {
+    text(b"ends ");
+    number(end as u64);
+}
+
+fn print_checked(day: Day) {
+    let verdict = day.verdict;
+    match verdict {
+        Verdict::Pass => print_end(day.end),
+        Verdict::Refused(why) => refused(why),
     }
 }
 
@@ -127,37 +129,40 @@ fn print_time(time: EarliestTime) {
 
 // Whether the checker accepts the plan with this end.
 fn accepted(job: Job, plan: &[u8], end: u32) -> bool {
-    match checker::check(job, plan) {
-        Checked::Ends(last) => last == end,
-        Checked::Refused(_) => false,
+    let day = checker::check(job, plan);
+    let verdict = day.verdict;
+    match verdict {
+        Verdict::Pass => day.end == end,
+        Verdict::Refused(_) => false,
     }
 }
 
-// Whether so many steps at the front of the slice are accepted with this end, and the rest is as before.
-fn handed_out(job: Job, slice: &[u8], end: u32, steps: usize) -> bool {
-    if Plan::STEPS < steps {
+// Whether the day's steps stand at the front of the slice and are accepted with its end, and the rest is as before.
+fn handed_out(job: Job, slice: &[u8], day: Day) -> bool {
+    if Plan::STEPS < day.steps {
         return false;
     }
-    let size = steps * Plan::STEP;
-    accepted(job, front(slice, size), end) & lent::kept(slice, size)
+    let size = day.steps * Plan::STEP;
+    accepted(job, front(slice, size), day.end) & lent::kept(slice, size)
 }
 
 // The planner is lent a slice of so many bytes.
 fn print_plan(job: Job, length: usize) {
     let mut slice = [lent::FILL; lent::ROOM];
-    match lent::plan(&mut slice, length, job) {
-        Planned::Ends(end, steps) => print_day(job, &slice, end, steps),
-        Planned::Refused(why) => print_no_day(why, &slice),
+    let day = lent::plan(&mut slice, length, job);
+    let verdict = day.verdict;
+    match verdict {
+        Verdict::Pass => print_day(job, &slice, day),
+        Verdict::Refused(why) => print_no_day(why, &slice),
     }
 }
 
-fn print_day(job: Job, slice: &[u8], end: u32, steps: usize) {
-    text(b"ends ");
-    number(end as u64);
+fn print_day(job: Job, slice: &[u8], day: Day) {
+    print_end(day.end);
     text(b", ");
-    number(steps as u64);
+    number(day.steps as u64);
     text(b" steps");
-    choose(handed_out(job, slice, end, steps), b"", b", wrong bytes");
+    choose(handed_out(job, slice, day), b"", b", wrong bytes");
 }
 
 fn print_no_day(why: Refusal, slice: &[u8]) {

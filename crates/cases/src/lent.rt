@@ -1,7 +1,7 @@
 // A slice that is lent to the writer or the planner, and what it holds afterwards.
 use job::Job;
 use jobfile::Written;
-use planner::Planned;
+use timeline::Day;
 
 // What a byte of the slice holds before.
 pub const FILL: u8 = 170;
@@ -49,7 +49,7 @@ pub fn write(slice: &mut [u8], length: usize, job: Job) -> Written {
 }
 
 // The planner with the first bytes of a slice, so many.
-pub fn plan(slice: &mut [u8], length: usize, job: Job) -> Planned {
+pub fn plan(slice: &mut [u8], length: usize, job: Job) -> Day {
     if length <= slice.len() {
         planner::plan(job, &mut slice[0..length])
     } else {

@@ -2,13 +2,13 @@
 // it is refused.
 // Arguments: the job file and the plan file, by name. A file that cannot be read gets a message on standard error.
 ghost use Rattle.io.specs.Counts.{Counts};
-use checker::Checked;
 use job::refusal::Refusal;
 use job::refusal::Verdict;
 use job::refusal::number;
 use jobfile::Layout;
 use libc::STDERR_FILENO;
 use libc::STDOUT_FILENO;
+use timeline::Day;
 use timeline::Plan;
 
 // One byte more than the longest file, and than the longest plan: what fills it is too long.
@@ -78,6 +78,19 @@ fn load_named(i: usize, buffer: &mut [u8]) -> Loaded
     loaded
 }
 
+// The end of a plan that is accepted, or why it is not.
+fn print_day(day: Day) {
+    let verdict = day.verdict;
+    match verdict {
+        Verdict::Pass => {
+            print_line(b"end ", day.end as u64);
+        }
+        Verdict::Refused(why) => {
+            print_refusal(why);
+        }
+    }
+}
+
 // The answer to a plan for the job of a file.
 fn print_answer(file: &[u8], plan: &[u8]) {
     let reading = reader::read(file);
@@ -86,15 +99,7 @@ fn print_answer(file: &[u8], plan: &[u8]) {
         print_refusal(why);
         return;
     }
-    let checked = checker::check(reading.job, plan);
-    match checked {
-        Checked::Ends(end) => {
-            print_line(b"end ", end as u64);
-        }
-        Checked::Refused(why) => {
-            print_refusal(why);
-        }
-    }
+    print_day(checker::check(reading.job, plan));
 }
 
 // Reads the plan and answers.

@@ -9,7 +9,6 @@ use jobfile::Layout;
 use libc::STDERR_FILENO;
 use libc::STDIN_FILENO;
 use libc::STDOUT_FILENO;
-use planner::Planned;
 use timeline::Plan;
 
 // One byte more than the longest file: an input that fills it is too long.
@@ -73,14 +72,15 @@ fn print_steps(job: Job, steps: usize, plan: [u8; Plan::BYTES])
 // A shortest plan of the job: its end, its number of steps, then the steps.
 fn print_day(job: Job) {
     let mut plan = [0u8; Plan::BYTES];
-    let planned = planner::plan(job, &mut plan);
-    match planned {
-        Planned::Ends(end, steps) => {
-            print_line(b"makespan ", end as u64);
-            print_line(b"steps ", steps as u64);
-            print_steps(job, steps, plan);
+    let day = planner::plan(job, &mut plan);
+    let verdict = day.verdict;
+    match verdict {
+        Verdict::Pass => {
+            print_line(b"makespan ", day.end as u64);
+            print_line(b"steps ", day.steps as u64);
+            print_steps(job, day.steps, plan);
         }
-        Planned::Refused(why) => {
+        Verdict::Refused(why) => {
             print_refusal(why);
         }
     }

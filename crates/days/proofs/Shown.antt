@@ -16,7 +16,7 @@ use Rattle.timeline.specs.Accepted.{stepRows, planRows}
 use Rattle.times.specs.Time.{at}
 use Rattle.times.specs.Earliest.{Table, rightSide, Solves}
 use Rattle.makespan.specs.Makespan.{makespanFrom}
-use Rattle.checker.specs.Check.{checkPlan}
+use Rattle.checker.specs.Check.{checkRows, checkPlan}
 use Rattle.days.specs.Days.{job4, job5, job6, Holds, days}
 
 infixr 20 _and_
@@ -44,7 +44,7 @@ x and y = (x, y)
 
 pub days-hold : Each Holds days
 unfolding tabulate any has union difference subset meets foreign fromBytes toBytes first actionRows jobRows stepsIn free
-    storeUse storeCap stepRows planRows checkPlan rightSide makespanFrom
+    storeUse storeCap stepRows planRows checkRows checkPlan rightSide makespanFrom
 days-hold =
     -- 1, 2, 3
     refl and refl and refl and refl

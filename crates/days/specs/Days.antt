@@ -5,9 +5,9 @@ use mathlib.Core.Path.{_≡_}
 use mathlib.Core.List.{List, [], _∷_, _++_}
 use Rattle.encoding.specs.Bytes.{toBytes}
 use Rattle.job.specs.Job.{Action, Job}
-use Rattle.job.specs.declared.refusal.Refusal.the-variants.{AfterDeadline, Clash, NeedMissing, GoalMissing}
-use Rattle.checker.specs.declared.Checked.{Checked}
-use Rattle.checker.specs.declared.Checked.the-variants.{Ends, Refused}
+use Rattle.job.specs.Refusal.{number, Reply, refused, returned}
+use Rattle.job.specs.declared.refusal.Refusal.the-variants.{NoPlan}
+use Rattle.timeline.specs.Day.{Told, dayReply}
 use Rattle.checker.specs.Check.{checkPlan}
 use Rattle.times.specs.Time.{Time, at}
 use Rattle.times.specs.Earliest.{Table, timeOf, Solves}
@@ -91,51 +91,56 @@ step action start = toBytes 1 action ++ toBytes 2 start
 
 -- what is said of a day
 pub data Day : Type 0 where
-  -- its makespan, where `noPlan` stands for the planner's reply 22
-  planned : Job → Makespan → Day
+  -- the planner's reply, by the makespan: of the plan the end alone
+  planned : Job → Reply ℕ → Day
   -- the earliest time of a set of facts, by the one table that solves the equations
   earliest : Job → ℕ → Time → Day
-  -- the checker's answer to a plan
-  checked : Job → List ℕ → Checked → Day
+  -- the checker's reply to a plan
+  checked : Job → List ℕ → Reply Told → Day
+
+-- the least end, or the refusal for "no plan that passes 12 to 20"
+abbrev pub endReply : Makespan → Reply ℕ
+endReply (endsAt e) = returned e
+endReply noPlan = refused (number NoPlan)
 
 abbrev pub Holds : Day → Type 0
-Holds (planned J answer) = makespan J (J .goal) ≡ answer
+Holds (planned J reply) = endReply (makespan J (J .goal)) ≡ reply
 Holds (earliest J set time) = (table : Table) × Solves J table × (timeOf J table set ≡ time)
-Holds (checked J plan answer) = checkPlan J plan ≡ answer
+Holds (checked J plan reply) = dayReply (checkPlan J plan) ≡ reply
 
 abbrev pub days : List Day
 days =
     -- 1: "end 0, no steps"
-    planned job1 (endsAt 0)
-    ∷ checked job1 [] (Ends 0)
+    planned job1 (returned 0)
+    ∷ checked job1 [] (returned (record { end = 0; steps = 0 }))
     -- 2: "Deadline 7: end 7."
-    ∷ planned (job2 7) (endsAt 7)
+    ∷ planned (job2 7) (returned 7)
     -- 3: "The same, deadline 6: 22."
-    ∷ planned (job2 6) noPlan
+    ∷ planned (job2 6) (refused 22)
     -- 4: "Deadline 4: end 4, earliest time of both 4. Deadline 3: 22."
-    ∷ planned (job4 4) (endsAt 4)
+    ∷ planned (job4 4) (returned 4)
     ∷ earliest (job4 4) (job4 4 .goal) (at 4)
-    ∷ planned (job4 3) noPlan
+    ∷ planned (job4 3) (refused 22)
     -- 5: "Pool of 2: end 2, earliest time 2."
-    ∷ planned (job5 4) (endsAt 2)
-    ∷ planned (job5 3) (endsAt 2)
+    ∷ planned (job5 4) (returned 2)
+    ∷ planned (job5 3) (returned 2)
     ∷ earliest (job5 4) (job5 4 .goal) (at 2)
     -- 6: "End 3, earliest time of the goal 3."
-    ∷ planned job6 (endsAt 3)
+    ∷ planned job6 (returned 3)
     ∷ earliest job6 (job6 .goal) (at 3)
     -- 7: "store 4 ends at 2, store 3 gives 22"
-    ∷ planned (job7 4 4) (endsAt 2)
-    ∷ planned (job7 4 3) (endsAt 2)
-    ∷ planned (job7 3 4) noPlan
-    ∷ planned (job7 3 3) noPlan
+    ∷ planned (job7 4 4) (returned 2)
+    ∷ planned (job7 4 3) (returned 2)
+    ∷ planned (job7 3 4) (refused 22)
+    ∷ planned (job7 3 3) (refused 22)
     -- 8: "Case 6, action 0 at 0, action 1 at 2: accepted; at 1: 16."
-    ∷ checked job6 (step 0 0 ++ step 1 2) (Ends 3)
-    ∷ checked job6 (step 0 0 ++ step 1 1) (Refused Clash)
+    ∷ checked job6 (step 0 0 ++ step 1 2) (returned (record { end = 3; steps = 2 }))
+    ∷ checked job6 (step 0 0 ++ step 1 1) (refused 16)
     -- 9: "Case 2, action 1 at 0, action 2 at 1: 19. Action 0 at 0 and at 2: 16."
-    ∷ checked (job2 7) (step 1 0 ++ step 2 1) (Refused NeedMissing)
-    ∷ checked (job2 7) (step 0 0 ++ step 0 2) (Refused Clash)
+    ∷ checked (job2 7) (step 1 0 ++ step 2 1) (refused 19)
+    ∷ checked (job2 7) (step 0 0 ++ step 0 2) (refused 16)
     -- 10: "Case 2, action 1 at 0, 2 at 2, 0 at 4: end 7; deadline 6: 15. No steps: 20."
-    ∷ checked (job2 7) (step 1 0 ++ step 2 2 ++ step 0 4) (Ends 7)
-    ∷ checked (job2 6) (step 1 0 ++ step 2 2 ++ step 0 4) (Refused AfterDeadline)
-    ∷ checked (job2 7) [] (Refused GoalMissing)
+    ∷ checked (job2 7) (step 1 0 ++ step 2 2 ++ step 0 4) (returned (record { end = 7; steps = 3 }))
+    ∷ checked (job2 6) (step 1 0 ++ step 2 2 ++ step 0 4) (refused 15)
+    ∷ checked (job2 7) [] (refused 20)
     ∷ []

@@ -1,19 +1,12 @@
 // Both planners on one job. The planner's plan is also checked, and so are the bytes that it leaves.
-use checker::Checked;
 use job::Job;
-use planner::Planned;
+use job::refusal::Verdict;
 use second::Makespan;
+use timeline::Day;
+use timeline::Plan;
 
 // What a byte of the slice holds before.
 const FILL: u8 = 170;
-
-// The bytes of a slice for every plan.
-const ROOM: usize = 96;
-
-// The most steps of a plan, and the bytes of one.
-const STEPS: usize = 32;
-
-const STEP: usize = 3;
 
 // What both planners say of a job, or that they differ.
 pub enum Outcome {
@@ -46,36 +39,42 @@ fn kept(slice: &[u8], from: usize) -> bool {
 
 // Whether the checker accepts the plan with this end.
 fn accepted(job: Job, plan: &[u8], end: u32) -> bool {
-    match checker::check(job, plan) {
-        Checked::Ends(last) => last == end,
-        Checked::Refused(_) => false,
+    let day = checker::check(job, plan);
+    let verdict = day.verdict;
+    match verdict {
+        Verdict::Pass => day.end == end,
+        Verdict::Refused(_) => false,
     }
 }
 
-// Whether so many steps at the front of the slice are accepted with this end, and the rest is as before.
-fn handed_out(job: Job, slice: &[u8], end: u32, steps: usize) -> bool {
-    if STEPS < steps {
+// Whether the day's steps stand at the front of the slice and are accepted with its end, and the rest is as before.
+fn handed_out(job: Job, slice: &[u8], day: Day) -> bool {
+    if Plan::STEPS < day.steps {
         return false;
     }
-    let size = steps * STEP;
-    accepted(job, front(slice, size), end) & kept(slice, size)
+    let size = day.steps * Plan::STEP;
+    accepted(job, front(slice, size), day.end) & kept(slice, size)
 }
 
 // Whether the planner ends at this minute too.
 fn same_end(job: Job, end: u32) -> bool {
-    let mut slice = [FILL; ROOM];
-    match planner::plan(job, &mut slice) {
-        Planned::Ends(last, steps) => (last == end) & handed_out(job, &slice, end, steps),
-        Planned::Refused(_) => false,
+    let mut slice = [FILL; Plan::BYTES];
+    let day = planner::plan(job, &mut slice);
+    let verdict = day.verdict;
+    match verdict {
+        Verdict::Pass => (day.end == end) & handed_out(job, &slice, day),
+        Verdict::Refused(_) => false,
     }
 }
 
 // Whether the planner finds no plan either.
 fn no_plan(job: Job) -> bool {
-    let mut slice = [FILL; ROOM];
-    match planner::plan(job, &mut slice) {
-        Planned::Ends(_, _) => false,
-        Planned::Refused(why) => (job::refusal::number(why) == 22) & kept(&slice, 0),
+    let mut slice = [FILL; Plan::BYTES];
+    let day = planner::plan(job, &mut slice);
+    let verdict = day.verdict;
+    match verdict {
+        Verdict::Pass => false,
+        Verdict::Refused(why) => (job::refusal::number(why) == 22) & kept(&slice, 0),
     }
 }
 

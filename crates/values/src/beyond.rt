@@ -1,14 +1,14 @@
 // Other numbers beyond the counts of a job.
 use crate::calls::ROOM;
 use crate::jobs;
-use checker::Checked;
 use earliest::EarliestTime;
 use job::Job;
+use job::refusal::Verdict;
 use job::refusal::number;
 use job::same::same;
 use made_jobs::parts;
 use output::text;
-use planner::Planned;
+use timeline::Day;
 
 // The shortest day of this job is action 0 at 0 and 1 at 3.
 fn day() -> Job {
@@ -43,19 +43,19 @@ fn show(word: &[u8], number: u64) {
     output::number(number);
 }
 
-fn checked(answer: Checked) {
-    match answer {
-        Checked::Ends(end) => show(b"check ends ", end as u64),
-        Checked::Refused(why) => show(b"check refused ", number(why) as u64),
+// What the checker or the planner answers.
+fn show_day(call: &[u8], day: Day) {
+    text(call);
+    let verdict = day.verdict;
+    match verdict {
+        Verdict::Pass => show(b" ends ", day.end as u64),
+        Verdict::Refused(why) => show(b" refused ", number(why) as u64),
     }
 }
 
-fn planned(job: Job) {
+fn planned(job: Job) -> Day {
     let mut slice = [0u8; ROOM];
-    match planner::plan(job, &mut slice) {
-        Planned::Ends(end, _) => show(b", plan ends ", end as u64),
-        Planned::Refused(why) => show(b", plan refused ", number(why) as u64),
-    }
+    planner::plan(job, &mut slice)
 }
 
 fn timed(answer: EarliestTime) {
@@ -69,8 +69,8 @@ fn timed(answer: EarliestTime) {
 // What is answered to the job, with this plan for the checker and the goal for the earliest time.
 fn answers(case: &[u8], job: Job, plan: &[u8]) {
     output::name(case);
-    checked(checker::check(job, plan));
-    planned(job);
+    show_day(b"check", checker::check(job, plan));
+    show_day(b", plan", planned(job));
     timed(earliest::earliest(job, job.goal));
     text(b"\n");
 }

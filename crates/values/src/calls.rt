@@ -1,11 +1,11 @@
 // What the calls answer to a job value.
-use checker::Checked;
 use earliest::EarliestTime;
 use job::Job;
+use job::refusal::Verdict;
 use job::refusal::number;
 use jobfile::Written;
 use output::text;
-use planner::Planned;
+use timeline::Day;
 
 // What a byte of a lent slice holds before, and the bytes of the longest slice.
 pub const FILL: u8 = 170;
@@ -20,17 +20,11 @@ fn written(answer: Written) -> u8 {
     }
 }
 
-fn checked(answer: Checked) -> u8 {
-    match answer {
-        Checked::Ends(_) => 0,
-        Checked::Refused(why) => number(why),
-    }
-}
-
-fn planned(answer: Planned) -> u8 {
-    match answer {
-        Planned::Ends(_, _) => 0,
-        Planned::Refused(why) => number(why),
+fn of_day(day: Day) -> u8 {
+    let verdict = day.verdict;
+    match verdict {
+        Verdict::Pass => 0,
+        Verdict::Refused(why) => number(why),
     }
 }
 
@@ -57,7 +51,7 @@ fn kept(slice: &[u8]) -> bool {
 // The writer and the planner, lent the same slice.
 fn lend(job: Job, slice: &mut [u8]) {
     show(b"write ", written(writer::write(job, slice)));
-    show(b", plan ", planned(planner::plan(job, slice)));
+    show(b", plan ", of_day(planner::plan(job, slice)));
 }
 
 // The same with the first bytes of a slice, so many.
@@ -89,8 +83,8 @@ fn show(call: &[u8], number: u8) {
 pub fn refusals(case: &[u8], job: Job, length: usize, plan: &[u8], set: u64) {
     output::name(case);
     lent(job, length);
-    show(b", check ", checked(checker::check(job, plan)));
-    show(b", check for ", checked(checker::check_for(job, set, plan)));
+    show(b", check ", of_day(checker::check(job, plan)));
+    show(b", check for ", of_day(checker::check_for(job, set, plan)));
     show(b", earliest ", timed(earliest::earliest(job, set)));
     text(b"\n");
 }

@@ -13,8 +13,8 @@ slice-aggregate-plan c = search needs
 plan-requires : tie.Need-plan-requires
 plan-requires c κs = search needs
 
-enum-known-planned : tie.Need-enum-known-planned
-enum-known-planned c = search needs
+enum-told : tie.Need-enum-told
+enum-told c = search needs
 
 slice-aggregate-print-line : tie.Need-slice-aggregate-print-line
 slice-aggregate-print-line c = search needs
@@ -33,15 +33,15 @@ print-line-requires-2 c κs = search needs
 
 print-steps-requires : tie.Need-print-steps-requires
 print-steps-requires c κs =
-    let at8 = c .before .before .before .before .before .before .before .before in
+    let at5 = c .before .before .before .before .before in
+    let at8 = at5 .before .before .before in
     let c-args = at8 .before .before .args in
-    let c-plan2 = c .before .before .before .before .before .before .before .before .plan2 in
-    let c-planned = c .before .before .before .before .before .planned in
-    plan-is-shortest (jobIn (c-args .job)) (replicate 96 0) (c-plan2 .result) _ (c-plan2 .ensures) _ _
-    (c-planned .given .1) .1
+    let c-plan2 = at8 .plan2 in
+    plan-is-shortest (jobIn (c-args .job)) (replicate 96 0) (c-plan2 .result) _ (c-plan2 .ensures)
+    (at5 .enum-told .given .1) .few
 
-enum-known-planned-2 : tie.Need-enum-known-planned-2
-enum-known-planned-2 c = search needs
+enum-known-verdict : tie.Need-enum-known-verdict
+enum-known-verdict c = search needs
 
 print-refusal-requires : tie.Need-print-refusal-requires
 print-refusal-requires c κs = search needs
@@ -58,14 +58,14 @@ print-day-spec =
     (tie.spec
     slice-aggregate-plan
     plan-requires
-    enum-known-planned
+    enum-told
     slice-aggregate-print-line
     cast-print-line
     print-line-requires
     slice-aggregate-print-line-2
     print-line-requires-2
     print-steps-requires
-    enum-known-planned-2
+    enum-known-verdict
     print-refusal-requires
     returns
     returns-2)
