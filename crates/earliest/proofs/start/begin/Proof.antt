@@ -48,16 +48,15 @@ loop-less c = omega arith
 
 loop-again : tie.Need-loop-again Inv-loop μ-loop
 loop-again c =
-    let c-args = c .before .before .before .before .before .before .before .before .args in
+    let start = c .before .before .before .before .before .before .before .before .args .start in
     let c-loop = c .before .before .before .before .loop in
-    let test = c .before .both-in .ensures in
-    let before = c-loop .inv .1 in (
+    let entry = c-loop .entry in
+    let before = c-loop .inv .1 in
+    let test = c .before .both-in .ensures in (
       omega arith,
       ⊎-elim
-          (λ w. rw (w .1)
-          (start-written (c-args .start) (c-loop .entry) (c-loop .table) before (omega arith) (rw (w .0 .taken) at test)))
-          (λ w. rw (w .1)
-          (start-left (c-args .start) (c-loop .entry) (c-loop .table) before (omega arith) (rw (w .0 .left) at test)))
+          (λ w. rw (w .1) (start-written start entry (c-loop .table) before (omega arith) (rw (w .0 .taken) at test)))
+          (λ w. rw (w .1) (start-left start entry (c-loop .table) before (omega arith) (rw (w .0 .left) at test)))
           (c .if1 .came),
     )
 
