@@ -1,14 +1,15 @@
 -- The tests of actions by their values are the tests of the equations.
 -- Assumes nothing.
-use Prim.Native.Nat.{ℕ, _+_, _<_}
+use Prim.Native.Nat.{ℕ, _+_, _≤_, _<_}
 use mathlib.Core.Path.{_≡_, sym, ap, ap₂, _∙_}
 use mathlib.Core.Bool.{Bool, true, false, not, _||_, and-false}
 use mathlib.Core.List.{List}
-use lib.ListN.{length, getD}
+use native.Mathlib.Omega.{arith}
+use lib.ListN.{length, getD, getD-replicate}
 use Rattle.lists.proofs.Tabulate.{length-tabulate, getD-tabulate}
 use Rattle.job.specs.declared.Action as value
 use Rattle.job.specs.declared.Counts.{Counts}
-use Rattle.job.specs.Job.{Job, actionIn}
+use Rattle.job.specs.Job.{Job, actionIn, unusedAction}
 use Rattle.job.specs.Valid.{over}
 use Rattle.timeline.specs.Timeline.{hinders}
 use Rattle.timeline.specs.Accepted.{anyBelow}
@@ -40,6 +41,16 @@ module _ (J : Job) (n : Counts) (pools : ℕ) (available : List ℕ) (has : HasP
       (sym (ap (λ m. anyBelow m (λ k. over (getD (J .pools) k 0)
       (getD (actionIn n a .pools) k 0 + getD (actionIn n b .pools) k 0))) count
       ∙ below-same pools _ _ (λ k l. ap₂ over (available-at k l) (ap₂ _+_ (use-at a k l) (use-at b k l)))))
+
+-- an action fits alone exactly if it fits together with one that uses nothing
+pub fits-with-unused : (pools : ℕ) (available : List ℕ) (a : value.Action) → pools ≤ 4
+    → fitTogetherIn pools available a unusedAction ≡ fitsAloneIn pools available a
+fits-with-unused pools available a few =
+    ap not
+    (below-same pools _ _
+    (λ k l.
+    let none : getD (unusedAction .pools) k 0 ≡ 0 = getD-replicate 4 k 0 0 (omega arith) in
+    ap (over (getD available k 0)) (omega arith)))
 
 -- ---- the tests one after the other
 module _ (J : Job) (i j : ℕ) where

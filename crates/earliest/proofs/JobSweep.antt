@@ -1,10 +1,9 @@
--- Sweeps over a job value: its actions, its start set, and one action after the other.
+-- Sweeps over a job value: its actions, and one action after the other.
 -- Assumes nothing.
 use Prim.Native.Nat.{ℕ, _<_}
 use mathlib.Core.Path.{_≡_, refl, sym, _∙_}
 use mathlib.Core.Bool.{Bool, true, false, _||_, true≢false}
 use mathlib.Core.List.{List}
-use native.Mathlib.Omega.{arith}
 use lib.ListN.{getD}
 use Rattle.lists.proofs.Tabulate.{length-tabulate, getD-tabulate}
 use Rattle.job.specs.declared.Action as value
@@ -13,13 +12,10 @@ use Rattle.job.specs.Job.{Job, jobIn, actionAt, beyond}
 use Rattle.timeline.specs.Step.{noAction}
 use Rattle.times.specs.Earliest.{actionOf, fitsAlone}
 use Rattle.times.specs.Numbers.{none}
-use Rattle.times.proofs.Choices.{atStart}
 use Rattle.earliest.specs.Numbers.{setNumber}
-use Rattle.earliest.specs.Lowering.{AllAtMost, AllOffered, LowersAll}
-use Rattle.earliest.specs.Sweep.{BothSettled, OneSettled, EachSettled, ActionDone, Settled}
+use Rattle.earliest.specs.Sweep.{BothSettled, OneSettled, EachSettled, ActionDone}
 use Rattle.earliest.specs.Sweep.{HasPools, IsAction, MayJoin, JoinedSettled, LowersJoined, LowersPair}
 use Rattle.earliest.specs.Sweep.{EndsAt, LowersBoth, LowersOne, LowersEach, LowersAction}
-use Rattle.earliest.specs.Sweep.{ActionsDone, LowersActions, Sweeps}
 use Rattle.earliest.proofs.SetTimes.{late-of-after}
 use Rattle.earliest.proofs.Lowers.{byte-duration}
 use Rattle.earliest.proofs.Unreachable.{action-unreachable}
@@ -89,15 +85,3 @@ module _ (job : held.Job) where
         lowering-then J (λ xs. BothSettled J i xs × OneSettled J i xs) (EachSettled J i) (ActionDone J i) ws ys zs
         (c || b) d
         both-and-one third (λ x y f. record { both = x .0; one = x .1; each = y })
-
-  -- ---- the start set, and all actions
-  start-offered : (xs : List ℕ) → AllOffered J xs 0 (J .start) (J .start)
-  start-offered xs p a hp q b hq l = (atStart hp hq, omega arith)
-
-  pub sweeps : (xs ys zs : List ℕ) (b c : Bool) → LowersAll (job .facts) xs ys (job .start) (job .start) 0 b
-      → LowersActions job ys zs c → Sweeps job xs zs (c || b)
-  sweeps xs ys zs b c start actions able =
-      let first = start J able refl (start-offered xs) in
-      lowering-then J (AllAtMost (J .facts) (J .start) (J .start) 0 (J .facts)) (ActionsDone J) (Settled J) xs ys zs
-      b c first
-      (actions (lowerable-on J _ xs ys b able first)) (λ x y. record { start = x; actions = y })

@@ -11,4 +11,5 @@ mod JobSweep
 mod AnswerLaws
 mod LoweringLaws
 mod Loops
+mod StartLaws
 mod Members

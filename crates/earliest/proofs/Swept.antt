@@ -1,7 +1,7 @@
 -- A sweep in which no entry fell: the table solves the equations.
 -- Assumes nothing.
-use Prim.Native.Nat.{ℕ, _+_, _≤_, _<_, min, max}
-use mathlib.Core.Path.{_≡_, ap, ap₂, sym, _∙_}
+use Prim.Native.Nat.{ℕ, _+_, _≤_, _<_}
+use mathlib.Core.Path.{_≡_, ap, sym, _∙_}
 use mathlib.Core.Bool.{true, false, not}
 use mathlib.Core.Logic.{⊎-elim}
 use mathlib.Core.List.{List}
@@ -22,22 +22,15 @@ use Rattle.times.proofs.Sentinel.{time-in-by}
 use Rattle.times.proofs.Iteration.{solves-when-settled}
 use Rattle.earliest.specs.Lowering.{entryAt, Lowerable}
 use Rattle.earliest.specs.Sweep.{isLonger, Settled}
+use Rattle.earliest.proofs.Entries.{entry-in-order, entry-swapped}
 use Rattle.earliest.proofs.Longer.{longer-or-equal, equal-longer, fit-swapped, together-swapped}
 use Rattle.earliest.proofs.ChoiceLaws.{fits-alone-of-together, number-by-alone, number-by-together}
 
 module _ (J : Job) (xs : List ℕ) (able : Lowerable J xs) (settled : Settled J xs) where
-  entry-swapped : (p q : ℕ) → entryAt xs q p ≡ entryAt xs p q
-  entry-swapped p q =
-      let e : min q p ≡ min p q = omega arith in
-      let f : max q p ≡ max p q = omega arith in
-      ap (λ (k : ℕ). getD xs k none) (ap₂ entryOf e f)
-
   -- an entry that is at most the number of a choice is at most the minute at which it ends
   by-entry : (p q ends t : ℕ) → p ≤ q → entryAt xs p q ≤ ends → (ends ≤ t) × (ends < none) → By (tableIn xs p q) t
   by-entry p q ends t a l m =
-      let e : min p q ≡ p = omega arith in
-      let f : max p q ≡ q = omega arith in
-      let same : entryAt xs p q ≡ getD xs (entryOf p q) none = ap (λ (k : ℕ). getD xs k none) (ap₂ entryOf e f) in
+      let same : getD xs (entryOf p q) none ≡ entryAt xs p q = ap (λ (k : ℕ). getD xs k none) (entry-in-order p q a) in
       let m1 = m .0 in
       let m2 = m .1 in
       time-in-by (getD xs (entryOf p q) none) t (omega arith) (omega arith)
@@ -49,7 +42,7 @@ module _ (J : Job) (xs : List ℕ) (able : Lowerable J xs) (settled : Settled J 
   ends-swapped : (p q t : ℕ) → Ends q p t → Ends p q t
   ends-swapped p q t r =
       let l = r .1 in
-      let e = entry-swapped p q in
+      let e : entryAt xs q p ≡ entryAt xs p q = ap (λ (k : ℕ). getD xs k none) (entry-swapped p q) in
       (r .0, omega arith, r .2)
 
   -- (i)

@@ -1,4 +1,5 @@
 pub mod Numbers
 pub mod Lowering
+pub mod Start
 pub mod Sweep
 pub mod Answer

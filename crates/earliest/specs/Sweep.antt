@@ -76,10 +76,17 @@ pub record ActionSettled (J : Job) (i : ℕ) (xs : List ℕ) : Type 0 where
 abbrev pub ActionDone : Job → ℕ → List ℕ → Type 0
 ActionDone J i xs = fitsAlone J (actionOf J i) ≡ true → ActionSettled J i xs
 
--- all choices
+abbrev pub ActionsDone : Job → List ℕ → Type 0
+ActionsDone J xs = (i : ℕ) → i < length (J .actions) → ActionDone J i xs
+
+-- the entries of the facts that hold at the start
+abbrev pub StartDone : Job → List ℕ → Type 0
+StartDone J xs = AllAtMost (J .facts) (J .start) (J .start) 0 (J .facts) xs
+
+-- the start, and all choices
 pub record Settled (J : Job) (xs : List ℕ) : Type 0 where
-  pub start : AllAtMost (J .facts) (J .start) (J .start) 0 (J .facts) xs
-  pub actions : (i : ℕ) → i < length (J .actions) → ActionDone J i xs
+  pub start : StartDone J xs
+  pub actions : ActionsDone J xs
 
 -- ---- what inner functions promise
 
@@ -154,15 +161,8 @@ abbrev pub LowersAction : held.Job → ℕ → List ℕ → List ℕ → Bool �
 LowersAction job i xs ys changed =
     Lowerable (jobIn job) xs → Lowering (jobIn job) (ActionDone (jobIn job) i) xs ys changed
 
-abbrev pub ActionsDone : Job → List ℕ → Type 0
-ActionsDone J xs = (i : ℕ) → i < length (J .actions) → ActionDone J i xs
-
-abbrev pub LowersActions : held.Job → List ℕ → List ℕ → Bool → Type 0
-LowersActions job xs ys changed =
-    Lowerable (jobIn job) xs → Lowering (jobIn job) (ActionsDone (jobIn job)) xs ys changed
-
 abbrev pub Sweeps : held.Job → List ℕ → List ℕ → Bool → Type 0
-Sweeps job xs ys changed = Lowerable (jobIn job) xs → Lowering (jobIn job) (Settled (jobIn job)) xs ys changed
+Sweeps job xs ys changed = Lowerable (jobIn job) xs → Lowering (jobIn job) (ActionsDone (jobIn job)) xs ys changed
 
 -- the table holds the job's earliest times
 pub record Filled (J : Job) (xs : List ℕ) : Type 0 where

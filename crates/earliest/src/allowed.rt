@@ -6,21 +6,6 @@ ghost use Rattle.earliest.specs.Sweep.{fitsAloneIn, fitTogetherIn, isLon
 use job::Action;
 use job::Job;
 
-// Whether the action uses no more of each pool than there is.
-pub fn fits_alone(pools: usize, available: [u32; Job::POOLS], a: Action) -> bool
-    requires { ⌜ pools ≤ 4 ⌝ }
-    ensures { λ r. ⌜ r ≡ fitsAloneIn pools available a ⌝ }
-{
-    let mut k = 0;
-    while k < pools {
-        if available[k] < a.pools[k] {
-            return false;
-        }
-        k += 1;
-    }
-    true
-}
-
 // Whether the two uses together are more than there is.
 fn exceeded(available: u32, first: u32, second: u32) -> bool
     ensures { λ r. ⌜ r ≡ over available (first + second) ⌝ }
@@ -41,6 +26,14 @@ fn fit_together(pools: usize, available: [u32; Job::POOLS], a: Action, b: Action
         k += 1;
     }
     true
+}
+
+// Whether the action uses no more of each pool than there is: it fits together with one that uses nothing.
+pub fn fits_alone(pools: usize, available: [u32; Job::POOLS], a: Action) -> bool
+    requires { ⌜ pools ≤ 4 ⌝ }
+    ensures { λ r. ⌜ r ≡ fitsAloneIn pools available a ⌝ }
+{
+    fit_together(pools, available, a, Action::unused())
 }
 
 // Whether action i is the longer one of i and j. Of two equally long ones it is the one with the higher number, so that

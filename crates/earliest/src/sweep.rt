@@ -4,11 +4,11 @@ ghost use Prim.Native.Nat.{_≤_, _<_};
 ghost use lib.ListN.{length, replicate};
 ghost use Rattle.job.specs.Job.{jobIn, Fits};
 ghost use Rattle.times.specs.Numbers.{none};
-ghost use Rattle.earliest.specs.Sweep.{LowersJoined, LowersEach, LowersAction, LowersActions, Sweeps, Filled};
+ghost use Rattle.earliest.specs.Sweep.{LowersJoined, LowersEach, LowersAction, Sweeps, Filled};
 use crate::allowed;
 use crate::choices;
-use crate::lower;
 use crate::set_time;
+use crate::start;
 use job::Action;
 use job::Job;
 
@@ -73,11 +73,11 @@ fn by_action(table: &mut [u32], job: Job, i: usize) -> bool
     each | (one | both)
 }
 
-// All choices with actions.
-fn by_actions(table: &mut [u32], job: Job) -> bool
+// One sweep over all choices. Whether an entry fell.
+fn sweep(table: &mut [u32], job: Job) -> bool
     requires { ⌜ (length (now table) ≡ 2080) × (job .facts ≤ 64) × Fits (job .counts) ⌝ }
     ensures { λ r. ⌜ (length (now (table .exit)) ≡ 2080)
-        × LowersActions job (now (table .entry)) (now (table .exit)) r ⌝ }
+        × Sweeps job (now (table .entry)) (now (table .exit)) r ⌝ }
 {
     let counts = job.counts;
     let mut changed = false;
@@ -89,21 +89,12 @@ fn by_actions(table: &mut [u32], job: Job) -> bool
     changed
 }
 
-// One sweep over all choices. Whether an entry fell.
-fn sweep(table: &mut [u32], job: Job) -> bool
-    requires { ⌜ (length (now table) ≡ 2080) × (job .facts ≤ 64) × Fits (job .counts) ⌝ }
-    ensures { λ r. ⌜ (length (now (table .exit)) ≡ 2080) × Sweeps job (now (table .entry)) (now (table .exit)) r ⌝ }
-{
-    let start = lower::lower_all(table, job.facts, job.start, job.start, 0);
-    let actions = by_actions(table, job);
-    actions | start
-}
-
 // Turns a table in which all is unreachable into the job's earliest times.
 pub fn fill(table: &mut [u32], job: Job)
     requires { ⌜ (now table ≡ replicate 2080 none) × (job .facts ≤ 64) × Fits (job .counts) ⌝ }
     ensures { λ r. ⌜ Filled (jobIn job) (now (table .exit)) ⌝ }
 {
+    start::begin(table, job.facts, job.start);
     let mut changed = true;
     while changed {
         changed = sweep(table, job);

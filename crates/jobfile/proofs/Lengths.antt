@@ -2,7 +2,7 @@
 -- Assumes nothing.
 use Prim.Native.Nat.{ℕ, _+_, _*_}
 use mathlib.Core.Path.{_≡_}
-use mathlib.Core.List.{List}
+use mathlib.Core.List.{List, _++_}
 use native.Mathlib.Omega.{arith}
 use lib.ListN.{length, length-append}
 use Rattle.lists.specs.Lists.{Each}
@@ -37,15 +37,45 @@ pub length-actions : (p s : ℕ) (actions : List Action) → Each (Shaped p s) a
 length-actions p s actions h =
     length-joined actionBytes (actionSize p s) actions (each-map (λ a e. length-action p s a e) actions h)
 
+-- the contents, the head, the pools and the stores, and what stands before the pools, the stores and the actions
+pub record PartLengths (J : Job) (C H P S : List ℕ) : Type 0 where
+  pub contents : length C ≡ 16
+  pub head : length H ≡ 19
+  pub pools : length P ≡ length (J .pools) * 4
+  pub stores : length S ≡ length (J .stores) * 4
+  pub toPools : length (C ++ H) ≡ 35
+  pub toStores : length (C ++ H ++ P) ≡ 35 + length (J .pools) * 4
+  pub toActions : length (C ++ H ++ P ++ S) ≡ 35 + length (J .pools) * 4 + length (J .stores) * 4
+
+pub part-lengths : (J : Job)
+    → PartLengths J (joined (toBytes 2) (contents 16 (bodies J))) (headBytes J) (amountBytes (J .pools))
+    (amountBytes (J .stores))
+part-lengths J =
+    added _ _ _ _ (length-numbers 2 (contents 16 (bodies J))) (length-head J) (length-amounts (J .pools))
+    (length-amounts (J .stores))
+  where
+    added : (C H P S : List ℕ) → length C ≡ 16 → length H ≡ 19 → length P ≡ length (J .pools) * 4
+        → length S ≡ length (J .stores) * 4 → PartLengths J C H P S
+    added C H P S c h p s =
+        let l1 = length-append C H in
+        let l2 = length-append (C ++ H) P in
+        let l3 = length-append (C ++ H ++ P) S in
+        record {
+          contents = c;
+          head = h;
+          pools = p;
+          stores = s;
+          toPools = omega arith;
+          toStores = omega arith;
+          toActions = omega arith;
+        }
+
 -- with x, y and z bytes of pools, stores and actions
 pub length-file-of : (J : Job) (x y z : ℕ) → length (J .pools) * 4 ≡ x → length (J .stores) * 4 ≡ y
     → length (joined actionBytes (J .actions)) ≡ z → length (fileOf J) ≡ 35 + x + y + z
 unfolding fileOf
 length-file-of J x y z ex ey ez =
-    let c = length-numbers 2 (contents 16 (bodies J)) in
-    let h = length-head J in
-    let p = length-amounts (J .pools) in
-    let s = length-amounts (J .stores) in
+    let n = part-lengths J in
     simp (length-append, length-bytes) (omega arith)
 
 pub length-file : (J : Job) → Shape J

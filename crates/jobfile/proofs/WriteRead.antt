@@ -5,7 +5,7 @@ use mathlib.Core.Path.{_≡_, refl, ap, _∙_}
 use mathlib.Core.List.{List, [], _++_, append-assoc}
 use native.Mathlib.Nat.{mul-div-cancel, mul-mod-left, mul-le-mul}
 use native.Mathlib.Omega.{arith}
-use lib.ListN.{length, getD, length-append}
+use lib.ListN.{length, getD}
 use lib.Seq.{take-at}
 use Rattle.lists.specs.Lists.{tabulate, Each}
 use Rattle.encoding.specs.Bytes.{fromBytes, toBytes, split, joined}
@@ -18,7 +18,7 @@ use Rattle.job.proofs.Values.{Shape}
 use Rattle.jobfile.specs.File.{headBytes, amountBytes, actionBytes, bodies, contents, fileOf}
 use Rattle.jobfile.specs.File.{offset, size, actionSize, decoded}
 use Rattle.jobfile.specs.Answers.{readRows}
-use Rattle.jobfile.proofs.Lengths.{length-numbers, length-head, length-amounts, length-actions, length-file-of}
+use Rattle.jobfile.proofs.Lengths.{part-lengths, length-actions, length-file-of}
 use Rattle.jobfile.proofs.Contents.{contentsOf, contents-of, entries, entries-in-contents}
 use Rattle.jobfile.proofs.BodiesRead.{numbers-read, part-read, bodies-read}
 use Rattle.jobfile.proofs.Laid.{Laid, laid-gapless, laid-sized}
@@ -63,7 +63,7 @@ module _ (J : Job) (h : Shape J) (f : Passed J) where
       let small : Each (λ n. n < 256 ^ 2) (contentsOf x y z) = omega arith in
       entries-in-contents (fileOf J) (omega arith)
       ∙ ap (split 2 fromBytes)
-      (take-at C (joined (λ b. b) (bodies J)) 16 (length-numbers 2 (contents 16 (bodies J))))
+      (take-at C (joined (λ b. b) (bodies J)) 16 (part-lengths J .contents))
       ∙ ap (λ (n : List ℕ). split 2 fromBytes (joined (toBytes 2) n)) (contents-of J x y z refl refl length-all)
       ∙ numbers-read 2 (contentsOf x y z) (omega arith) small
 
@@ -109,16 +109,10 @@ module _ (J : Job) (h : Shape J) (f : Passed J) where
       let P = amountBytes (J .pools) in
       let S = amountBytes (J .stores) in
       let A = joined actionBytes (J .actions) in
-      let lC : length C ≡ 16 = length-numbers 2 (contents 16 (bodies J)) in
-      let lH = length-head J in
-      let lP = length-amounts (J .pools) in
-      let lS = length-amounts (J .stores) in
-      let lA = length-all in
-      let l1 = length-append C H in
-      let l2 = length-append (C ++ H) P in
-      let l3 = length-append (C ++ H ++ P) S in
       let tS = S ++ (A ++ []) in
-      let n = sizes-read in
+      let lengths = part-lengths J in
+      let all = length-all in
+      let sizes = sizes-read in
       let l = file-laid in
       rw (
         part-read F C H (P ++ tS) (offset F 0) (size F 0) refl (omega arith) (omega arith),

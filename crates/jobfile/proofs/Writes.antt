@@ -10,7 +10,7 @@ use Rattle.encoding.proofs.Numbers.{length-bytes}
 use Rattle.encoding.proofs.Overwrite.{overwrite-overwrite}
 use Rattle.job.specs.Job.{Action, Job}
 use Rattle.jobfile.specs.File.{headBytes, amountBytes, actionBytes, bodies, contents, fileOf}
-use Rattle.jobfile.proofs.Lengths.{length-numbers, length-amounts, length-head}
+use Rattle.jobfile.proofs.Lengths.{length-amounts, part-lengths}
 
 -- each list of bytes in turn written over o at its place
 abbrev pub writes : List ℕ → List (ℕ × List ℕ) → List ℕ
@@ -89,13 +89,7 @@ write-file J x y ex ey o l =
     let P = amountBytes (J .pools) in
     let S = amountBytes (J .stores) in
     let A = joined actionBytes (J .actions) in
-    let lC : length C ≡ 16 = length-numbers 2 (contents 16 (bodies J)) in
-    let lH = length-head J in
-    let lP = length-amounts (J .pools) in
-    let lS = length-amounts (J .stores) in
-    let l2 = length-append C H in
-    let l3 = length-append (C ++ H) P in
-    let l4 = length-append (C ++ H ++ P) S in
+    let n = part-lengths J in
     let grouped : C ++ H ++ P ++ S ++ A ≡ C ++ joined (λ b. b) (bodies J) = simp (append-assoc, append-nil) in
     rw (
       overwrite-overwrite o 0 C H 16 (omega arith) (omega arith),

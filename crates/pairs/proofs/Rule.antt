@@ -10,7 +10,7 @@ use lib.Dec.{eqb, leb, ltb}
 use lib.ListN.{length, getD}
 use borrow.Author.Tests.{eqb-true, leb-true, ltb-true}
 use Rattle.lists.proofs.Bools.{absurd, and-left, and-right}
-use Rattle.pairs.specs.Pairs.{entryOf, PairAt}
+use Rattle.pairs.specs.Pairs.{entryOf, PairAt, AllPairs}
 
 -- the first n entries of row q: 64 q + p
 unfoldable pub row : ℕ → ℕ → List ℕ
@@ -47,7 +47,7 @@ table-length : length (table 64) ≡ 2080
 unfolding table row
 table-length = refl
 
-pub pair-rule : (i : ℕ) → i < 2080 → PairAt i (getD (table 64) i 0 % 64) (getD (table 64) i 0 / 64 % 64)
+pair-rule : (i : ℕ) → i < 2080 → PairAt i (getD (table 64) i 0 % 64) (getD (table 64) i 0 / 64 % 64)
 pair-rule i h =
     let x = getD (table 64) i 0 in
     let l = table-length in
@@ -60,6 +60,9 @@ pair-rule i h =
       numbered = eqb-true (entryOf (x % 64) (x / 64 % 64)) i (and-right (ltb (x / 64 % 64) 64) _ s);
     }
 
--- the last row starts at entry 2,016
-pub row-bound : (q : ℕ) → q < 64 → q * (q + 1) ≤ 4032
-row-bound q h = mul-le-mul {n₂ = 63} {m₂ = 64} (omega arith) (omega arith)
+pub all-pairs : AllPairs (table 64)
+all-pairs = record { whole = table-length; pair = pair-rule }
+
+-- rows before row n start before it
+pub row-bound : (q n : ℕ) → q ≤ n → q * (q + 1) ≤ n * (n + 1)
+row-bound q n h = mul-le-mul h (omega arith)

@@ -1,7 +1,7 @@
 // Both facts of each of the 2,080 entries of a table of earliest times.
 ghost use mathlib.Core.Path.{_≡_};
 ghost use Prim.Native.Nat.{_≤_, _<_};
-ghost use Rattle.pairs.specs.Pairs.{entryOf, PairAt};
+ghost use Rattle.pairs.specs.Pairs.{entryOf, PairAt, AllPairs};
 
 // Two facts, or one fact twice: low ≤ high.
 pub struct Pair {
@@ -12,6 +12,15 @@ pub struct Pair {
 impl Pair {
     // How many pairs there are of 64 facts.
     pub const COUNT: usize = 2_080;
+
+    // How many pairs there are of so many facts. Their entries come first.
+    pub fn count(facts: u8) -> usize
+        requires { ⌜ facts ≤ 64 ⌝ }
+        ensures { λ r. ⌜ (r ≡ entryOf 0 facts) × (r ≤ 2080) ⌝ }
+    {
+        let row = facts as usize;
+        row * (row + 1) / 2
+    }
 }
 
 // For each entry 64 times its higher fact, and its lower fact.
@@ -2098,12 +2107,19 @@ const PAIRS: [u16; Pair::COUNT] = [
     4095,
 ];
 
+// The facts of all entries, to be taken once: a use of the constant writes all of it.
+pub fn all() -> [u16; Pair::COUNT]
+    ensures { λ r. ⌜ AllPairs r ⌝ }
+{
+    PAIRS
+}
+
 // The facts of an entry.
-pub fn pair_at(entry: usize) -> Pair
-    requires { ⌜ entry < 2080 ⌝ }
+pub fn pair_at(pairs: &[u16], entry: usize) -> Pair
+    requires { ⌜ AllPairs (now pairs) × (entry < 2080) ⌝ }
     ensures { λ r. ⌜ PairAt entry (r .low) (r .high) ⌝ }
 {
-    let both = PAIRS[entry];
+    let both = pairs[entry];
     Pair {
         low: (both % 64) as u8,
         high: (both / 64 % 64) as u8,
@@ -2115,6 +2131,5 @@ pub fn entry(low: u8, high: u8) -> usize
     requires { ⌜ (low ≤ high) × (high < 64) ⌝ }
     ensures { λ r. ⌜ (r ≡ entryOf low high) × (r < 2080) ⌝ }
 {
-    let row = high as usize;
-    row * (row + 1) / 2 + low as usize
+    Pair::count(high) + low as usize
 }

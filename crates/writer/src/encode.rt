@@ -24,23 +24,11 @@ const START_AT: usize = Layout::CONTENTS + Layout::START_AT;
 
 const GOAL_AT: usize = Layout::CONTENTS + Layout::GOAL_AT;
 
-// A number of 8, 16 or 32 bits as one of 64.
-fn wide8(x: u8) -> u64
-    ensures { λ r. ⌜ r ≡ x ⌝ }
+// An amount as a number of 64 bits. A function of its own, since a parameter is known to fit and a read element is not.
+fn wide(amount: u32) -> u64
+    ensures { λ r. ⌜ r ≡ amount ⌝ }
 {
-    x as u64
-}
-
-fn wide16(x: u16) -> u64
-    ensures { λ r. ⌜ r ≡ x ⌝ }
-{
-    x as u64
-}
-
-fn wide32(x: u32) -> u64
-    ensures { λ r. ⌜ r ≡ x ⌝ }
-{
-    x as u64
+    amount as u64
 }
 
 // The contents of the job's file, whose actions take `size` bytes each.
@@ -79,8 +67,8 @@ pub fn head(out: &mut [u8], job: Job)
     requires { ⌜ 35 ≤ length (now out) ⌝ }
     ensures { λ r. ⌜ now (out .exit) ≡ overwrite (now (out .entry)) 16 (headBytes (jobIn job)) ⌝ }
 {
-    write_number(out, FACTS_AT, Layout::FACTS, wide8(job.facts));
-    write_number(out, DEADLINE_AT, Layout::DEADLINE, wide16(job.deadline));
+    write_number(out, FACTS_AT, Layout::FACTS, job.facts as u64);
+    write_number(out, DEADLINE_AT, Layout::DEADLINE, job.deadline as u64);
     write_number(out, START_AT, Layout::SET, job.start);
     write_number(out, GOAL_AT, Layout::SET, job.goal);
 }
@@ -92,7 +80,7 @@ pub fn amounts(out: &mut [u8], at: usize, xs: [u32; Job::POOLS], n: usize)
 {
     let mut i = 0;
     while i < n {
-        write_number(out, at + Layout::AMOUNT * i, Layout::AMOUNT, wide32(xs[i]));
+        write_number(out, at + Layout::AMOUNT * i, Layout::AMOUNT, wide(xs[i]));
         i += 1;
     }
 }
@@ -106,7 +94,7 @@ fn action(out: &mut [u8], at: usize, counts: Counts, a: Action)
     let taken = a.stores;
     let uses = at + Layout::ACTION;
     let middle = uses + Layout::AMOUNT * counts.pools;
-    write_number(out, at, Layout::DURATION, wide8(a.duration));
+    write_number(out, at, Layout::DURATION, a.duration as u64);
     write_number(out, at + Layout::NEEDS_AT, Layout::SET, a.needs);
     write_number(out, at + Layout::ADDS_AT, Layout::SET, a.adds);
     write_number(out, at + Layout::DELETES_AT, Layout::SET, a.deletes);

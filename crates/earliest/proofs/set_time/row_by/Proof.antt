@@ -7,8 +7,7 @@ use lib.ListN.{getD}
 use Rattle.facts.specs.FactSet.{has}
 use Rattle.pairs.specs.Pairs.{entryOf}
 use Rattle.times.specs.Numbers.{none}
-use Rattle.times.proofs.Slots.{entry-before-2080}
-use Rattle.earliest.proofs.Entries.{entry-read}
+use Rattle.earliest.proofs.Entries.{entry-read, entry-within}
 use Rattle.earliest.proofs.Latest.{member-at-most-latest}
 use native.Mathlib.Omega.{arith}
 use Rattle.earliest.proofs.set_time.row_by.Statement.{statement}
@@ -40,13 +39,10 @@ mul-if1 c = omega arith
 
 shared-slice-read-if1 : tie.Need-shared-slice-read-if1 Inv-loop μ-loop
 shared-slice-read-if1 c =
-    let c-pre = c .before .before .before .before .before .before .pre in
-    let c-args = c .before .before .before .before .before .before .args in
+    let c-start = c .before .before .before .before .before .before in
     let c-entry = c .before .before .before .before .entry in
-    let h = c-pre in
-    let at = c-entry .ensures in
-    let inside = entry-before-2080 (c .before .before .loop .low) (c-args .high) (omega arith) (omega arith) in
-    omega arith
+    entry-within (c-start .args .table .now) (c-entry .result) (c .before .before .loop .low) (c-start .args .high)
+    (c-start .pre .0) (c-entry .ensures .0) (omega arith) (c-start .pre .1)
 
 returns : tie.Need-returns Inv-loop μ-loop
 returns c =

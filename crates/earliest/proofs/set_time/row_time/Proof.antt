@@ -5,8 +5,7 @@ use mathlib.Core.Logic.{inl}
 use lib.ListN.{getD}
 use Rattle.pairs.specs.Pairs.{entryOf}
 use Rattle.times.specs.Numbers.{none}
-use Rattle.times.proofs.Slots.{entry-before-2080}
-use Rattle.earliest.proofs.Entries.{entry-read}
+use Rattle.earliest.proofs.Entries.{entry-read, entry-within}
 use Rattle.earliest.proofs.Latest.{Counted, counted-at-first, counted-on, counted-late, counted-all}
 use native.Mathlib.Omega.{arith}
 use Rattle.earliest.proofs.set_time.row_time.Statement.{statement}
@@ -39,13 +38,10 @@ mul-later c = omega arith
 
 shared-slice-read-later : tie.Need-shared-slice-read-later Inv-loop μ-loop
 shared-slice-read-later c =
-    let c-pre = c .before .before .before .before .before .before .pre in
-    let c-args = c .before .before .before .before .before .before .args in
+    let c-start = c .before .before .before .before .before .before in
     let c-entry = c .before .before .before .before .entry in
-    let h = c-pre in
-    let at = c-entry .ensures in
-    let inside = entry-before-2080 (c .before .before .loop .low) (c-args .high) (omega arith) (omega arith) in
-    omega arith
+    entry-within (c-start .args .table .now) (c-entry .result) (c .before .before .loop .low) (c-start .args .high)
+    (c-start .pre .0) (c-entry .ensures .0) (omega arith) (c-start .pre .1)
 
 later-requires : tie.Need-later-requires Inv-loop μ-loop
 later-requires c κs = tt

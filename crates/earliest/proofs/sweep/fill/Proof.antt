@@ -1,4 +1,4 @@
--- `fill` meets its contract: the entries fall until none does.
+-- `fill` meets its contract: the start's entries are 0 from the first on, and the others fall until none does.
 -- Assumes nothing.
 use Prim.Native.Nat.{ℕ, _+_}
 use mathlib.Core.Path.{_≡_, sym, ap, _∙_}
@@ -7,10 +7,10 @@ use lib.ListN.{length, length-replicate}
 use Rattle.job.specs.Job.{jobIn}
 use Rattle.times.specs.Numbers.{none}
 use Rattle.times.proofs.Falling.{sum}
-use Rattle.times.proofs.Kept.{kept-at-first}
 use Rattle.earliest.specs.Lowering.{Lowerable}
-use Rattle.earliest.specs.Sweep.{Settled}
+use Rattle.earliest.specs.Sweep.{ActionsDone, StartDone}
 use Rattle.earliest.proofs.LoweringLaws.{lowerable-on, sum-or-change-falls, settled-after}
+use Rattle.earliest.proofs.StartLaws.{start-lowerable, start-done, start-done-on}
 use Rattle.earliest.proofs.Swept.{solves-when-swept}
 use native.Mathlib.Omega.{arith}
 use Rattle.earliest.proofs.sweep.fill.Statement.{statement}
@@ -18,22 +18,27 @@ use Rattle.earliest.proofs.sweep.fill.Tie as tie
 
 abbrev Inv-loop : tie.InvT-loop
 Inv-loop table₀ job changed₀ table changed =
-    (length table ≡ 2080) × Lowerable (jobIn job) table × (changed ≡ false → Settled (jobIn job) table)
+    (length table ≡ 2080) × Lowerable (jobIn job) table × StartDone (jobIn job) table
+    × (changed ≡ false → ActionsDone (jobIn job) table)
 
 abbrev μ-loop : tie.MeasureT-loop
 μ-loop table₀ job changed₀ table changed = sum table + cond changed 1 0
 
+begin-requires : tie.Need-begin-requires Inv-loop μ-loop
+begin-requires c κs = let h = c .before .before .pre in (h .0, h .1)
+
 loop-holds : tie.Need-loop-holds Inv-loop μ-loop
 loop-holds c =
-    let h = c .before .pre in
-    let J = jobIn (c .before .args .job) in
-    let e = ap length (h .0) ∙ length-replicate 2080 none in
-    (e, record { few = h .1; kept = rw (h .0) (kept-at-first J (h .1)) }, λ never. absurd (true≢false never))
+    let at-start = c .before .before .before .before .before in
+    let J = jobIn (at-start .args .job) in
+    let few = at-start .pre .1 in
+    let times = c .before .before .begin .ensures in
+    (times .whole, start-lowerable J few _ times, start-done J few _ times, λ never. absurd (true≢false never))
 
 sweep-requires : tie.Need-sweep-requires Inv-loop μ-loop
 sweep-requires c κs =
-    let c-pre = c .before .before .before .before .pre in
-    let h = c-pre in (c .before .before .loop .inv .0, h .1, h .2)
+    let h = c .before .before .before .before .before .before .before .before .pre in
+    (c .before .before .loop .inv .0, h .1, h .2)
 
 loop-less : tie.Need-loop-less Inv-loop μ-loop
 loop-less c =
@@ -50,20 +55,33 @@ loop-again c =
     let lowering = sweeps .1 (c-loop .inv .1) in (
       sweeps .0,
       lowerable-on _ _ (c-loop .table) _ _ (c-loop .inv .1) lowering,
+      start-done-on _ _ (c-loop .table) _ _ lowering (c-loop .inv .2),
       settled-after _ _ (c-loop .table) _ _ lowering,
     )
 
 same-length : tie.Need-same-length Inv-loop μ-loop
 same-length c =
-    let h = c .before .before .before .pre in
+    let h = c .before .before .before .before .before .before .before .pre in
     c .before .loop .inv .0 ∙ sym (ap length (h .0) ∙ length-replicate 2080 none)
 
 returns : tie.Need-returns Inv-loop μ-loop
 returns c =
     let inv = c .before .loop .inv in
-    record { able = inv .1; solves = solves-when-swept _ _ (inv .1) (inv .2 (c .loop-test .left)) }
+    record {
+      able = inv .1;
+      solves = solves-when-swept _ _ (inv .1) (record { start = inv .2; actions = inv .3 (c .loop-test .left) });
+    }
 
 pub fill-spec : {M : Type 1} → statement M
 fill-spec =
     tie.close
-    (tie.spec Inv-loop μ-loop loop-holds sweep-requires loop-less loop-again same-length returns)
+    (tie.spec
+    Inv-loop
+    μ-loop
+    begin-requires
+    loop-holds
+    sweep-requires
+    loop-less
+    loop-again
+    same-length
+    returns)

@@ -19,8 +19,8 @@ mul-middle c = search needs
 add-middle : tie.Need-add-middle
 add-middle c = search needs
 
-wide8-requires : tie.Need-wide8-requires
-wide8-requires c κs = search needs
+cast-write-number : tie.Need-cast-write-number
+cast-write-number c = search needs
 
 write-number-requires : tie.Need-write-number-requires
 write-number-requires c κs = search needs
@@ -59,7 +59,6 @@ returns c =
     let at24 = at16 .before .before .before .before .before .before .before .before in
     let c-args = at24 .before .before .before .before .before .args in
     let c-pre = at24 .before .before .before .before .before .pre in
-    let c-wide8 = at16 .before .before .before .before .before .before .before .wide8 in
     let c-write-number = at16 .before .before .before .before .before .before .write-number in
     let c-write-number2 = at16 .before .before .write-number2 in
     let c-write-number3 = at8 .before .before .before .before .before .before .write-number3 in
@@ -75,7 +74,6 @@ returns c =
       c-write-number3 .ensures,
       c-write-number2 .ensures,
       c-write-number .ensures,
-      c-wide8 .ensures,
     )
     (write-action (a .out .now) (a .at) (actionIn (a .counts) (a .a)) (a .at + 25 + 4 * a .counts .pools) (omega arith)
     (omega arith))
@@ -87,7 +85,7 @@ action-spec =
     add-uses
     mul-middle
     add-middle
-    wide8-requires
+    cast-write-number
     write-number-requires
     add-write-number
     write-number-requires-2

@@ -39,33 +39,22 @@ element-copy-out-a c = omega arith
 
 mul-action : tie.Need-mul-action Inv-loop μ-loop
 mul-action c =
-    let c-args = c .before .before .before .before .before .before .before .args in
-    let c-pre = c .before .before .before .before .before .before .before .pre in
-    let c-loop = c .before .before .before .before .loop in
-    let a = c-args in
-    let h = c-pre .2 in
-    let w = piece-below (a .t4 .counts .actions) (a .size) (c-loop .i) (c .before .before .if1 .taken) in
+    let a = c .before .before .before .before .before .before .before .args in
+    let w = piece-below (a .t4 .counts .actions) (a .size) _ (c .before .before .if1 .taken) in
     omega arith
 
 add-action : tie.Need-add-action Inv-loop μ-loop
 add-action c =
-    let c-args = c .before .before .before .before .before .before .before .args in
-    let c-pre = c .before .before .before .before .before .before .before .pre in
-    let c-loop = c .before .before .before .before .loop in
-    let a = c-args in
-    let h = c-pre .2 in
-    let w = piece-below (a .t4 .counts .actions) (a .size) (c-loop .i) (c .before .before .if1 .taken) in
+    let a = c .before .before .before .before .before .before .before .args in
+    let w = piece-below (a .t4 .counts .actions) (a .size) _ (c .before .before .if1 .taken) in
     omega arith
 
 action-requires : tie.Need-action-requires Inv-loop μ-loop
 action-requires c κs =
-    let c-args = c .before .before .before .before .before .before .before .args in
-    let c-pre = c .before .before .before .before .before .before .before .pre in
-    let c-loop = c .before .before .before .before .loop in
-    let a = c-args in
-    let h = c-pre in
-    let w = piece-below (a .t4 .counts .actions) (a .size) (c-loop .i) (c .before .before .if1 .taken) in
-    (h .0, omega arith)
+    let start = c .before .before .before .before .before .before .before in
+    let a = start .args in
+    let w = piece-below (a .t4 .counts .actions) (a .size) _ (c .before .before .if1 .taken) in
+    (start .pre .0, omega arith)
 
 add-i : tie.Need-add-i Inv-loop μ-loop
 add-i c = omega arith

@@ -31,14 +31,14 @@ mul-write-number c = omega arith
 add-write-number : tie.Need-add-write-number Inv-loop μ-loop
 add-write-number c = omega arith
 
-mul-wide32 : tie.Need-mul-wide32 Inv-loop μ-loop
-mul-wide32 c = omega arith
+mul-wide : tie.Need-mul-wide Inv-loop μ-loop
+mul-wide c = omega arith
 
-array-read-wide32 : tie.Need-array-read-wide32 Inv-loop μ-loop
-array-read-wide32 c = omega arith
+array-read-wide : tie.Need-array-read-wide Inv-loop μ-loop
+array-read-wide c = omega arith
 
-wide32-requires : tie.Need-wide32-requires Inv-loop μ-loop
-wide32-requires c κs = search needs
+wide-requires : tie.Need-wide-requires Inv-loop μ-loop
+wide-requires c κs = search needs
 
 write-number-requires : tie.Need-write-number-requires Inv-loop μ-loop
 write-number-requires c κs = omega arith
@@ -53,14 +53,14 @@ loop-again : tie.Need-loop-again Inv-loop μ-loop
 loop-again c =
     let c-args = c .before .before .before .before .before .before .before .before .args in
     let c-loop = c .before .before .before .before .before .before .loop in
-    let c-wide32 = c .before .before .before .wide32 in
+    let c-wide = c .before .before .before .wide in
     let c-write-number = c .before .before .write-number in
     let l = c-loop in
     let a = c-args in
     let f : ℕ → ℕ = λ k. getD (a .t3) k 0 in
     let k = c-write-number .kept .0 in (
       omega arith,
-      rw (c-write-number .ensures, c-wide32 .ensures, l .inv .1)
+      rw (c-write-number .ensures, c-wide .ensures, l .inv .1)
           (pieces-more (toBytes 4) f 4 (λ k. length-bytes 4 (f k)) (a .out .now) (a .at) (l .i) (a .at + 4 * l .i)
           (omega arith)
           (omega arith)),
@@ -86,9 +86,9 @@ amounts-spec =
     loop-holds
     mul-write-number
     add-write-number
-    mul-wide32
-    array-read-wide32
-    wide32-requires
+    mul-wide
+    array-read-wide
+    wide-requires
     write-number-requires
     add-i
     loop-less

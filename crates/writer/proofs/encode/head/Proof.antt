@@ -7,14 +7,14 @@ use borrow.Author.Needs.{needs}
 use Rattle.writer.proofs.encode.head.Statement.{statement}
 use Rattle.writer.proofs.encode.head.Tie as tie
 
-wide8-requires : tie.Need-wide8-requires
-wide8-requires c κs = search needs
+cast-write-number : tie.Need-cast-write-number
+cast-write-number c = search needs
 
 write-number-requires : tie.Need-write-number-requires
 write-number-requires c κs = search needs
 
-wide16-requires : tie.Need-wide16-requires
-wide16-requires c κs = search needs
+cast-write-number-2 : tie.Need-cast-write-number-2
+cast-write-number-2 c = search needs
 
 write-number-requires-2 : tie.Need-write-number-requires-2
 write-number-requires-2 c κs = search needs
@@ -32,21 +32,16 @@ returns : tie.Need-returns
 returns c =
     let at8 = c .before .before .before .before .before .before .before .before in
     let at16 = at8 .before .before .before .before .before .before .before .before in
-    let c-pre = at16 .before .before .before .pre in
+    let h = at16 .before .before .before .pre in
     let c-args = at16 .before .before .before .args in
-    let c-wide8 = at16 .wide8 in
     let c-write-number = at8 .before .before .before .before .before .before .before .write-number in
-    let c-wide16 = at8 .before .before .before .wide16 in
     let c-write-number2 = at8 .before .before .write-number2 in
     let c-write-number3 = c .before .before .before .before .before .before .write-number3 in
-    let h = c-pre in
     rw (
       c .before .before .write-number4 .ensures,
       c-write-number3 .ensures,
       c-write-number2 .ensures,
-      c-wide16 .ensures,
       c-write-number .ensures,
-      c-wide8 .ensures,
     )
     (write-head (c-args .out .now) (jobIn (c-args .job)) (omega arith))
 
@@ -54,9 +49,9 @@ pub head-spec : {M : Type 1} → statement M
 head-spec =
     tie.close
     (tie.spec
-    wide8-requires
+    cast-write-number
     write-number-requires
-    wide16-requires
+    cast-write-number-2
     write-number-requires-2
     write-number-requires-3
     write-number-requires-4
