@@ -17,7 +17,8 @@ use Rattle.earliest.specs.Answer.{Answers}
 use Rattle.timeline.specs.declared.Day.{Day}
 use Rattle.planner.specs.Plan.{Plans}
 use Rattle.calls.specs.Answer.{done, refusal, writtenNumber, checkedNumber, timeNumber, plannedNumber}
-use Rattle.calls.specs.Calls.{jobOf, unlessRefused, keptIfRefused, EarliestBy, PlanBy}
+use Rattle.calls.specs.Answer.{peaksBy}
+use Rattle.calls.specs.Calls.{jobOf, unlessRefused, keptIfRefused, peaksAfter, peaksByCheck, EarliestBy, PlanBy}
 use Rattle.calls.specs.Calls.{readAnswer, checkAnswer, rewriteAnswer, leftByRewrite, EarliestAnswers, PlanAnswers}
 
 module _ (file : List ℕ) (reading : Reading) (same : reading ≡ readFile file) where
@@ -38,8 +39,12 @@ module _ (file : List ℕ) (reading : Reading) (same : reading ≡ readFile file
     pub earliest-refused : (set r : ℕ) → r ≡ refusal why → EarliestAnswers file set r
     earliest-refused set r told = subst (λ (v : Verdict). EarliestBy v (jobOf file) set r) (sym refused) told
 
-    pub plan-refused : (slice : List ℕ) (r : ℕ) → r ≡ refusal why → PlanAnswers file slice r slice
-    plan-refused slice r told = subst (λ (v : Verdict). PlanBy v (jobOf file) slice r slice) (sym refused) (told, refl)
+    pub plan-refused : (slice peaks : List ℕ) (r : ℕ) → r ≡ refusal why → PlanAnswers file slice peaks r slice peaks
+    plan-refused slice peaks r told =
+        subst (λ (v : Verdict). PlanBy v (jobOf file) slice peaks r slice peaks) (sym refused) (told, refl, refl)
+
+    pub peaks-kept : (day : Day) (peaks : List ℕ) → peaks ≡ peaksAfter (readFile file .verdict) day peaks
+    peaks-kept day peaks = sym (ap (λ (v : Verdict). peaksAfter v day peaks) refused)
 
   module _ (h : reading .verdict ≡ Pass) where
     accepted : readFile file .verdict ≡ Pass
@@ -78,8 +83,18 @@ module _ (file : List ℕ) (reading : Reading) (same : reading ≡ readFile file
         subst (λ (v : Verdict). EarliestBy v (jobOf file) set r) (sym accepted)
         (answer, subst (λ (x : Reading). Answers (jobIn (x .job)) set answer) same told, number)
 
-    pub plan-accepted : (slice after : List ℕ) (answer : Day) (r : ℕ)
-        → Plans (jobIn (reading .job)) slice answer after → r ≡ plannedNumber answer → PlanAnswers file slice r after
-    plan-accepted slice after answer r told number =
-        subst (λ (v : Verdict). PlanBy v (jobOf file) slice r after) (sym accepted)
-        (answer, subst (λ (x : Reading). Plans (jobIn (x .job)) slice answer after) same told, number)
+    pub plan-accepted : (slice after peaks peaksThen : List ℕ) (answer : Day) (r : ℕ)
+        → Plans (jobIn (reading .job)) slice answer after → r ≡ plannedNumber answer
+        → peaksThen ≡ peaksBy (answer .verdict) (answer .peaks) peaks
+        → PlanAnswers file slice peaks r after peaksThen
+    plan-accepted slice after peaks peaksThen answer r told number put =
+        subst (λ (v : Verdict). PlanBy v (jobOf file) slice peaks r after peaksThen) (sym accepted)
+        (answer, subst (λ (x : Reading). Plans (jobIn (x .job)) slice answer after) same told, number, put)
+
+    pub peaks-told : (plan peaks peaksThen : List ℕ) (answer : Day) → answer ≡ checkPlan (jobIn (reading .job)) plan
+        → peaksThen ≡ peaksBy (answer .verdict) (answer .peaks) peaks → peaksThen ≡ peaksByCheck file plan peaks
+    peaks-told plan peaks peaksThen answer told put =
+        put
+        ∙ ap (λ (d : Day). peaksBy (d .verdict) (d .peaks) peaks) told
+        ∙ ap (λ (x : Reading). peaksAfter Pass (checkPlan (jobIn (x .job)) plan) peaks) same
+        ∙ sym (ap (λ (v : Verdict). peaksAfter v (checkPlan (jobOf file) plan) peaks) accepted)

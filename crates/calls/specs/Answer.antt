@@ -2,6 +2,7 @@
 -- Assumes nothing.
 use Prim.Native.Nat.{ℕ, _+_, _*_, _≤_}
 use mathlib.Core.Path.{_≡_}
+use mathlib.Core.List.{List}
 use Rattle.job.specs.Refusal.{number}
 use Rattle.job.specs.declared.refusal.Refusal.{Refusal}
 use Rattle.job.specs.declared.refusal.Verdict.{Verdict}
@@ -45,6 +46,11 @@ checkedNumber day = dayNumber (day .verdict) (day .end) 0
 -- "the planner returns the end and number of steps"
 abbrev pub plannedNumber : Day → ℕ
 plannedNumber day = dayNumber (day .verdict) (day .end) (day .steps)
+
+-- the peaks of a day in a lent array; beside a refusal it is as it was
+abbrev pub peaksBy : Verdict → List ℕ → List ℕ → List ℕ
+peaksBy Pass told before = told
+peaksBy (Refused why) told before = before
 
 -- "a time is a number or 'unreachable'"
 abbrev pub timeNumber : EarliestTime → ℕ

@@ -15,6 +15,7 @@ use Rattle.earliest.specs.Answer.{Answers}
 use Rattle.timeline.specs.declared.Day.{Day}
 use Rattle.planner.specs.Plan.{Plans}
 use Rattle.calls.specs.Answer.{done, refusal, writtenNumber, checkedNumber, timeNumber, plannedNumber}
+use Rattle.calls.specs.Answer.{peaksBy}
 
 -- the job that reading a file gives
 abbrev pub jobOf : List ℕ → Job
@@ -32,6 +33,14 @@ readAnswer file = unlessRefused (readFile file .verdict) (done (length file) 0)
 -- the checker's answer to the job of the file and the plan
 abbrev pub checkAnswer : List ℕ → List ℕ → ℕ
 checkAnswer file plan = unlessRefused (readFile file .verdict) (checkedNumber (checkPlan (jobOf file) plan))
+
+-- the peaks that the checker tells, in a lent array
+abbrev pub peaksAfter : Verdict → Day → List ℕ → List ℕ
+peaksAfter Pass day before = peaksBy (day .verdict) (day .peaks) before
+peaksAfter (Refused why) day before = before
+
+abbrev pub peaksByCheck : List ℕ → List ℕ → List ℕ → List ℕ
+peaksByCheck file plan before = peaksAfter (readFile file .verdict) (checkPlan (jobOf file) plan) before
 
 -- the writer's answer to the job of the file and the slice
 abbrev pub rewriteAnswer : List ℕ → List ℕ → ℕ
@@ -55,11 +64,14 @@ EarliestBy (Refused why) J set r = r ≡ refusal why
 abbrev pub EarliestAnswers : List ℕ → ℕ → ℕ → Type 0
 EarliestAnswers file set r = EarliestBy (readFile file .verdict) (jobOf file) set r
 
--- the number of a planner's answer of which its promise holds, with the bytes left in the slice
-abbrev pub PlanBy : Verdict → Job → List ℕ → ℕ → List ℕ → Type 0
-PlanBy Pass J slice r after = (answer : Day) × Plans J slice answer after × (r ≡ plannedNumber answer)
-PlanBy (Refused why) J slice r after = (r ≡ refusal why) × (after ≡ slice)
+-- the number of a planner's answer of which its promise holds, with its peaks and the bytes left in the slice
+abbrev pub PlanBy : Verdict → Job → List ℕ → List ℕ → ℕ → List ℕ → List ℕ → Type 0
+PlanBy Pass J slice peaks r after peaksThen =
+    (answer : Day) × Plans J slice answer after × (r ≡ plannedNumber answer)
+    × (peaksThen ≡ peaksBy (answer .verdict) (answer .peaks) peaks)
+PlanBy (Refused why) J slice peaks r after peaksThen = (r ≡ refusal why) × (after ≡ slice) × (peaksThen ≡ peaks)
 
--- the answer to a file and a slice, and every byte that the slice then holds
-abbrev pub PlanAnswers : List ℕ → List ℕ → ℕ → List ℕ → Type 0
-PlanAnswers file slice r after = PlanBy (readFile file .verdict) (jobOf file) slice r after
+-- the answer to a file, a slice and an array for the peaks, and all that both then hold
+abbrev pub PlanAnswers : List ℕ → List ℕ → List ℕ → ℕ → List ℕ → List ℕ → Type 0
+PlanAnswers file slice peaks r after peaksThen =
+    PlanBy (readFile file .verdict) (jobOf file) slice peaks r after peaksThen

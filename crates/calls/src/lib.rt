@@ -1,10 +1,11 @@
 // The calls for other languages: a job crosses as the bytes of its file, and each call answers one number, packed the
 // same way: kind, refusal number, end and steps. A file that is refused is answered before anything else is looked at.
 ghost use mathlib.Core.Path.{_≡_};
-ghost use Rattle.calls.specs.Answer.{packed, refusal, dayNumber, timeNumber, writtenNumber, ShortFile};
-ghost use Rattle.calls.specs.Calls.{readAnswer, checkAnswer, rewriteAnswer, leftByRewrite};
+ghost use Rattle.calls.specs.Answer.{packed, refusal, dayNumber, timeNumber, writtenNumber, ShortFile, peaksBy};
+ghost use Rattle.calls.specs.Calls.{readAnswer, checkAnswer, peaksByCheck, rewriteAnswer, leftByRewrite};
 ghost use Rattle.calls.specs.Calls.{EarliestAnswers, PlanAnswers};
 use earliest::EarliestTime;
+use job::Job;
 use job::refusal::Refusal;
 use job::refusal::Verdict;
 use job::refusal::number;
@@ -61,6 +62,17 @@ fn day_told(day: Day, steps: u16) -> u64
     }
 }
 
+// Puts the peaks of a day into the array, and leaves it as it was where there is no day.
+fn put_peaks(peaks: &mut [u32; Job::POOLS], day: Day)
+    ensures { λ r. ⌜ now (peaks .exit) ≡ peaksBy (day .verdict) (day .peaks) (now (peaks .entry)) ⌝ }
+{
+    let verdict = day.verdict;
+    let told = day.peaks;
+    if let Verdict::Pass = verdict {
+        *peaks = told;
+    }
+}
+
 // An earliest time: the minute, or the kind for unreachable.
 fn told(answer: EarliestTime) -> u64
     ensures { λ r. ⌜ r ≡ timeNumber answer ⌝ }
@@ -101,17 +113,22 @@ pub extern "C" fn ruhkevois_rewrite(file: &[u8], out: &mut [u8]) -> u64
     written(answer)
 }
 
-// Whether a plan is accepted for the job of a file: its end, or the first refusal of 1 to 20.
+// Whether a plan is accepted for the job of a file: its end, with the peak of each pool in the array, or the first refusal
+// of 1 to 20, which leaves the array as it was.
 #[no_mangle]
-pub extern "C" fn ruhkevois_check(file: &[u8], plan: &[u8]) -> u64
+pub extern "C" fn ruhkevois_check(file: &[u8], plan: &[u8], peaks: &mut [u32; Job::POOLS]) -> u64
     ensures { λ r. ⌜ r ≡ checkAnswer (now (file .entry)) (now (plan .entry)) ⌝ }
+    ensures { λ _. ⌜ now (peaks .exit) ≡
+        peaksByCheck (now (file .entry)) (now (plan .entry)) (now (peaks .entry)) ⌝ }
 {
     let reading = reader::read(file);
     let verdict = reading.verdict;
     if let Verdict::Refused(why) = verdict {
         return refused(why);
     }
-    day_told(checker::check(reading.job, plan), 0)
+    let day = checker::check(reading.job, plan);
+    put_peaks(peaks, day);
+    day_told(day, 0)
 }
 
 // The earliest time of a set of facts in the job of a file: the minute, unreachable, or the first refusal of 1 to 11
@@ -129,11 +146,13 @@ pub extern "C" fn ruhkevois_earliest(file: &[u8], set: u64) -> u64
     told(answer)
 }
 
-// Writes a shortest plan for the job of a file to the front of the slice: its end and its number of steps, or the first
-// refusal of 1 to 11, 21 and 22. The bytes behind the plan are kept; a refusal changes no byte.
+// Writes a shortest plan for the job of a file to the front of the slice: its end and its number of steps, with the peak
+// of each pool in the array, or the first refusal of 1 to 11, 21 and 22. The bytes behind the plan are kept; a refusal
+// changes nothing.
 #[no_mangle]
-pub extern "C" fn ruhkevois_plan(file: &[u8], out: &mut [u8]) -> u64
-    ensures { λ r. ⌜ PlanAnswers (now (file .entry)) (now (out .entry)) r (now (out .exit)) ⌝ }
+pub extern "C" fn ruhkevois_plan(file: &[u8], out: &mut [u8], peaks: &mut [u32; Job::POOLS]) -> u64
+    ensures { λ r. ⌜ PlanAnswers (now (file .entry)) (now (out .entry)) (now (peaks .entry)) r (now (out .exit))
+        (now (peaks .exit)) ⌝ }
 {
     let reading = reader::read(file);
     let verdict = reading.verdict;
@@ -141,5 +160,6 @@ pub extern "C" fn ruhkevois_plan(file: &[u8], out: &mut [u8]) -> u64
         return refused(why);
     }
     let day = planner::plan(reading.job, out);
+    put_peaks(peaks, day);
     day_told(day, day.steps as u16)
 }

@@ -5,3 +5,4 @@ mod WatchLaws
 mod ChainLaws
 mod StepLaws
 mod PlanLaws
+mod PeakLaws

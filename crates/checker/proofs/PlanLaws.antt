@@ -18,6 +18,7 @@ use Rattle.timeline.specs.declared.Day.{Day}
 use Rattle.timeline.specs.declared.Plan.{Plan}
 use Rattle.timeline.specs.Step.{Step, stepsIn}
 use Rattle.timeline.specs.Accepted.{stepRows, planRows}
+use Rattle.timeline.specs.Timeline.{peaks}
 use Rattle.timeline.specs.Day.{noDay, dayOf}
 use Rattle.timeline.specs.Value.{stepAt, stepsOf}
 use Rattle.timeline.proofs.DayLaws.{reply-of-day}
@@ -31,16 +32,16 @@ not-passed day why d p =
     let e : true ≡ false = cc in
     true≢false e
 
-day-by-checked : (v : Verdict) (P : List Step) → dayBy (checkedOf v P) (length P) ≡ dayOf v P
-day-by-checked Pass P = refl
-day-by-checked (Refused why) P = refl
+day-by-checked : (v : Verdict) (J : Job) (P : List Step) → dayBy (checkedOf v P) (length P) (peaks J P) ≡ dayOf v J P
+day-by-checked Pass J P = refl
+day-by-checked (Refused why) J P = refl
 
 module _ (job : held.Job) (goal : ℕ) (bytes : List ℕ) (r : CheckedPlan) where
   pub checks-refused : (why : Refusal) → r .day ≡ noDay why → first (planRows (jobIn job) goal bytes) ≡ Refused why
       → ChecksPlan job goal bytes r
   checks-refused why d h =
       record {
-        day = d ∙ sym (ap (λ (v : Verdict). dayOf v (stepsIn (jobIn job) bytes)) h);
+        day = d ∙ sym (ap (λ (v : Verdict). dayOf v (jobIn job) (stepsIn (jobIn job) bytes)) h);
         plan = λ p. absurd (not-passed (r .day) why d p);
       }
 
@@ -48,17 +49,19 @@ module _ (job : held.Job) (goal : ℕ) (bytes : List ℕ) (r : CheckedPlan) wher
   pub checks-decoded : (plan : Plan) → Decodes job bytes plan
       → first (planRows (jobIn job) goal bytes) ≡ first (stepRows (jobIn job) goal (stepsIn (jobIn job) bytes))
       → (c : Checked) → c ≡ checkedOf (first (stepRows (jobIn job) goal (stepsOf plan))) (stepsOf plan)
-      → r .day ≡ dayBy c (plan .length) → (r .day .verdict ≡ Pass → r .plan ≡ plan) → ChecksPlan job goal bytes r
+      → r .day ≡ dayBy c (plan .length) (peaks (jobIn job) (stepsOf plan)) → (r .day .verdict ≡ Pass → r .plan ≡ plan) → ChecksPlan job goal bytes r
   checks-decoded plan decodes rows c checked day same =
       let J = jobIn job in
       let count = length-tabulate (plan .length) (stepAt plan) in
       let verdict = first (stepRows J goal (stepsOf plan)) in
+      let most = peaks J (stepsOf plan) in
       record {
         day =
-            day ∙ ap (λ (n : ℕ). dayBy c n) (sym count) ∙ ap (λ (x : Checked). dayBy x (length (stepsOf plan))) checked
-            ∙ day-by-checked verdict (stepsOf plan)
-            ∙ ap (λ (P : List Step). dayOf (first (stepRows J goal P)) P) (decodes .steps)
-            ∙ sym (ap (λ (v : Verdict). dayOf v (stepsIn J bytes)) rows);
+            day ∙ ap (λ (n : ℕ). dayBy c n most) (sym count)
+            ∙ ap (λ (x : Checked). dayBy x (length (stepsOf plan)) most) checked
+            ∙ day-by-checked verdict J (stepsOf plan)
+            ∙ ap (λ (P : List Step). dayOf (first (stepRows J goal P)) J P) (decodes .steps)
+            ∙ sym (ap (λ (v : Verdict). dayOf v J (stepsIn J bytes)) rows);
         plan = λ p. rw (same p) decodes;
       }
 
@@ -68,17 +71,17 @@ module _ (J : Job) (bytes : List ℕ) (r : Day) where
   checks-of-answer answers =
       record {
         answers = answers;
-        replies = rw answers (reply-of-day (first (checkRows J bytes)) (stepsIn J bytes));
+        replies = rw answers (reply-of-day (first (checkRows J bytes)) J (stepsIn J bytes));
       }
 
   pub checks-refused-job : (why : Refusal) → r ≡ noDay why → first (jobRows J) ≡ Refused why → Checks J bytes r
   unfolding checkPlan checkRows
   checks-refused-job why d h =
       checks-of-answer
-      (d ∙ sym (ap (λ (v : Verdict). dayOf v (stepsIn J bytes)) (first-append-refused (jobRows J) _ why h)))
+      (d ∙ sym (ap (λ (v : Verdict). dayOf v J (stepsIn J bytes)) (first-append-refused (jobRows J) _ why h)))
 
-  pub checks-valid-job : first (jobRows J) ≡ Pass → r ≡ dayOf (first (planRows J (J .goal) bytes)) (stepsIn J bytes)
+  pub checks-valid-job : first (jobRows J) ≡ Pass → r ≡ dayOf (first (planRows J (J .goal) bytes)) J (stepsIn J bytes)
       → Checks J bytes r
   unfolding checkPlan checkRows
   checks-valid-job h d =
-      checks-of-answer (d ∙ sym (ap (λ (v : Verdict). dayOf v (stepsIn J bytes)) (first-append-pass (jobRows J) _ h)))
+      checks-of-answer (d ∙ sym (ap (λ (v : Verdict). dayOf v J (stepsIn J bytes)) (first-append-pass (jobRows J) _ h)))

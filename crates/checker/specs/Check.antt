@@ -1,6 +1,6 @@
 -- What the checker answers.
 -- Assumes nothing.
-use Prim.Native.Nat.{ℕ, _≤_}
+use Prim.Native.Nat.{ℕ, _<_, _≤_}
 use mathlib.Core.Path.{_≡_}
 use mathlib.Core.List.{List, _∷_, _++_}
 use Rattle.facts.specs.FactSet.{foreign}
@@ -14,7 +14,7 @@ use Rattle.job.specs.declared.refusal.Verdict.the-variants.{Pass, Refused}
 use Rattle.timeline.specs.declared.Day.{Day}
 use Rattle.timeline.specs.declared.Plan.{Plan}
 use Rattle.timeline.specs.Step.{Step, stepsIn}
-use Rattle.timeline.specs.Timeline.{end}
+use Rattle.timeline.specs.Timeline.{end, peak}
 use Rattle.timeline.specs.Accepted.{planRows}
 use Rattle.timeline.specs.Day.{toldOf, tells, noDay, dayOf, dayReply}
 use Rattle.timeline.specs.Value.{stepsOf}
@@ -28,19 +28,19 @@ checkRows J bytes = jobRows J ++ planRows J (J .goal) bytes
 
 -- "the checker returns the end", and the number of steps
 unfoldable pub checkPlan : Job → List ℕ → Day
-checkPlan J bytes = dayOf (first (checkRows J bytes)) (stepsIn J bytes)
+checkPlan J bytes = dayOf (first (checkRows J bytes)) J (stepsIn J bytes)
 
 -- the answer to a job and a plan, and the paper's reply
 pub record Checks (J : Job) (bytes : List ℕ) (answer : Day) : Type 0 where
   pub answers : answer ≡ checkPlan J bytes
-  pub replies : dayReply answer ≡ replyBy (first (checkRows J bytes)) (toldOf (stepsIn J bytes))
+  pub replies : dayReply answer ≡ replyBy (first (checkRows J bytes)) (toldOf J (stepsIn J bytes))
 
 -- ---- what inner functions promise
 
 -- with another goal, whose foreign bits are tested "after the job and before the plan"
 unfoldable pub checkFor : Job → ℕ → List ℕ → Day
 checkFor J goal bytes =
-    dayOf (first (jobRows J ++ (ForeignAskedFact when foreign (J .facts) goal ∷ planRows J goal bytes)))
+    dayOf (first (jobRows J ++ (ForeignAskedFact when foreign (J .facts) goal ∷ planRows J goal bytes))) J
     (stepsIn J bytes)
 
 -- a job value that passes tests 3 to 11
@@ -52,10 +52,15 @@ abbrev pub checkedOf : Verdict → List Step → Checked
 checkedOf Pass P = checked.Ends (end P)
 checkedOf (Refused why) P = checked.Refused why
 
--- the day of a plan with so many steps
-abbrev pub dayBy : Checked → ℕ → Day
-dayBy (checked.Ends e) steps = tells (record { end = e; steps = steps })
-dayBy (checked.Refused why) steps = noDay why
+-- the day of a plan with so many steps and these peaks
+abbrev pub dayBy : Checked → ℕ → List ℕ → Day
+dayBy (checked.Ends e) steps peaks = tells (record { end = e; steps = steps; peaks = peaks })
+dayBy (checked.Refused why) steps peaks = noDay why
+
+-- no peak of the plan is more than a pool can have
+abbrev pub SmallPeaks : held.Job → Plan → Type 0
+SmallPeaks job plan =
+    (pool : ℕ) → pool < job .counts .pools → peak (jobIn job) pool (stepsOf plan) ≤ 1000000
 
 -- the plan has the steps of the bytes
 pub record Decodes (job : held.Job) (bytes : List ℕ) (plan : Plan) : Type 0 where
@@ -65,5 +70,5 @@ pub record Decodes (job : held.Job) (bytes : List ℕ) (plan : Plan) : Type 0 wh
 
 -- tests 12 to 20 of the bytes; the plan of those that pass
 pub record ChecksPlan (job : held.Job) (goal : ℕ) (bytes : List ℕ) (r : CheckedPlan) : Type 0 where
-  pub day : r .day ≡ dayOf (first (planRows (jobIn job) goal bytes)) (stepsIn (jobIn job) bytes)
+  pub day : r .day ≡ dayOf (first (planRows (jobIn job) goal bytes)) (jobIn job) (stepsIn (jobIn job) bytes)
   pub plan : r .day .verdict ≡ Pass → Decodes job bytes (r .plan)

@@ -2,14 +2,13 @@
 -- Assumes nothing.
 use Prim.Native.Nat.{ℕ, _<_}
 use mathlib.Core.Path.{_≡_}
-use mathlib.Core.Bool.{Bool, cond}
+use mathlib.Core.Bool.{cond}
 use lib.ListN.{getD}
 use Rattle.job.specs.declared.Counts.{Counts}
 use Rattle.job.specs.Job.{Job}
 use Rattle.timeline.specs.declared.Step as value
 use Rattle.timeline.specs.declared.Plan.{Plan}
-use Rattle.timeline.specs.Timeline.{hasShare, inUse, usedUp}
-use Rattle.timeline.specs.Accepted.{exceedsPool}
+use Rattle.timeline.specs.Timeline.{hasShare, inUse, peak, usedUp}
 use Rattle.timeline.specs.Value.{stepOfValue, stepsOf}
 
 -- the use counts where the step has its share
@@ -22,10 +21,9 @@ pub record Share (x : value.Step) (pool minute amount : ℕ) : Type 0 where
 abbrev pub InUse : Plan → ℕ → ℕ → ℕ → Type 0
 InUse plan pool minute amount = (J : Job) → amount ≡ inUse J pool minute (stepsOf plan)
 
--- more of a pool than is available is in use in some minute
-abbrev pub ExceedsPool : Plan → ℕ → ℕ → Bool → Type 0
-ExceedsPool plan pool available answer =
-    (J : Job) → getD (J .pools) pool 0 ≡ available → answer ≡ exceedsPool J (stepsOf plan) pool
+-- the most of a pool that is in use in a minute
+abbrev pub PeakOf : Plan → ℕ → ℕ → Type 0
+PeakOf plan pool amount = (J : Job) → amount ≡ peak J pool (stepsOf plan)
 
 -- the amount of a store that is used up
 abbrev pub UsedUp : Plan → ℕ → ℕ → Type 0

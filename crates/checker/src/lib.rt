@@ -1,20 +1,23 @@
 // The checker: a job and a plan's bytes in; the plan's end and number of steps, or the first refusal of 3 to 20, out.
 mod decode; // the steps in a plan's bytes
 mod rules; // one check for each rule
+mod pools; // how much of each pool is in use
 mod clock; // the facts that hold, minute by minute
 mod watch; // the clock over a whole plan
 
 ghost use mathlib.Core.Path.{_≡_};
 ghost use mathlib.Core.Bool.{false};
-ghost use Prim.Native.Nat.{_≤_, _<_};
+ghost use Prim.Native.Nat.{ℕ, _≤_, _<_};
 ghost use Rattle.lists.specs.Lists.{any, Each};
 ghost use Rattle.job.specs.Job.{jobIn, Fits};
 ghost use Rattle.job.specs.Refusal.{first};
 ghost use Rattle.job.specs.declared.refusal.Verdict.the-variants as verdict;
 ghost use Rattle.timeline.specs.Accepted.{unknown, stepRows};
+ghost use Rattle.timeline.specs.Timeline.{peaks};
 ghost use Rattle.timeline.specs.Day.{noDay};
 ghost use Rattle.timeline.specs.Value.{stepsOf};
-ghost use Rattle.checker.specs.Check.{Checks, checkFor, Valid, checkedOf, dayBy, ChecksPlan};
+ghost use Rattle.checker.specs.declared.Checked.the-variants as answer;
+ghost use Rattle.checker.specs.Check.{Checks, checkFor, Valid, checkedOf, dayBy, SmallPeaks, ChecksPlan};
 use job::Job;
 use job::refusal::Refusal;
 use job::refusal::Verdict;
@@ -50,7 +53,7 @@ fn check_steps(plan: Plan, job: Job, goal: u64) -> Checked
     let Verdict::Pass = rules::clashes(plan) else {
         return Checked::Refused(Refusal::Clash);
     };
-    let Verdict::Pass = rules::pools(plan, job) else {
+    let Verdict::Pass = pools::within(plan, job) else {
         return Checked::Refused(Refusal::PoolExceeded);
     };
     let Verdict::Pass = rules::stores(plan, job) else {
@@ -79,7 +82,10 @@ fn refused_plan(job: Job, why: Refusal) -> CheckedPlan
 
 // The plan with its day, by what tests 14 to 20 say.
 fn with_day(job: Job, plan: Plan, checked: Checked) -> CheckedPlan
-    ensures { λ r. ⌜ (r .day ≡ dayBy checked (plan .length)) × (r .day .verdict ≡ verdict.Pass → r .plan ≡ plan) ⌝ }
+    requires { ⌜ (plan .length ≤ 32) × (plan .counts ≡ job .counts) × Fits (job .counts)
+        × ((e : ℕ) → checked ≡ answer.Ends e → SmallPeaks job plan) ⌝ }
+    ensures { λ r. ⌜ (r .day ≡ dayBy checked (plan .length) (peaks (jobIn job) (stepsOf plan)))
+        × (r .day .verdict ≡ verdict.Pass → r .plan ≡ plan) ⌝ }
 {
     match checked {
         Checked::Refused(why) => refused_plan(job, why),
@@ -88,6 +94,7 @@ fn with_day(job: Job, plan: Plan, checked: Checked) -> CheckedPlan
                 verdict: Verdict::Pass,
                 end,
                 steps: plan.length,
+                peaks: pools::peaks(plan, job),
             },
             plan,
         },

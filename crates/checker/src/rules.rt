@@ -9,13 +9,13 @@ ghost use Rattle.job.specs.Job.{jobIn, Fits};
 ghost use Rattle.job.specs.declared.Counts.{Counts};
 ghost use Rattle.job.specs.Refusal.{_when_, first};
 ghost use Rattle.job.specs.Valid.{over};
-ghost use Rattle.job.specs.declared.refusal.Refusal.the-variants.{StepOrder, AfterDeadline, Clash, PoolExceeded};
+ghost use Rattle.job.specs.declared.refusal.Refusal.the-variants.{StepOrder, AfterDeadline, Clash};
 ghost use Rattle.job.specs.declared.refusal.Refusal.the-variants.{StoreExceeded};
 ghost use Rattle.timeline.specs.Step.{before, strictlyRising, anyPair};
 ghost use Rattle.timeline.specs.Timeline.{end};
-ghost use Rattle.timeline.specs.Accepted.{anyBelow, clashing, exceedsPool, exceedsStore};
+ghost use Rattle.timeline.specs.Accepted.{anyBelow, clashing, exceedsStore};
 ghost use Rattle.timeline.specs.Value.{stepOfValue, stepAt, stepsOf};
-ghost use Rattle.checker.specs.Leaf.{Share, InUse, ExceedsPool, UsedUp};
+ghost use Rattle.checker.specs.Leaf.{UsedUp};
 use job::Counts;
 use job::Job;
 use job::refusal::Refusal;
@@ -24,7 +24,7 @@ use timeline::Plan;
 use timeline::Step;
 
 // A number of 32 bits as one of 64.
-fn wide(x: u32) -> u64
+pub fn wide(x: u32) -> u64
     ensures { λ r. ⌜ (r ≡ x) × (r < 4294967296) ⌝ }
 {
     x as u64
@@ -118,69 +118,6 @@ pub fn clashes(plan: Plan) -> Verdict
             return Verdict::Refused(Refusal::Clash);
         }
         i += 1;
-    }
-    Verdict::Pass
-}
-
-// What the step has of the pool in the minute.
-fn share(step: Step, pool: usize, minute: u32) -> u64
-    requires { ⌜ pool < 4 ⌝ }
-    ensures { λ r. ⌜ Share step pool minute r ⌝ }
-{
-    let action = step.action;
-    if minute < step.start {
-        return 0;
-    }
-    if step.stop <= minute {
-        return 0;
-    }
-    wide(action.pools[pool])
-}
-
-// How much of the pool is in use in the minute.
-fn in_use(plan: Plan, pool: usize, minute: u32) -> u64
-    requires { ⌜ (plan .length ≤ 32) × (plan .counts .pools ≤ 4) × (pool < plan .counts .pools) ⌝ }
-    ensures { λ r. ⌜ InUse plan pool minute r ⌝ }
-{
-    let mut sum: u64 = 0;
-    let mut i = 0;
-    while i < plan.length {
-        let step = plan.steps[i];
-        sum += share(step, pool, minute);
-        i += 1;
-    }
-    sum
-}
-
-// Whether more of the pool than `available` is in use in some minute. The use is largest where a step starts.
-fn exceeds_pool(plan: Plan, pool: usize, available: u64) -> bool
-    requires { ⌜ (plan .length ≤ 32) × (plan .counts .pools ≤ 4) × (pool < plan .counts .pools) ⌝ }
-    ensures { λ r. ⌜ ExceedsPool plan pool available r ⌝ }
-{
-    let mut i = 0;
-    while i < plan.length {
-        let step = plan.steps[i];
-        if available < in_use(plan, pool, step.start) {
-            return true;
-        }
-        i += 1;
-    }
-    false
-}
-
-// Test 17: in each minute the running steps use no more of each pool than there is.
-pub fn pools(plan: Plan, job: Job) -> Verdict
-    requires { ⌜ (plan .length ≤ 32) × (plan .counts ≡ job .counts) × Fits (job .counts) ⌝ }
-    ensures { λ r. ⌜ r ≡ first
-        (PoolExceeded when anyBelow (length (jobIn job .pools)) (exceedsPool (jobIn job) (stepsOf plan)) ∷ []) ⌝ }
-{
-    let counts = job.counts;
-    let mut k = 0;
-    while k < counts.pools {
-        if exceeds_pool(plan, k, wide(job.pools[k])) {
-            return Verdict::Refused(Refusal::PoolExceeded);
-        }
-        k += 1;
     }
     Verdict::Pass
 }

@@ -3,6 +3,7 @@
 use Prim.Native.Nat.{ℕ}
 use mathlib.Core.Path.{_≡_}
 use mathlib.Core.List.{List, [], _∷_, _++_}
+use lib.ListN.{replicate}
 use Rattle.encoding.specs.Bytes.{toBytes}
 use Rattle.job.specs.Job.{Action, Job}
 use Rattle.job.specs.Refusal.{number, Reply, refused, returned}
@@ -87,6 +88,10 @@ job7 store deadline = twoActions deadline [] (store ∷ []) [] (2 ∷ [])
 abbrev pub step : ℕ → ℕ → List ℕ
 step action start = toBytes 1 action ++ toBytes 2 start
 
+-- an accepted plan of a job without pools: its end and its number of steps, and no peaks
+abbrev pub accepted : ℕ → ℕ → Reply Told
+accepted end steps = returned (record { end = end; steps = steps; peaks = replicate 4 0 })
+
 -- ── the list ──
 
 -- what is said of a day
@@ -112,7 +117,7 @@ abbrev pub days : List Day
 days =
     -- 1: "end 0, no steps"
     planned job1 (returned 0)
-    ∷ checked job1 [] (returned (record { end = 0; steps = 0 }))
+    ∷ checked job1 [] (accepted 0 0)
     -- 2: "Deadline 7: end 7."
     ∷ planned (job2 7) (returned 7)
     -- 3: "The same, deadline 6: 22."
@@ -134,13 +139,13 @@ days =
     ∷ planned (job7 3 4) (refused 22)
     ∷ planned (job7 3 3) (refused 22)
     -- 8: "Case 6, action 0 at 0, action 1 at 2: accepted; at 1: 16."
-    ∷ checked job6 (step 0 0 ++ step 1 2) (returned (record { end = 3; steps = 2 }))
+    ∷ checked job6 (step 0 0 ++ step 1 2) (accepted 3 2)
     ∷ checked job6 (step 0 0 ++ step 1 1) (refused 16)
     -- 9: "Case 2, action 1 at 0, action 2 at 1: 19. Action 0 at 0 and at 2: 16."
     ∷ checked (job2 7) (step 1 0 ++ step 2 1) (refused 19)
     ∷ checked (job2 7) (step 0 0 ++ step 0 2) (refused 16)
     -- 10: "Case 2, action 1 at 0, 2 at 2, 0 at 4: end 7; deadline 6: 15. No steps: 20."
-    ∷ checked (job2 7) (step 1 0 ++ step 2 2 ++ step 0 4) (returned (record { end = 7; steps = 3 }))
+    ∷ checked (job2 7) (step 1 0 ++ step 2 2 ++ step 0 4) (accepted 7 3)
     ∷ checked (job2 6) (step 1 0 ++ step 2 2 ++ step 0 4) (refused 15)
     ∷ checked (job2 7) [] (refused 20)
     ∷ []

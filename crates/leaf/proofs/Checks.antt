@@ -21,7 +21,7 @@ use Rattle.job.specs.Refusal.{first}
 use Rattle.job.specs.Valid.{jobRows}
 use Rattle.job.proofs.Table.{first-next, first-pass, first-append-pass, pass-of-append}
 use Rattle.timeline.specs.Step.{Step, stepsIn, planBytes}
-use Rattle.timeline.specs.Timeline.{end}
+use Rattle.timeline.specs.Timeline.{end, peaks}
 use Rattle.timeline.specs.Accepted.{Accepted}
 use Rattle.timeline.proofs.Tests.{not-both}
 use Rattle.timeline.proofs.PlanBytes.{length-plan-bytes}
@@ -57,22 +57,24 @@ front-whole J steps o w =
     omega arith
 
 -- ---- what the checker answers
-day-passed : (v : Verdict) (P : List Step) → dayOf v P .verdict ≡ Pass → (v ≡ Pass) × (end P ≡ dayOf v P .end)
-day-passed Pass P h = (refl, refl)
-day-passed (Refused why) P h = (h, cc)
+day-passed : (v : Verdict) (J : Job) (P : List Step) → dayOf v J P .verdict ≡ Pass
+    → (v ≡ Pass) × (end P ≡ dayOf v J P .end) × (peaks J P ≡ dayOf v J P .peaks)
+day-passed Pass J P h = (refl, refl, refl)
+day-passed (Refused why) J P h = (h, cc, cc)
 
 pub passed-accepted : (J : Job) (goal : ℕ) (bytes : List ℕ) → checkFor J goal bytes .verdict ≡ Pass
     → Accepted J goal bytes × (end (stepsIn J bytes) ≡ checkFor J goal bytes .end)
+    × (peaks J (stepsIn J bytes) ≡ checkFor J goal bytes .peaks)
 unfolding checkFor
 passed-accepted J goal bytes h =
-    let r = day-passed _ (stepsIn J bytes) h in
-    (first-pass _ _ _ (pass-of-append (jobRows J) _ (r .0) .1) .1, r .1)
+    let r = day-passed _ J (stepsIn J bytes) h in
+    (first-pass _ _ _ (pass-of-append (jobRows J) _ (r .0) .1) .1, r .1, r .2)
 
 pub accepted-passes : (J : Job) (goal : ℕ) (bytes : List ℕ) → first (jobRows J) ≡ Pass → foreign (J .facts) goal ≡ false
-    → Accepted J goal bytes → checkFor J goal bytes ≡ tells (toldOf (stepsIn J bytes))
+    → Accepted J goal bytes → checkFor J goal bytes ≡ tells (toldOf J (stepsIn J bytes))
 unfolding checkFor
 accepted-passes J goal bytes job own accepted =
-    ap (λ (v : Verdict). dayOf v (stepsIn J bytes))
+    ap (λ (v : Verdict). dayOf v J (stepsIn J bytes))
     (first-append-pass (jobRows J) _ job ∙ first-next ForeignAskedFact _ _ own ∙ accepted)
 
 -- ---- the answer that is made of it
@@ -86,42 +88,41 @@ module _ (J : Job) (goal T : ℕ) (steps : Steps) where
       sym (e ∙ ap (λ (bytes : List ℕ). checkFor J goal (take (steps .count * 3) bytes)) (w J)
       ∙ ap (checkFor J goal) (plan-in-front J steps (steps .count * 3) (omega arith)))
 
-  -- the answer to what the checker says, and the steps as a plan that ends at minute e
-  abbrev answerTo : Verdict → ℕ → Answer
-  answerTo v e = answerBy v e T (steps .count) (planOf J steps)
+  -- the answer by a verdict to what the checker says, and the steps as a plan of that day
+  abbrev answerTo : Verdict → Day → Answer
+  answerTo v d = answerBy v (d .end) (d .peaks) T (steps .count) (planOf J steps)
 
-  abbrev asPlan : ℕ → List ℕ → Answer
-  asPlan e plan = record { found = true; end = e; count = steps .count; plan = plan }
+  abbrev asPlan : Day → List ℕ → Answer
+  asPlan d plan = record { found = true; end = d .end; count = steps .count; peaks = d .peaks; plan = plan }
 
-  plan-answered : (e : ℕ) → e ≤ T → answerTo Pass e ≡ asPlan e (planOf J steps)
-  plan-answered e l = ap (λ (b : Bool). cond b noAnswer (asPlan e (planOf J steps))) (le-ltb T e l)
+  plan-answered : (d : Day) → d .end ≤ T → answerTo Pass d ≡ asPlan d (planOf J steps)
+  plan-answered d l = ap (λ (b : Bool). cond b noAnswer (asPlan d (planOf J steps))) (le-ltb T (d .end) l)
 
-  nothing-answered : (e : ℕ) → T < e → answerTo Pass e ≡ noAnswer
-  nothing-answered e l = ap (λ (b : Bool). cond b noAnswer (asPlan e (planOf J steps))) (lt-ltb T e l)
+  nothing-answered : (d : Day) → T < d .end → answerTo Pass d ≡ noAnswer
+  nothing-answered d l = ap (λ (b : Bool). cond b noAnswer (asPlan d (planOf J steps))) (lt-ltb T (d .end) l)
 
   -- o is the bytes that were written, and day what the checker says of them
   module _ (o : List ℕ) (day : Day) (w : WritesPlan steps (replicate 96 0) o)
       (e : day ≡ checkFor J goal (take (steps .count * 3) o)) where
-    by-verdict : (v : Verdict) → day .verdict ≡ v → answerTo (checks .verdict) (checks .end) ≡ answerTo v (day .end)
+    by-verdict : (v : Verdict) → day .verdict ≡ v → answerTo (checks .verdict) checks ≡ answerTo v day
     by-verdict v h =
-        ap (λ (d : Day). answerTo (d .verdict) (d .end)) (same-checked o day w e)
-        ∙ ap (λ (x : Verdict). answerTo x (day .end)) h
+        ap (λ (d : Day). answerTo (d .verdict) d) (same-checked o day w e) ∙ ap (λ (x : Verdict). answerTo x day) h
 
     pub answers-refused : (why : Refusal) → day .verdict ≡ Refused why → Answers J goal T steps noAnswer
     answers-refused why h = sym (by-verdict (Refused why) h)
 
     pub answers-late : day .verdict ≡ Pass → T < day .end → Answers J goal T steps noAnswer
-    answers-late h l = sym (by-verdict Pass h ∙ nothing-answered (day .end) l)
+    answers-late h l = sym (by-verdict Pass h ∙ nothing-answered day l)
 
-    pub answers-plan : day .verdict ≡ Pass → day .end ≤ T → Answers J goal T steps (asPlan (day .end) o)
-    answers-plan h l = ap (asPlan (day .end)) (w J) ∙ sym (by-verdict Pass h ∙ plan-answered (day .end) l)
+    pub answers-plan : day .verdict ≡ Pass → day .end ≤ T → Answers J goal T steps (asPlan day o)
+    answers-plan h l = ap (asPlan day) (w J) ∙ sym (by-verdict Pass h ∙ plan-answered day l)
 
   -- a plan that is found is accepted
   pub answer-found : steps .count ≤ 32 → (r : Answer) → Answers J goal T steps r → r .found ≡ true → Found J goal T r
   answer-found few r a h = by-verdict (checks .verdict) refl a
     where
       by-end : (b : Bool) → ltb T (checks .end) ≡ b → checks .verdict ≡ Pass
-          → r ≡ cond b noAnswer (asPlan (checks .end) (planOf J steps)) → Found J goal T r
+          → r ≡ cond b noAnswer (asPlan checks (planOf J steps)) → Found J goal T r
       by-end true l c q = not-both h (ap (λ (x : Answer). x .found) q)
       by-end false l c q =
           let front = plan-in-front J steps (3 * steps .count) refl in
@@ -132,10 +133,11 @@ module _ (J : Job) (goal T : ℕ) (steps : Steps) where
             whole = ap length front ∙ length-bytes-in-order J steps;
             accepted = subst (λ (bytes : List ℕ). Accepted J goal bytes) (sym front) (same .0);
             end = ap (λ (bytes : List ℕ). end (stepsIn J bytes)) front ∙ same .1;
+            peaks = ap (λ (bytes : List ℕ). peaks J (stepsIn J bytes)) front ∙ same .2;
             inTime = ltb-false T (checks .end) l;
           })
 
-      by-verdict : (v : Verdict) → checks .verdict ≡ v → r ≡ answerTo v (checks .end) → Found J goal T r
+      by-verdict : (v : Verdict) → checks .verdict ≡ v → r ≡ answerTo v checks → Found J goal T r
       by-verdict Pass c q = by-end (ltb T (checks .end)) refl c q
       by-verdict (Refused why) c q = not-both h (ap (λ (x : Answer). x .found) q)
 
@@ -143,12 +145,12 @@ module _ (J : Job) (goal T : ℕ) (steps : Steps) where
   pub answer-bytes : (r : Answer) → Answers J goal T steps r → r .found ≡ true → bytesIn r ≡ planBytes (inOrder J steps)
   answer-bytes r a h = by-verdict (checks .verdict) a
     where
-      by-end : (b : Bool) → r ≡ cond b noAnswer (asPlan (checks .end) (planOf J steps))
+      by-end : (b : Bool) → r ≡ cond b noAnswer (asPlan checks (planOf J steps))
           → bytesIn r ≡ planBytes (inOrder J steps)
       by-end true q = not-both h (ap (λ (x : Answer). x .found) q)
       by-end false q = ap bytesIn q ∙ plan-in-front J steps (3 * steps .count) refl
 
-      by-verdict : (v : Verdict) → r ≡ answerTo v (checks .end) → bytesIn r ≡ planBytes (inOrder J steps)
+      by-verdict : (v : Verdict) → r ≡ answerTo v checks → bytesIn r ≡ planBytes (inOrder J steps)
       by-verdict Pass q = by-end (ltb T (checks .end)) q
       by-verdict (Refused why) q = not-both h (ap (λ (x : Answer). x .found) q)
 
@@ -158,5 +160,5 @@ module _ (J : Job) (goal T : ℕ) (steps : Steps) where
   answer-not-found r a h day c p l =
       not-both
       (ap (λ (x : Answer). x .found)
-      (a ∙ ap (λ (d : Day). answerTo (d .verdict) (d .end)) c ∙ ap (λ (v : Verdict). answerTo v (day .end)) p
-      ∙ plan-answered (day .end) l)) h
+      (a ∙ ap (λ (d : Day). answerTo (d .verdict) d) c ∙ ap (λ (v : Verdict). answerTo v day) p
+      ∙ plan-answered day l)) h

@@ -105,7 +105,7 @@ module _ (J : Job) (frame : Frame) (steps s : Steps) (same : Reordered steps s) 
           let bytes = planBytes (inOrder J s) in
           let passes = accepted-passes J (frame .goal) bytes pass (asked .goal) (plan .0) in
           let same-end = ap end (plan .1) in
-          answer-not-found J (frame .goal) (frame .horizon) s r a h (tells (toldOf (stepsIn J bytes))) passes refl
+          answer-not-found J (frame .goal) (frame .horizon) s r a h (tells (toldOf J (stepsIn J bytes))) passes refl
           (omega arith)
 
 -- the file has a job

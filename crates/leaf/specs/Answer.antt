@@ -18,7 +18,7 @@ use Rattle.job.specs.Valid.{jobRows}
 use Rattle.jobfile.specs.Answers.{readFile}
 use Rattle.timeline.specs.Step.{stepsIn, planBytes}
 use Rattle.timeline.specs.From.{From}
-use Rattle.timeline.specs.Timeline.{end}
+use Rattle.timeline.specs.Timeline.{end, peaks}
 use Rattle.timeline.specs.Accepted.{Accepted}
 use Rattle.timeline.proofs.Permutations.{Permutation}
 use Rattle.timeline.specs.declared.Day.{Day}
@@ -32,15 +32,16 @@ use Rattle.leaf.specs.Order.{inOrder}
 
 -- no plan
 abbrev pub noAnswer : Answer
-noAnswer = record { found = false; end = 0; count = 0; plan = replicate 96 0 }
+noAnswer = record { found = false; end = 0; count = 0; peaks = replicate 4 0; plan = replicate 96 0 }
 
 -- the plan, where it is accepted and ends by the horizon T
-abbrev pub answerBy : Verdict → ℕ → ℕ → ℕ → List ℕ → Answer
-answerBy Pass e T count plan = cond (ltb T e) noAnswer (record { found = true; end = e; count = count; plan = plan })
-answerBy (Refused why) e T count plan = noAnswer
+abbrev pub answerBy : Verdict → ℕ → List ℕ → ℕ → ℕ → List ℕ → Answer
+answerBy Pass e peaks T count plan =
+    cond (ltb T e) noAnswer (record { found = true; end = e; count = count; peaks = peaks; plan = plan })
+answerBy (Refused why) e peaks T count plan = noAnswer
 
 abbrev pub answerOf : Day → ℕ → ℕ → List ℕ → Answer
-answerOf day T count plan = answerBy (day .verdict) (day .end) T count plan
+answerOf day T count plan = answerBy (day .verdict) (day .end) (day .peaks) T count plan
 
 -- the bytes of the steps, zeros behind them
 abbrev pub planOf : Job → Steps → List ℕ
@@ -62,12 +63,13 @@ pub record FileOf (J : Job) (file : List ℕ) (start : ℕ) (stocks : List ℕ) 
 abbrev pub bytesIn : Answer → List ℕ
 bytesIn r = take (3 * r .count) (r .plan)
 
--- the answer is a plan that is accepted for the goal and ends by T, with its end
+-- the answer is a plan that is accepted for the goal and ends by T, with its end and its peaks
 pub record Found (J : Job) (goal T : ℕ) (r : Answer) : Type 0 where
   pub few : r .count ≤ 32
   pub whole : length (bytesIn r) ≡ 3 * r .count
   pub accepted : Accepted J goal (bytesIn r)
   pub end : end (stepsIn J (bytesIn r)) ≡ r .end
+  pub peaks : peaks J (stepsIn J (bytesIn r)) ≡ r .peaks
   pub inTime : r .end ≤ T
 
 -- the frame's goal and horizon are such as the job may be asked for, and the steps are the job's

@@ -13,11 +13,12 @@ use tables::Frame;
 use tables::Steps;
 use timeline::Plan;
 
-// Whether a plan was found; its end, its number of steps and its bytes, zeros behind them.
+// Whether a plan was found; its end, its number of steps, the peaks of the pools and its bytes, zeros behind them.
 pub struct Answer {
     pub found: bool,
     pub end: u32,
     pub count: usize,
+    pub peaks: [u32; Job::POOLS],
     pub plan: [u8; Plan::BYTES],
 }
 
@@ -29,6 +30,7 @@ pub fn nothing() -> Answer
         found: false,
         end: 0,
         count: 0,
+        peaks: [0u32; Job::POOLS],
         plan: [0u8; Plan::BYTES],
     }
 }
@@ -51,10 +53,12 @@ fn as_plan(job: Job, goal: u64, horizon: u16, steps: Steps) -> Answer
     if (horizon as u32) < end {
         return nothing();
     }
+    let peaks = day.peaks;
     Answer {
         found: true,
         end,
         count,
+        peaks,
         plan,
     }
 }

@@ -64,10 +64,11 @@ module _ (J : Job) (slice : List ℕ) where
 
     -- a plan, copied to the front of the slice
     pub plans-found : a .found ≡ true → (after : List ℕ) → after ≡ overwrite slice 0 (bytesIn a)
-        → Plans J slice (tells (record { end = a .end; steps = a .count })) after
+        → Plans J slice (tells (record { end = a .end; steps = a .count; peaks = a .peaks })) after
     plans-found e after copied =
         let found = answered .found e in
-        let told = told-of-bytes J (bytesIn a) (a .end) (a .count) (found .0 .whole) (found .0 .end) in
+        let told = told-of-bytes J (bytesIn a) (a .end) (a .count) (a .peaks) (found .0 .whole) (found .0 .end)
+        (found .0 .peaks) in
         by-makespan (endsAt (a .end)) _ after passes room (found .2)
         (record {
           bytes = bytesIn a;

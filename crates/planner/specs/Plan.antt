@@ -30,14 +30,14 @@ pub record RefusedWith (why : Refusal) (slice : List ℕ) (answer : Day) (after 
   pub replies : dayReply answer ≡ refused (number why)
   pub keeps : after ≡ slice
 
--- "returns the end and number of steps and writes those steps at the front of the slice, the rest kept"; which of the
+-- "returns the end and number of steps", and the peaks of its pools, "and writes those steps at the front of the slice, the rest kept"; which of the
 -- plans that end at e is left open
 pub record HandsOut (J : Job) (slice : List ℕ) (e : ℕ) (answer : Day) (after : List ℕ) : Type 0 where
   pub bytes : List ℕ
   pub accepted : Accepted J (J .goal) bytes
   pub end : end (stepsIn J bytes) ≡ e
-  pub answers : answer ≡ tells (toldOf (stepsIn J bytes))
-  pub replies : dayReply answer ≡ returned (toldOf (stepsIn J bytes))
+  pub answers : answer ≡ tells (toldOf J (stepsIn J bytes))
+  pub replies : dayReply answer ≡ returned (toldOf J (stepsIn J bytes))
   pub leaves : after ≡ overwrite slice 0 bytes
 
 -- a plan with the least end of all accepted plans; 22 where there is "no plan that passes 12 to 20"

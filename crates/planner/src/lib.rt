@@ -47,9 +47,11 @@ pub fn plan(job: Job, out: &mut [u8]) -> Day
         return Day::refused(Refusal::NoPlan);
     }
     copy_plan(out, answer);
+    let peaks = answer.peaks;
     Day {
         verdict: Verdict::Pass,
         end: answer.end,
         steps: answer.count,
+        peaks,
     }
 }

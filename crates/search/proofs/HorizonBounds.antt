@@ -80,7 +80,14 @@ module _ (file sets numbers times : List ℕ) (frame : Frame) (T : ℕ) (within 
         let f = found .plan in
         let inTime = f .inTime in
         record {
-          plan = record { few = f .few; whole = f .whole; accepted = f .accepted; end = f .end; inTime = omega arith };
+          plan = record {
+            few = f .few;
+            whole = f .whole;
+            accepted = f .accepted;
+            end = f .end;
+            peaks = f .peaks;
+            inTime = omega arith;
+          };
           new = found .new;
           same = found .same;
           after = found .after;

@@ -67,6 +67,7 @@ module _ (J : Job) (frame : Frame) (plain : frame .least ≡ 0) (passed : Passed
                 whole = plan .whole;
                 accepted = plan .accepted;
                 end = plan .end;
+                peaks = plan .peaks;
                 inTime = omega arith;
               },
               counts,

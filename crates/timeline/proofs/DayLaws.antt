@@ -11,12 +11,12 @@ use Rattle.job.specs.declared.refusal.Verdict.the-variants.{Pass, Refused}
 use Rattle.job.specs.Job.{Job}
 use Rattle.job.specs.Refusal.{replyBy}
 use Rattle.timeline.specs.Step.{Step, stepsIn}
-use Rattle.timeline.specs.Timeline.{end}
+use Rattle.timeline.specs.Timeline.{end, peaks}
 use Rattle.timeline.specs.Day.{Told, toldOf, dayOf, dayReply}
 
-pub reply-of-day : (v : Verdict) (P : List Step) → dayReply (dayOf v P) ≡ replyBy v (toldOf P)
-reply-of-day Pass P = refl
-reply-of-day (Refused why) P = refl
+pub reply-of-day : (v : Verdict) (J : Job) (P : List Step) → dayReply (dayOf v J P) ≡ replyBy v (toldOf J P)
+reply-of-day Pass J P = refl
+reply-of-day (Refused why) J P = refl
 
 -- the bytes of n steps hold n steps
 pub steps-in-bytes : (J : Job) (bytes : List ℕ) (n : ℕ) → length bytes ≡ 3 * n → length (stepsIn J bytes) ≡ n
@@ -25,7 +25,8 @@ steps-in-bytes J bytes n whole =
     let count : length (stepsIn J bytes) ≡ length bytes / 3 = length-tabulate _ _ in
     omega arith
 
--- what is told of the bytes of n steps that end at e
-pub told-of-bytes : (J : Job) (bytes : List ℕ) (e n : ℕ) → length bytes ≡ 3 * n → end (stepsIn J bytes) ≡ e
-    → toldOf (stepsIn J bytes) ≡ record { end = e; steps = n }
-told-of-bytes J bytes e n whole ends = rw (ends, steps-in-bytes J bytes n whole)
+-- what is told of the bytes of n steps that end at e with these peaks
+pub told-of-bytes : (J : Job) (bytes : List ℕ) (e n : ℕ) (most : List ℕ) → length bytes ≡ 3 * n
+    → end (stepsIn J bytes) ≡ e → peaks J (stepsIn J bytes) ≡ most
+    → toldOf J (stepsIn J bytes) ≡ record { end = e; steps = n; peaks = most }
+told-of-bytes J bytes e n most whole ends peak = rw (ends, steps-in-bytes J bytes n whole, peak)

@@ -18,6 +18,7 @@ pub mod Rising
 pub mod Sorting
 pub mod Shorter
 pub mod Below
-pub mod PoolStarts
+mod PoolStarts
+pub mod Peaks
 pub mod RunRows
 pub mod DayLaws

@@ -1,4 +1,4 @@
--- The use of a pool is largest where a step starts.
+-- No less of a pool is in use where the last step with a share starts.
 -- Assumes nothing.
 use Prim.Native.Nat.{ℕ, _<_, _≤_}
 use mathlib.Core.Path.{_≡_, refl}
@@ -6,26 +6,24 @@ use mathlib.Core.Bool.{Bool, true, false}
 use mathlib.Core.Logic.{⊎-elim}
 use mathlib.Core.List.{List, [], _∷_}
 use native.Mathlib.Omega.{arith}
-use borrow.Author.Tests.{ltb-true, lt-ltb}
+use borrow.Author.Tests.{ltb-true}
 use Rattle.lists.specs.Lists.{any}
 use Rattle.job.specs.Job.{Job}
 use Rattle.job.specs.Valid.{over}
 use Rattle.timeline.specs.Step.{Step, largest}
 use Rattle.timeline.specs.Timeline.{free, hasShare, inUse}
-use Rattle.timeline.specs.Accepted.{anyBelow}
-use Rattle.timeline.proofs.Tests.{decided, not-both, or-cases, same-test, le-or-lt}
-use Rattle.timeline.proofs.Places.{Place, here, there, EachStep, each-cons, any-at, find-any}
-use Rattle.timeline.proofs.Places.{none-of-any, total-mono, total-zero, largest-at-least, below-some}
+use Rattle.timeline.proofs.Tests.{decided, not-both, or-cases, le-or-lt}
+use Rattle.timeline.proofs.Places.{Place, here, there, EachStep, each-cons, find-any}
+use Rattle.timeline.proofs.Places.{none-of-any, total-mono, total-zero, largest-at-least}
 use Rattle.timeline.proofs.Shares.{free-is, share-reads, share-when, useAt, use-of-share, use-without-share}
-use Rattle.timeline.proofs.Below.{below-found}
 
 -- ---- of the steps that pass a test, one that starts last
 -- if x passes the test, it starts by minute t
-abbrev StartedBy : (Step → Bool) → ℕ → Step → Type 0
+abbrev pub StartedBy : (Step → Bool) → ℕ → Step → Type 0
 StartedBy test t x = test x ≡ true → x .start ≤ t
 
 -- a step of P that passes the test, and none that passes starts later
-abbrev LastToStart : (Step → Bool) → List Step → Type 0
+abbrev pub LastToStart : (Step → Bool) → List Step → Type 0
 LastToStart test P =
     (x : Step) × (Q : List Step) × Place x Q P × (test x ≡ true) × EachStep (StartedBy test (x .start)) P
 
@@ -51,7 +49,7 @@ module _ (test : Step → Bool) where
       (λ e. last-of-rest x P z (λ p. not-both p e))
       (decided (test x))
 
-  last-to-start : (P : List Step) → any test P ≡ true → LastToStart test P
+  pub last-to-start : (P : List Step) → any test P ≡ true → LastToStart test P
   unfolding any
   last-to-start [] h = not-both h refl
   last-to-start (x ∷ P) h =
@@ -62,7 +60,7 @@ module _ (test : Step → Bool) where
       (decided (any test P))
 
 -- ---- shares and use
-nothing-without-shares : (J : Job) (pool t : ℕ) (P : List Step) → any (hasShare J pool t) P ≡ false
+pub nothing-without-shares : (J : Job) (pool t : ℕ) (P : List Step) → any (hasShare J pool t) P ≡ false
     → inUse J pool t P ≡ 0
 nothing-without-shares J pool t P h =
     total-zero (useAt J pool t) P
@@ -88,7 +86,7 @@ use-no-less J pool t s x h =
     (decided (hasShare J pool t x))
 
 -- no less is in use at an earlier minute by which every step with a share has started
-in-use-no-less : (J : Job) (pool t s : ℕ) (P : List Step) → s ≤ t → EachStep (StartedBy (hasShare J pool t) s) P
+pub in-use-no-less : (J : Job) (pool t s : ℕ) (P : List Step) → s ≤ t → EachStep (StartedBy (hasShare J pool t) s) P
     → inUse J pool t P ≤ inUse J pool s P
 in-use-no-less J pool t s P l h =
     total-mono (useAt J pool t) (useAt J pool s) P
@@ -98,18 +96,8 @@ in-use-no-less J pool t s P l h =
     let until = share-reads J pool t x e .1 in
     share-when J pool s x (h x Q i e) (omega arith)))
 
--- ---- exceeded in some minute exactly if exceeded where a step starts
-exceeded-at-some-start : (J : Job) (pool cap t : ℕ) (P : List Step) → over cap (inUse J pool t P) ≡ true
-    → any (λ x. over cap (inUse J pool (x .start) P)) P ≡ true
-exceeded-at-some-start J pool cap t P h =
-    let z = last-to-start (hasShare J pool t) P (exceeded-by-shares J pool cap t P h) in
-    let s = z .0 .start in
-    let more = in-use-no-less J pool t s P (share-reads J pool t (z .0) (z .3) .0) (z .4) in
-    let exceeds = ltb-true cap (inUse J pool t P) h in
-    any-at (λ x. over cap (inUse J pool (x .start) P)) (z .2) (lt-ltb cap (inUse J pool s P) (omega arith))
-
 -- the pool is exceeded only before all its shares are free again
-exceeded-before-free : (J : Job) (pool cap t : ℕ) (P : List Step) → over cap (inUse J pool t P) ≡ true
+pub exceeded-before-free : (J : Job) (pool cap t : ℕ) (P : List Step) → over cap (inUse J pool t P) ≡ true
     → t < largest (free J pool) P
 exceeded-before-free J pool cap t P h =
     let y = find-any (hasShare J pool t) P (exceeded-by-shares J pool cap t P h) in
@@ -117,17 +105,3 @@ exceeded-before-free J pool cap t P h =
     let f = free-is J pool (y .0) in
     let l = largest-at-least (free J pool) (y .2) in
     omega arith
-
-pub exceeds-at-start : (J : Job) (pool cap : ℕ) (P : List Step)
-    → anyBelow (largest (free J pool) P) (λ t. over cap (inUse J pool t P))
-    ≡ any (λ x. over cap (inUse J pool (x .start) P)) P
-exceeds-at-start J pool cap P =
-    same-test _ _
-    (λ h. let r = below-some (largest (free J pool) P) exceeds h in exceeded-at-some-start J pool cap (r .0) P (r .2))
-    (λ h.
-    let r = find-any (λ x. exceeds (x .start)) P h in
-    let t = r .0 .start in
-    below-found (largest (free J pool) P) exceeds t (exceeded-before-free J pool cap t P (r .3)) (r .3))
-  where
-    exceeds : ℕ → Bool
-    exceeds t = over cap (inUse J pool t P)

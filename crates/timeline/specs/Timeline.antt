@@ -1,10 +1,11 @@
 -- The timeline: clashes, the facts that hold at a minute, and what is in use.
 -- Assumes nothing.
-use Prim.Native.Nat.{ℕ, zero, suc, _+_}
+use Prim.Native.Nat.{ℕ, zero, suc, _+_, max}
 use mathlib.Core.Bool.{Bool, cond, _&&_, _||_}
 use mathlib.Core.List.{List}
 use lib.Dec.{eqb, leb, ltb}
-use lib.ListN.{getD}
+use lib.ListN.{length, getD}
+use Rattle.lists.specs.Lists.{tabulate, filled}
 use Rattle.facts.specs.FactSet.{union, difference, meets}
 use Rattle.job.specs.Job.{Action, Job}
 use Rattle.job.specs.Resources.{handover, storeAmount}
@@ -64,6 +65,19 @@ hasShare J pool t x = leb (x .start) t && ltb t (free J pool x)
 -- how much of the pool is in use in minute t: "the uses of the running steps add up"
 abbrev pub inUse : Job → ℕ → ℕ → List Step → ℕ
 inUse J pool t P = total (λ x. cond (hasShare J pool t x) (getD (x .action .pools) pool 0) 0) P
+
+-- the largest of f 0, f 1, up to f (n - 1); 0 for none
+abbrev pub largestBelow : ℕ → (ℕ → ℕ) → ℕ
+largestBelow zero f = 0
+largestBelow (suc n) f = max (f n) (largestBelow n f)
+
+-- "how many receivers are out together at most": the largest amount of the pool that is in use in a minute
+unfoldable pub peak : Job → ℕ → List Step → ℕ
+peak J pool P = largestBelow (largest (free J pool) P) (λ t. inUse J pool t P)
+
+-- "the largest such amount for each of four pools, 0 for a pool that the job lacks"
+abbrev pub peaks : Job → List Step → List ℕ
+peaks J P = filled 4 0 (tabulate (length (J .pools)) (λ pool. peak J pool P))
 
 -- how much of the store a step uses up; "over the plan the uses add up"
 abbrev pub storeUse : Job → ℕ → Step → ℕ

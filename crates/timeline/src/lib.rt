@@ -6,6 +6,7 @@ ghost use Rattle.timeline.specs.Timeline.{hinders};
 ghost use Rattle.timeline.specs.Day.{noDay};
 use job::Action;
 use job::Counts;
+use job::Job;
 use job::refusal::Refusal;
 use job::refusal::Verdict;
 
@@ -52,12 +53,13 @@ impl Plan {
     }
 }
 
-// What a call answers that checks a day or hands one out: its end and its number of steps. Beside a refusal both are
-// zero.
+// What a call answers that checks a day or hands one out: its end, its number of steps, and for each pool the most that
+// is in use together. Beside a refusal all is zero.
 pub struct Day {
     pub verdict: Verdict,
     pub end: u32,
     pub steps: usize,
+    pub peaks: [u32; Job::POOLS],
 }
 
 impl Day {
@@ -69,6 +71,7 @@ impl Day {
             verdict: Verdict::Refused(why),
             end: 0,
             steps: 0,
+            peaks: [0u32; Job::POOLS],
         }
     }
 }

@@ -1,7 +1,7 @@
 -- `ruhkevois_check` meets its contract: the file is refused, or the checker has answered.
 -- Assumes nothing.
 use mathlib.Core.Path.{_∙_}
-use Rattle.calls.proofs.CallLaws.{file-refused, check-accepted}
+use Rattle.calls.proofs.CallLaws.{file-refused, peaks-kept, check-accepted, peaks-told}
 use borrow.Author.Needs.{needs}
 use Rattle.calls.proofs.ruhkevois_check.Statement.{statement}
 use Rattle.calls.proofs.ruhkevois_check.Tie as tie
@@ -18,7 +18,10 @@ refused-requires c κs = search needs
 returns : tie.Need-returns
 returns c =
     let c-read = c .before .before .before .before .read in
-    c .refused .ensures ∙ file-refused _ _ (c-read .ensures) _ (c .before .before .verdict .given .1) _
+    let c-verdict = c .before .before .verdict in (
+      c .refused .ensures ∙ file-refused _ _ (c-read .ensures) _ (c-verdict .given .1) _,
+      peaks-kept _ _ (c-read .ensures) _ (c-verdict .given .1) _ _,
+    )
 
 enum-told : tie.Need-enum-told
 enum-told c = search needs
@@ -26,14 +29,21 @@ enum-told c = search needs
 check-requires : tie.Need-check-requires
 check-requires c κs = search needs
 
+put-peaks-requires : tie.Need-put-peaks-requires
+put-peaks-requires c κs = search needs
+
 day-told-requires : tie.Need-day-told-requires
 day-told-requires c κs = search needs
 
 returns-2 : tie.Need-returns-2
 returns-2 c =
-    let c-read = c .before .before .before .before .read in
-    c .day-told .ensures
-    ∙ check-accepted _ _ (c-read .ensures) (c .before .before .enum-told .given .1) _ _ (c .before .check .ensures .answers)
+    let c-read = c .before .before .before .before .before .before .read in
+    let c-enum-told = c .before .before .before .before .enum-told in
+    let c-check = c .before .before .before .check in (
+      c .day-told .ensures
+          ∙ check-accepted _ _ (c-read .ensures) (c-enum-told .given .1) _ _ (c-check .ensures .answers),
+      peaks-told _ _ (c-read .ensures) (c-enum-told .given .1) _ _ _ _ (c-check .ensures .answers) (c .before .put-peaks .ensures),
+    )
 
 pub ruhkevois-check-spec : {M : Type 1} → statement M
 ruhkevois-check-spec =
@@ -45,5 +55,6 @@ ruhkevois-check-spec =
     returns
     enum-told
     check-requires
+    put-peaks-requires
     day-told-requires
     returns-2)

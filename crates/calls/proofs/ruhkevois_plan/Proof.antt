@@ -20,7 +20,7 @@ refused-requires c κs = search needs
 returns : tie.Need-returns
 returns c =
     let c-read = c .before .before .before .before .read in
-    plan-refused _ _ (c-read .ensures) _ (c .before .before .verdict .given .1) _ _ (c .refused .ensures)
+    plan-refused _ _ (c-read .ensures) _ (c .before .before .verdict .given .1) _ _ _ (c .refused .ensures)
 
 enum-told : tie.Need-enum-told
 enum-told c = search needs
@@ -28,12 +28,15 @@ enum-told c = search needs
 plan-requires : tie.Need-plan-requires
 plan-requires c κs = search needs
 
+put-peaks-requires : tie.Need-put-peaks-requires
+put-peaks-requires c κs = search needs
+
 cast-day-told : tie.Need-cast-day-told
 cast-day-told c =
     let at8 = c .before .before .before .before .before .before .before .before in
-    let c-args = at8 .before .before .args in
-    let c-read = c .before .before .before .before .before .before .before .read in
-    let c-plan = c .before .before .before .plan in
+    let c-args = at8 .before .before .before .before .args in
+    let c-read = at8 .before .read in
+    let c-plan = c .before .before .before .before .before .plan in
     let few = planned-steps-are-few (jobIn (c-read .result .job)) (c-args .out .now) (c-plan .result) _ (c-plan .ensures) in
     record { fits = omega arith }
 
@@ -45,10 +48,12 @@ same-length c = search needs
 
 returns-2 : tie.Need-returns-2
 returns-2 c =
-    let c-read = c .before .before .before .before .before .before .before .before .read in
-    let c-enum-told = c .before .before .before .before .before .before .enum-told in
-    let c-plan = c .before .before .before .before .plan in
-    plan-accepted _ _ (c-read .ensures) (c-enum-told .given .1) _ _ _ _ (c-plan .ensures) (c .day-told .ensures)
+    let at8 = c .before .before .before .before .before .before .before .before in
+    let c-read = at8 .before .before .read in
+    let c-enum-told = c .before .before .before .before .before .before .before .before .enum-told in
+    let c-plan = c .before .before .before .before .before .before .plan in
+    plan-accepted _ _ (c-read .ensures) (c-enum-told .given .1) _ _ _ _ _ _ (c-plan .ensures) (c .day-told .ensures)
+    (c .before .before .put-peaks .ensures)
 
 pub ruhkevois-plan-spec : {M : Type 1} → statement M
 ruhkevois-plan-spec =
@@ -60,6 +65,7 @@ ruhkevois-plan-spec =
     returns
     enum-told
     plan-requires
+    put-peaks-requires
     cast-day-told
     day-told-requires
     same-length

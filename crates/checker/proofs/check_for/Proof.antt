@@ -29,7 +29,7 @@ returns c =
     let c-validate = c .before .before .before .before .validate in
     let J = jobIn (c-args .job) in
     c .refused .ensures
-    ∙ sym (ap (λ (v : Verdict). dayOf v (stepsIn J (c-args .plan .now)))
+    ∙ sym (ap (λ (v : Verdict). dayOf v J (stepsIn J (c-args .plan .now)))
     (first-append-refused (jobRows J) _ _ (sym (c-validate .ensures) ∙ c .before .before .verdict .given .1)))
 
 enum-told : tie.Need-enum-told
@@ -49,7 +49,7 @@ returns-2 c =
     let c-enum-told = c .before .before .before .enum-told in
     let J = jobIn (c-args .job) in
     c .refused2 .ensures
-    ∙ sym (ap (λ (v : Verdict). dayOf v (stepsIn J (c-args .plan .now)))
+    ∙ sym (ap (λ (v : Verdict). dayOf v J (stepsIn J (c-args .plan .now)))
     (first-append-pass (jobRows J) _ (sym (c-validate .ensures) ∙ c-enum-told .given .1)
     ∙ first-here ForeignAskedFact _ _ (sym (c .before .before .foreign .ensures .0) ∙ c .before .if1 .taken)))
 
@@ -67,7 +67,7 @@ returns-3 c =
     let c-foreign = c .before .before .before .foreign in
     let J = jobIn (c-args .job) in
     c .before .checked-plan .ensures .day
-    ∙ sym (ap (λ (v : Verdict). dayOf v (stepsIn J (c-args .plan .now)))
+    ∙ sym (ap (λ (v : Verdict). dayOf v J (stepsIn J (c-args .plan .now)))
     (first-append-pass (jobRows J) _ (sym (c-validate .ensures) ∙ c-enum-told .given .1)
     ∙ first-next ForeignAskedFact _ _ (sym (c-foreign .ensures .0) ∙ c .before .before .if1 .left)))
 

@@ -86,8 +86,8 @@ returns-3 c =
     ∙ check-passes AfterDeadline _ _ (sym (c-deadline .ensures) ∙ c-enum-told3 .given .1)
     ∙ check-fails Clash _ _ _ (sym (c .before .before .clashes .ensures) ∙ c .enum-told6 .given .1)))
 
-pools-requires : tie.Need-pools-requires
-pools-requires c κs = search needs
+within-requires : tie.Need-within-requires
+within-requires c κs = search needs
 
 enum-told-7 : tie.Need-enum-told-7
 enum-told-7 c = search needs
@@ -112,7 +112,7 @@ returns-4 c =
     ∙ check-passes StepOrder _ _ (sym (c-order .ensures) ∙ c-enum-told .given .1)
     ∙ check-passes AfterDeadline _ _ (sym (c-deadline .ensures) ∙ c-enum-told3 .given .1)
     ∙ check-passes Clash _ _ (sym (c-clashes .ensures) ∙ c-enum-told5 .given .1)
-    ∙ check-fails PoolExceeded _ _ _ (sym (c .before .before .pools .ensures) ∙ c .enum-told8 .given .1)))
+    ∙ check-fails PoolExceeded _ _ _ (sym (c .before .before .within .ensures) ∙ c .enum-told8 .given .1)))
 
 stores-requires : tie.Need-stores-requires
 stores-requires c κs = search needs
@@ -135,14 +135,14 @@ returns-5 c =
     let c-enum-told3 = at8 .before .enum-told3 in
     let c-clashes = c .before .before .before .before .before .before .before .before .clashes in
     let c-enum-told5 = c .before .before .before .before .before .before .enum-told5 in
-    let c-pools = c .before .before .before .before .before .pools in
+    let c-within = c .before .before .before .before .before .within in
     let c-enum-told7 = c .before .before .before .enum-told7 in
     sym (ap (λ (v : Verdict). checkedOf v (stepsOf (c-args .plan)))
     (first-next UnknownAction _ _ (c-pre .1 .0)
     ∙ check-passes StepOrder _ _ (sym (c-order .ensures) ∙ c-enum-told .given .1)
     ∙ check-passes AfterDeadline _ _ (sym (c-deadline .ensures) ∙ c-enum-told3 .given .1)
     ∙ check-passes Clash _ _ (sym (c-clashes .ensures) ∙ c-enum-told5 .given .1)
-    ∙ check-passes PoolExceeded _ _ (sym (c-pools .ensures) ∙ c-enum-told7 .given .1)
+    ∙ check-passes PoolExceeded _ _ (sym (c-within .ensures) ∙ c-enum-told7 .given .1)
     ∙ check-fails StoreExceeded _ _ _ (sym (c .before .before .stores .ensures) ∙ c .enum-told10 .given .1)))
 
 end-requires : tie.Need-end-requires
@@ -170,7 +170,7 @@ returns-6 c =
     let c-enum-told3 = at8 .before .before .before .before .before .enum-told3 in
     let c-clashes = at8 .before .before .before .before .clashes in
     let c-enum-told5 = at8 .before .before .enum-told5 in
-    let c-pools = at8 .before .pools in
+    let c-within = at8 .before .within in
     let c-enum-told7 = c .before .before .before .before .before .before .before .enum-told7 in
     let c-stores = c .before .before .before .before .before .before .stores in
     let c-enum-told9 = c .before .before .before .before .enum-told9 in
@@ -179,7 +179,7 @@ returns-6 c =
     ∙ check-passes StepOrder _ _ (sym (c-order .ensures) ∙ c-enum-told .given .1)
     ∙ check-passes AfterDeadline _ _ (sym (c-deadline .ensures) ∙ c-enum-told3 .given .1)
     ∙ check-passes Clash _ _ (sym (c-clashes .ensures) ∙ c-enum-told5 .given .1)
-    ∙ check-passes PoolExceeded _ _ (sym (c-pools .ensures) ∙ c-enum-told7 .given .1)
+    ∙ check-passes PoolExceeded _ _ (sym (c-within .ensures) ∙ c-enum-told7 .given .1)
     ∙ check-passes StoreExceeded _ _ (sym (c-stores .ensures) ∙ c-enum-told9 .given .1)
     ∙ first-here NeedMissing _ _
     (watched-missing _ _ (sym (c .before .before .watch .ensures (jobIn (c-args .job)) refl)
@@ -207,7 +207,7 @@ returns-7 c =
     let c-enum-told3 = at16 .before .enum-told3 in
     let c-clashes = at16 .clashes in
     let c-enum-told5 = at8 .before .before .before .before .before .before .enum-told5 in
-    let c-pools = at8 .before .before .before .before .before .pools in
+    let c-within = at8 .before .before .before .before .before .within in
     let c-enum-told7 = at8 .before .before .before .enum-told7 in
     let c-stores = at8 .before .before .stores in
     let c-enum-told9 = c .before .before .before .before .before .before .before .before .enum-told9 in
@@ -220,7 +220,7 @@ returns-7 c =
     ∙ check-passes StepOrder _ _ (sym (c-order .ensures) ∙ c-enum-told .given .1)
     ∙ check-passes AfterDeadline _ _ (sym (c-deadline .ensures) ∙ c-enum-told3 .given .1)
     ∙ check-passes Clash _ _ (sym (c-clashes .ensures) ∙ c-enum-told5 .given .1)
-    ∙ check-passes PoolExceeded _ _ (sym (c-pools .ensures) ∙ c-enum-told7 .given .1)
+    ∙ check-passes PoolExceeded _ _ (sym (c-within .ensures) ∙ c-enum-told7 .given .1)
     ∙ check-passes StoreExceeded _ _ (sym (c-stores .ensures) ∙ c-enum-told9 .given .1)
     ∙ first-next NeedMissing _ _ (w .0)
     ∙ check-fails GoalMissing _ _ _ (ap g (w .1) ∙ sym (c .before .before .goal .ensures) ∙ c .enum-told13 .given .1)))
@@ -238,7 +238,7 @@ returns-8 c =
     let c-enum-told3 = at16 .before .enum-told3 in
     let c-clashes = at16 .clashes in
     let c-enum-told5 = at8 .before .before .before .before .before .before .enum-told5 in
-    let c-pools = at8 .before .before .before .before .before .pools in
+    let c-within = at8 .before .before .before .before .before .within in
     let c-enum-told7 = at8 .before .before .before .enum-told7 in
     let c-stores = at8 .before .before .stores in
     let c-enum-told9 = c .before .before .before .before .before .before .before .before .enum-told9 in
@@ -253,7 +253,7 @@ returns-8 c =
     ∙ check-passes StepOrder _ _ (sym (c-order .ensures) ∙ c-enum-told .given .1)
     ∙ check-passes AfterDeadline _ _ (sym (c-deadline .ensures) ∙ c-enum-told3 .given .1)
     ∙ check-passes Clash _ _ (sym (c-clashes .ensures) ∙ c-enum-told5 .given .1)
-    ∙ check-passes PoolExceeded _ _ (sym (c-pools .ensures) ∙ c-enum-told7 .given .1)
+    ∙ check-passes PoolExceeded _ _ (sym (c-within .ensures) ∙ c-enum-told7 .given .1)
     ∙ check-passes StoreExceeded _ _ (sym (c-stores .ensures) ∙ c-enum-told9 .given .1)
     ∙ first-next NeedMissing _ _ (w .0)
     ∙ check-passes GoalMissing _ [] (ap g (w .1) ∙ sym (c .before .before .goal .ensures) ∙ c .enum-told12 .given .1)
@@ -275,7 +275,7 @@ check-steps-spec =
     enum-told-5
     enum-told-6
     returns-3
-    pools-requires
+    within-requires
     enum-told-7
     enum-told-8
     returns-4

@@ -7,6 +7,7 @@ use Rattle.job.proofs.Passed.{passed}
 use Rattle.job.proofs.Rows.{fits-of-pass}
 use Rattle.timeline.specs.Accepted.{stepRows, planRows}
 use Rattle.checker.proofs.ChainLaws.{check-passes, check-fails, passed-test}
+use Rattle.checker.proofs.PeakLaws.{small-peaks}
 use Rattle.checker.proofs.PlanLaws.{checks-refused, checks-decoded}
 use Rattle.checker.proofs.StepLaws.{known-steps-last}
 use borrow.Author.Needs.{needs}
@@ -78,7 +79,15 @@ check-steps-requires c κs =
     ((e .0, e .1, fits-of-pass j (c-pre)), (rw (e .2) known, rw (e .2) lasting))
 
 with-day-requires : tie.Need-with-day-requires
-with-day-requires c κs = search needs
+with-day-requires c κs =
+    let at8 = c .before .before .before .before .before .before .before .before in
+    let c-args = at8 .before .args in
+    let c-pre = at8 .before .pre in
+    let c-plan = c .before .plan in
+    let j = c-args .job in
+    let e = c-plan .ensures in
+    let small = small-peaks j (c-plan .result) (c-args .goal) (passed (jobIn j) (c-pre)) _ (c .check-steps .ensures) in
+    (e .0, e .1, fits-of-pass j (c-pre), small)
 
 returns-3 : tie.Need-returns-3
 unfolding planRows

@@ -64,11 +64,12 @@ returns-2 c =
 
 returns-3 : tie.Need-returns-3
 returns-3 c =
-    let c-args = c .before .before .before .before .before .before .before .before .args in
-    let c-write-plan = c .before .before .before .before .before .before .write-plan in
-    let c-check-for = c .before .before .before .check-for in
+    let at8 = c .before .before .before .before .before .before .before .before in
+    let c-args = at8 .before .args in
+    let c-write-plan = c .before .before .before .before .before .before .before .write-plan in
+    let c-check-for = c .before .before .before .before .check-for in
     answers-plan (jobIn (c-args .job)) (c-args .goal) (c-args .horizon) (c-args .steps) _ _ (c-write-plan .ensures)
-    (c-check-for .ensures) (c .before .enum-told .given .1) (c .if1 .left)
+    (c-check-for .ensures) (c .before .before .enum-told .given .1) (c .before .if1 .left)
 
 pub as-plan-spec : {M : Type 1} → statement M
 as-plan-spec =

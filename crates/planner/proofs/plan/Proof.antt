@@ -78,17 +78,18 @@ same-length c = search needs
 returns-4 : tie.Need-returns-4
 returns-4 c =
     let at8 = c .before .before .before .before .before .before .before .before in
-    let c-args = at8 .before .before .before .before .args in
-    let c-validate = at8 .before .before .validate in
-    let c-enum-told = c .before .before .before .before .before .before .before .before .enum-told in
-    let c-if1 = c .before .before .before .before .before .before .before .if1 in
-    let c-whole-day = c .before .before .before .before .before .before .whole-day in
-    let c-solve = c .before .before .before .before .before .solve in
-    let c-if2 = c .before .before .before .before .if2 in
+    let c-args = at8 .before .before .before .before .before .args in
+    let c-validate = at8 .before .before .before .validate in
+    let c-enum-told = at8 .before .enum-told in
+    let c-if1 = c .before .before .before .before .before .before .before .before .if1 in
+    let c-whole-day = c .before .before .before .before .before .before .before .whole-day in
+    let c-solve = c .before .before .before .before .before .before .solve in
+    let c-if2 = c .before .before .before .before .before .if2 in
+    let c-copy-plan = c .before .before .before .copy-plan in
     let pass = sym (c-validate .ensures) ∙ c-enum-told .given .1 in
     let solved = whole-day-solved (c-args .job) _ (c-whole-day .ensures) (c-solve .result) (c-solve .ensures) in
     plans-found (jobIn (c-args .job)) (c-args .out .now) pass (c-if1 .left) (c-solve .result) solved
-    (not-false (c-solve .result .found) (c-if2 .left)) _ (c .before .before .copy-plan .ensures)
+    (not-false (c-solve .result .found) (c-if2 .left)) _ (c-copy-plan .ensures)
 
 pub plan-spec : {M : Type 1} → statement M
 plan-spec =

@@ -8,8 +8,8 @@ use Rattle.timeline.specs.Value.{stepOfValue}
 use Rattle.checker.proofs.ShareLaws.{no-share-before, no-share-after, share-while-held}
 use native.Mathlib.Omega.{arith}
 use borrow.Author.Needs.{needs}
-use Rattle.checker.proofs.rules.share.Statement.{statement}
-use Rattle.checker.proofs.rules.share.Tie as tie
+use Rattle.checker.proofs.pools.share.Statement.{statement}
+use Rattle.checker.proofs.pools.share.Tie as tie
 
 returns : tie.Need-returns
 returns c =

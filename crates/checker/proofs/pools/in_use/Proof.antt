@@ -10,8 +10,8 @@ use Rattle.timeline.specs.Timeline.{hasShare, inUse}
 use Rattle.timeline.specs.Value.{stepAt}
 use Rattle.checker.proofs.Loops.{total-more}
 use native.Mathlib.Omega.{arith}
-use Rattle.checker.proofs.rules.in_use.Statement.{statement}
-use Rattle.checker.proofs.rules.in_use.Tie as tie
+use Rattle.checker.proofs.pools.in_use.Statement.{statement}
+use Rattle.checker.proofs.pools.in_use.Tie as tie
 
 abbrev Inv-loop : tie.InvT-loop
 Inv-loop pool minute plan sum₀ i₀ sum i =

@@ -1,23 +1,26 @@
--- `pools` meets its contract: none of the first k pools is exceeded.
+-- `within` meets its contract: none of the first k pools is exceeded.
 -- Assumes nothing.
 use Prim.Native.Nat.{_-_, _≤_}
 use mathlib.Core.Path.{_≡_, refl, sym, ap, _∙_}
 use mathlib.Core.Bool.{false}
 use mathlib.Core.List.{[]}
 use lib.ListN.{length, getD}
+use borrow.Author.Tests.{lt-ltb, le-ltb}
 use Rattle.lists.proofs.Tabulate.{getD-tabulate, length-tabulate}
 use Rattle.job.specs.declared.Counts.{Counts}
 use Rattle.job.specs.declared.refusal.Refusal.the-variants.{PoolExceeded}
 use Rattle.job.specs.Job.{jobIn}
 use Rattle.job.specs.Refusal.{first}
 use Rattle.job.proofs.Table.{first-here, first-next}
+use Rattle.timeline.specs.Timeline.{peak}
 use Rattle.timeline.specs.Accepted.{anyBelow, exceedsPool}
 use Rattle.timeline.specs.Value.{stepsOf}
 use Rattle.timeline.proofs.Below.{below-more, below-found}
+use Rattle.timeline.proofs.Peaks.{exceeds-by-peak}
 use native.Mathlib.Omega.{arith}
 use borrow.Author.Needs.{needs}
-use Rattle.checker.proofs.rules.pools.Statement.{statement}
-use Rattle.checker.proofs.rules.pools.Tie as tie
+use Rattle.checker.proofs.pools.within.Statement.{statement}
+use Rattle.checker.proofs.pools.within.Tie as tie
 
 abbrev Inv-loop : tie.InvT-loop
 Inv-loop plan job counts k₀ k = (k ≤ counts .pools) × (anyBelow k (exceedsPool (jobIn job) (stepsOf plan)) ≡ false)
@@ -37,8 +40,8 @@ element-copy-out-wide c = omega arith
 wide-requires : tie.Need-wide-requires Inv-loop μ-loop
 wide-requires c κs = search needs
 
-exceeds-pool-requires : tie.Need-exceeds-pool-requires Inv-loop μ-loop
-exceeds-pool-requires c κs =
+peak-requires : tie.Need-peak-requires Inv-loop μ-loop
+peak-requires c κs =
     let c-pre = c .before .before .before .before .before .before .pre in
     let h = c-pre in
     let e = ap (λ (n : Counts). n .pools) (h .1) in
@@ -50,13 +53,16 @@ returns c =
     let c-loop = c .before .before .before .before .before .before .loop in
     let c-if1 = c .before .before .before .before .if1 in
     let j = c-args .t2 in
-    let test = exceedsPool (jobIn j) (stepsOf (c-args .plan)) in
+    let P = stepsOf (c-args .plan) in
     let k = c-loop .k in
     let available = getD-tabulate (j .counts .pools) (λ i. getD (j .pools) i 0) k 0 (c-if1 .taken) in
-    let e = sym (c .before .exceeds-pool .ensures (jobIn j) (available ∙ sym (c .before .before .wide .ensures .0)))
-    ∙ c .if2 .taken in
+    let cap = available ∙ sym (c .before .before .wide .ensures .0) in
+    let most = c .before .peak .ensures (jobIn j) in
+    let over = c .if2 .taken in
+    let exceeds = exceeds-by-peak (jobIn j) k P (getD (jobIn j .pools) k 0)
+    ∙ lt-ltb (getD (jobIn j .pools) k 0) (peak (jobIn j) k P) (omega arith) in
     sym (first-here PoolExceeded _ []
-    (rw length-tabulate (below-found (j .counts .pools) test k (c-if1 .taken) e)))
+    (rw length-tabulate (below-found (j .counts .pools) (exceedsPool (jobIn j) P) k (c-if1 .taken) exceeds)))
 
 add-k : tie.Need-add-k Inv-loop μ-loop
 add-k c = omega arith
@@ -70,12 +76,15 @@ loop-again c =
     let c-loop = c .before .before .before .before .before .before .loop in
     let c-if1 = c .before .before .before .before .if1 in
     let j = c-args .t2 in
-    let test = exceedsPool (jobIn j) (stepsOf (c-args .plan)) in
+    let P = stepsOf (c-args .plan) in
     let k = c-loop .k in
     let available = getD-tabulate (j .counts .pools) (λ i. getD (j .pools) i 0) k 0 (c-if1 .taken) in
-    let e = sym (c .before .exceeds-pool .ensures (jobIn j) (available ∙ sym (c .before .before .wide .ensures .0)))
-    ∙ c .if2 .left in
-    (omega arith, below-more k test ∙ rw (e, c-loop .inv .1))
+    let cap = available ∙ sym (c .before .before .wide .ensures .0) in
+    let most = c .before .peak .ensures (jobIn j) in
+    let enough = c .if2 .left in
+    let suffices = exceeds-by-peak (jobIn j) k P (getD (jobIn j .pools) k 0)
+    ∙ le-ltb (getD (jobIn j .pools) k 0) (peak (jobIn j) k P) (omega arith) in
+    (omega arith, below-more k (exceedsPool (jobIn j) P) ∙ rw (suffices, c-loop .inv .1))
 
 returns-2 : tie.Need-returns-2 Inv-loop μ-loop
 unfolding first
@@ -88,8 +97,8 @@ returns-2 c =
     rw length-tabulate (rw q at (c-loop .inv .1)) in
     sym (first-next PoolExceeded _ [] none)
 
-pub pools-spec : {M : Type 1} → statement M
-pools-spec =
+pub within-spec : {M : Type 1} → statement M
+within-spec =
     tie.close
     (tie.spec
     Inv-loop
@@ -98,7 +107,7 @@ pools-spec =
     mul-wide
     element-copy-out-wide
     wide-requires
-    exceeds-pool-requires
+    peak-requires
     returns
     add-k
     loop-less
