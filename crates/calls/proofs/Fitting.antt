@@ -3,7 +3,6 @@
 use Prim.Native.Nat.{ℕ, _≤_}
 use mathlib.Core.Path.{_≡_, refl, sym, ap, _∙_}
 use mathlib.Core.List.{List}
-use native.Mathlib.Nat.{mul-le-mul}
 use native.Mathlib.Omega.{arith}
 use lib.ListN.{length}
 use lib.Dec.{ltb}
@@ -17,14 +16,14 @@ use Rattle.job.specs.declared.refusal.Refusal.{Refusal}
 use Rattle.job.specs.declared.refusal.Refusal.the-variants.{NoPlan}
 use Rattle.job.specs.declared.refusal.Verdict.{Verdict}
 use Rattle.job.specs.declared.refusal.Verdict.the-variants.{Pass, Refused}
-use Rattle.job.proofs.Passed.{Passed, passed}
+use Rattle.job.proofs.Passed.{passed}
 use Rattle.job.proofs.Table.{first-pass, pass-of-append}
-use Rattle.job.proofs.Values.{Shape, job-in-shape}
+use Rattle.job.proofs.Values.{job-in-shape}
 use Rattle.jobfile.specs.declared.Written.{Written}
 use Rattle.jobfile.specs.declared.Written.the-variants as written
-use Rattle.jobfile.specs.File.{fileOf, decoded, fileRows, actionSize}
+use Rattle.jobfile.specs.File.{fileOf, decoded, fileRows}
 use Rattle.jobfile.specs.Answers.{readRows, readingOf, readFile, writeRows, writtenOf, writeFile}
-use Rattle.jobfile.proofs.Lengths.{length-file}
+use Rattle.jobfile.proofs.Lengths.{file-fits}
 use Rattle.timeline.specs.declared.Day.{Day}
 use Rattle.timeline.specs.Day.{noDay}
 use Rattle.timeline.proofs.PlanBytes.{few-steps-of-accepted}
@@ -43,16 +42,6 @@ accepted-file-is-short file h =
     let passes = sym (verdict-read (first (readRows file)) (decoded file)) ∙ h in
     let size = first-pass _ _ _ passes .0 in
     ltb-false 4096 (length file) (or-right (ltb (length file) 16) (over 4096 (length file)) size)
-
--- 64 actions of 57 bytes, and 67 bytes more
-file-fits : (J : Job) → Shape J → Passed J → length (fileOf J) ≤ 4096
-file-fits J shape within =
-    let p = within .fewPools in
-    let s = within .fewStores in
-    let one : actionSize (length (J .pools)) (length (J .stores)) ≤ 57 = omega arith in
-    let all = mul-le-mul {n₂ = 64} {m₂ = 57} (within .fewActions) one in
-    let l = length-file J shape in
-    omega arith
 
 length-told : (v : Verdict) (J : Job) (n : ℕ) → writtenOf v J ≡ written.Length n
     → (v ≡ Pass) × (length (fileOf J) ≡ n)

@@ -1,39 +1,24 @@
 -- The bodies of a job, read back.
 -- Assumes nothing.
-use Prim.Native.Nat.{ℕ, _+_, _*_, _/_, _^_, _<_}
-use mathlib.Core.Path.{_≡_, refl, ap, _∙_}
-use mathlib.Core.List.{List, [], _∷_, _++_, append-nil, append-assoc}
+use Prim.Native.Nat.{ℕ, _*_, _/_, _<_}
+use mathlib.Core.Path.{_≡_, refl, _∙_}
+use mathlib.Core.List.{List, [], _∷_, append-nil, append-assoc}
 use native.Mathlib.Omega.{arith}
-use lib.ListN.{length, length-append}
+use lib.ListN.{length}
 use Rattle.lists.specs.Lists.{Each}
-use Rattle.lists.proofs.Tabulate.{each-all, each-map}
-use Rattle.encoding.specs.Bytes.{fromBytes, toBytes, part, split, joined}
+use Rattle.lists.proofs.Tabulate.{each-map}
+use Rattle.encoding.specs.Bytes.{fromBytes, toBytes, split, joined}
 use Rattle.encoding.proofs.Numbers.{length-bytes, number-bytes}
-use Rattle.encoding.proofs.Parts.{part-seam}
 use Rattle.encoding.proofs.Pieces.{split-joined}
 use Rattle.job.specs.Job.{Action, Job}
 use Rattle.job.proofs.Passed.{Amounts, PassedAction, Passed}
 use Rattle.job.proofs.Values.{Shaped, Shape}
 use Rattle.jobfile.specs.File.{headBytes, amountBytes, actionBytes, actionSize, actionOf, jobOf}
 use Rattle.jobfile.proofs.Lengths.{length-amounts, length-action}
-
-pub numbers-read : (n : ℕ) (xs : List ℕ) → 0 < n → Each (λ x. x < 256 ^ n) xs
-    → split n fromBytes (joined (toBytes n) xs) ≡ xs
-numbers-read n xs l h =
-    split-joined n fromBytes (toBytes n) xs l (each-all (λ x. length-bytes n x) xs)
-    (each-map (λ x e. number-bytes n x e) xs h)
+use Rattle.jobfile.proofs.Fields.{fields-read, numbers-read}
 
 amounts-read : (xs : List ℕ) → Amounts xs → split 4 fromBytes (amountBytes xs) ≡ xs
 amounts-read xs h = numbers-read 4 xs (omega arith) (each-map (λ x e. omega arith) xs h)
-
-pub part-read : (bytes A B C : List ℕ) (at n : ℕ) → bytes ≡ A ++ (B ++ C) → length A ≡ at → length B ≡ n
-    → part bytes at n ≡ B
-part-read bytes A B C at n e p q = ap (λ (b : List ℕ). part b at n) e ∙ part-seam A B C at n p q
-
-number-read : (bytes A C : List ℕ) (at n x : ℕ) → bytes ≡ A ++ (toBytes n x ++ C) → length A ≡ at → x < 256 ^ n
-    → fromBytes (part bytes at n) ≡ x
-number-read bytes A C at n x e p h =
-    ap fromBytes (part-read bytes A (toBytes n x) C at n e p (length-bytes n x)) ∙ number-bytes n x h
 
 module _ (p s facts : ℕ) where
   action-read : (a : Action) → Shaped p s a → PassedAction facts a → a .duration < 256
@@ -42,33 +27,23 @@ module _ (p s facts : ℕ) where
   action-read a h f d =
       let P = amountBytes (a .pools) in
       let S = amountBytes (a .stores) in
-      let b1 = toBytes 1 (a .duration) in
-      let b2 = b1 ++ toBytes 8 (a .needs) in
-      let b3 = b2 ++ toBytes 8 (a .adds) in
-      let b4 = b3 ++ toBytes 8 (a .deletes) in
-      let t3 = P ++ S in
-      let t2 = toBytes 8 (a .deletes) ++ t3 in
-      let t1 = toBytes 8 (a .adds) ++ t2 in
-      let t0 = toBytes 8 (a .needs) ++ t1 in
-      let l1 = length-bytes 1 (a .duration) in
-      let l2 : length b2 ≡ 9 = simp (length-append, length-bytes) in
-      let l3 : length b3 ≡ 17 = simp (length-append, length-bytes) in
-      let l4 : length b4 ≡ 25 = simp (length-append, length-bytes) in
       let eP = h .pools in
       let eS = h .stores in
-      let lP = length-amounts (a .pools) in
-      let lS = length-amounts (a .stores) in
-      let l5 : length (b4 ++ P) ≡ 25 + 4 * p = length-append b4 P ∙ omega arith in
-      rw (
-        number-read (actionBytes a) [] t0 0 1 (a .duration) (simp append-assoc) refl d,
-        number-read (actionBytes a) b1 t1 1 8 (a .needs) (simp append-assoc) l1 (f .needs .word),
-        number-read (actionBytes a) b2 t2 9 8 (a .adds) (simp append-assoc) l2 (f .adds .word),
-        number-read (actionBytes a) b3 t3 17 8 (a .deletes) (simp append-assoc) l3 (f .deletes .word),
-        part-read (actionBytes a) b4 P S 25 (4 * p) (simp append-assoc) l4 (omega arith),
-        part-read (actionBytes a) (b4 ++ P) S [] (25 + 4 * p) (4 * s) (simp append-nil) l5 (omega arith),
+      let lP : length P ≡ 4 * p = length-amounts (a .pools) ∙ omega arith in
+      let lS : length S ≡ 4 * s = length-amounts (a .stores) ∙ omega arith in
+      let sets = toBytes 8 (a .needs) ∷ toBytes 8 (a .adds) ∷ toBytes 8 (a .deletes) ∷ P ∷ S ∷ [] in
+      let fields = toBytes 1 (a .duration) ∷ sets in
+      let read = fields-read (actionBytes a) [] 0 fields (simp (append-assoc, append-nil)) refl in
+      let r = simp (length-bytes, lP, lS) at read in
+      rw (r .0, r .1 .0, r .1 .1 .0, r .1 .1 .1 .0, r .1 .1 .1 .1 .0, r .1 .1 .1 .1 .1 .0)
+      (rw (
+        number-bytes 1 (a .duration) d,
+        number-bytes 8 (a .needs) (f .needs .word),
+        number-bytes 8 (a .adds) (f .adds .word),
+        number-bytes 8 (a .deletes) (f .deletes .word),
         amounts-read (a .pools) (f .pools),
         amounts-read (a .stores) (f .stores),
-      )
+      ))
 
   actions-read : (actions : List Action) → Each (Shaped p s) actions → Each (PassedAction facts) actions
       → Each (λ a. a .duration < 256) actions → Each (λ a. actionOf p s (actionBytes a) ≡ a) actions
@@ -99,23 +74,18 @@ module _ (J : Job) (h : Shape J) (d : Each (λ a. a .duration < 256) (J .actions
       let S = amountBytes (J .stores) in
       let lP = length-amounts (J .pools) in
       let lS = length-amounts (J .stores) in
-      let b1 = toBytes 1 (J .facts) in
-      let b2 = b1 ++ toBytes 2 (J .deadline) in
-      let b3 = b2 ++ toBytes 8 (J .start) in
-      let t2 = toBytes 8 (J .goal) in
-      let t1 = toBytes 8 (J .start) ++ t2 in
-      let t0 = toBytes 2 (J .deadline) ++ t1 in
-      let l1 = length-bytes 1 (J .facts) in
-      let l2 : length b2 ≡ 3 = simp (length-append, length-bytes) in
-      let l3 : length b3 ≡ 11 = simp (length-append, length-bytes) in
+      let fields = toBytes 1 (J .facts) ∷ toBytes 2 (J .deadline) ∷ toBytes 8 (J .start) ∷ toBytes 8 (J .goal) ∷ [] in
+      let read = fields-read (headBytes J) [] 0 fields (simp (append-assoc, append-nil)) refl in
+      let r = simp length-bytes at read in
       let few = f .facts in
       let soon = f .deadline in
-      rw (
-        number-read (headBytes J) [] t0 0 1 (J .facts) (simp append-assoc) refl (omega arith),
-        number-read (headBytes J) b1 t1 1 2 (J .deadline) (simp append-assoc) l1 (omega arith),
-        number-read (headBytes J) b2 t2 3 8 (J .start) (simp append-assoc) l2 (f .start .word),
-        number-read (headBytes J) b3 [] 11 8 (J .goal) (simp append-nil) l3 (f .goal .word),
+      rw (r .0, r .1 .0, r .1 .1 .0, r .1 .1 .1 .0)
+      (rw (
+        number-bytes 1 (J .facts) (omega arith),
+        number-bytes 2 (J .deadline) (omega arith),
+        number-bytes 8 (J .start) (f .start .word),
+        number-bytes 8 (J .goal) (f .goal .word),
         amounts-read (J .pools) (f .pools),
         amounts-read (J .stores) (f .stores),
         all-actions-read (length P / 4) (length S / 4) (omega arith) (omega arith),
-      )
+      ))

@@ -1,7 +1,7 @@
--- The shape of the job that four bodies say.
+-- The shape of the job that four bodies say, and the value of the job in a file.
 -- Assumes nothing.
 use Prim.Native.Nat.{ℕ, _+_, _*_, _/_}
-use mathlib.Core.Path.{_≡_}
+use mathlib.Core.Path.{_≡_, ap, _∙_}
 use mathlib.Core.List.{List}
 use native.Mathlib.Omega.{arith}
 use lib.ListN.{length}
@@ -9,10 +9,12 @@ use Rattle.lists.proofs.Tabulate.{length-tabulate, each-tabulate}
 use Rattle.encoding.specs.Bytes.{part}
 use Rattle.encoding.proofs.Parts.{length-part}
 use Rattle.encoding.proofs.Pieces.{piece-within}
-use Rattle.job.proofs.Values.{Shaped, Shape}
-use Rattle.jobfile.specs.File.{actionSize, actionOf, jobOf}
+use Rattle.job.specs.Job.{jobIn, jobValue}
+use Rattle.job.specs.declared.Job as held
+use Rattle.job.proofs.Values.{Shaped, Shape, value-holds-job}
+use Rattle.jobfile.specs.File.{body, actionSize, actionOf, jobOf, decoded}
 
-pub action-of-shape : (p s : ℕ) (bytes : List ℕ) → length bytes ≡ actionSize p s → Shaped p s (actionOf p s bytes)
+action-of-shape : (p s : ℕ) (bytes : List ℕ) → length bytes ≡ actionSize p s → Shaped p s (actionOf p s bytes)
 unfolding actionOf
 action-of-shape p s bytes e =
     let a = length-part bytes 25 (4 * p) (omega arith) in
@@ -20,7 +22,7 @@ action-of-shape p s bytes e =
     record { pools = simp length-tabulate (omega arith); stores = simp length-tabulate (omega arith) }
 
 module _ (head pools stores actions : List ℕ) where
-  pub job-of-shape : Shape (jobOf head pools stores actions)
+  job-of-shape : Shape (jobOf head pools stores actions)
   unfolding jobOf
   job-of-shape =
       let p = length pools / 4 in
@@ -31,3 +33,8 @@ module _ (head pools stores actions : List ℕ) where
       (λ i h.
       action-of-shape p s (part actions (i * n) n)
       (length-part actions (i * n) n (piece-within (length actions) n i h))))
+
+pub value-holds-decoded : (file : List ℕ) (j : held.Job) → j ≡ jobValue (decoded file) → jobIn j ≡ decoded file
+value-holds-decoded file j e =
+    ap jobIn e
+    ∙ value-holds-job (decoded file) (job-of-shape (body file 0) (body file 1) (body file 2) (body file 3))

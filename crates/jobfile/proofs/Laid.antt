@@ -1,41 +1,27 @@
--- What tests 2 and 3 say of a file: the lengths of its bodies, and the counts of the job in it.
+-- What tests 2 and 3 say of a file: its bodies stand in a row, and have lengths that a job gives.
 -- Assumes nothing.
-use Prim.Native.Nat.{ℕ, _+_, _/_, _%_, _≤_}
-use mathlib.Core.Path.{_≡_, ap, _∙_}
-use mathlib.Core.Bool.{Bool, true, false, not, _&&_, _||_}
-use mathlib.Core.List.{List}
-use native.Mathlib.Omega.{arith}
+use Prim.Native.Nat.{ℕ, _/_, _%_, _≤_}
+use mathlib.Core.Path.{_≡_}
+use mathlib.Core.Bool.{Bool, true, false, not, _||_}
+use mathlib.Core.List.{List, [], _∷_}
 use lib.Dec.{eqb}
-use lib.ListN.{length}
+use lib.ListN.{length, getD}
 use borrow.Author.Tests.{eqb-true, eq-eqb, ltb-false, le-ltb, not-false}
-use Rattle.lists.proofs.Bools.{and-left, and-right, or-left, or-right}
-use Rattle.encoding.proofs.Parts.{length-part}
-use Rattle.job.specs.Job.{jobIn, jobValue}
-use Rattle.job.specs.declared.Job as held
+use Rattle.lists.proofs.Bools.{or-left, or-right}
 use Rattle.job.specs.Valid.{over}
-use Rattle.job.proofs.Values.{Shape, value-holds-job}
-use Rattle.jobfile.specs.File.{offset, size, body, layoutIn, actionSize, decoded, gapless, missized}
-use Rattle.jobfile.proofs.DecodeLaws.{job-of-shape}
+use Rattle.jobfile.specs.declared.Layout.{Layout}
+use Rattle.jobfile.specs.File.{layoutIn, actionSize, gapless, missized}
+use Rattle.jobfile.proofs.Bodies.{InRow, bodiesIn, in-row-when-gapless}
 
--- the bodies stand in a row up to the file's end, and have lengths that a job gives
-pub record Laid (file : List ℕ) : Type 0 where
-  pub offset0 : offset file 0 ≡ 16
-  pub offset1 : offset file 1 ≡ 16 + size file 0
-  pub offset2 : offset file 2 ≡ 16 + size file 0 + size file 1
-  pub offset3 : offset file 3 ≡ 16 + size file 0 + size file 1 + size file 2
-  pub end : 16 + size file 0 + size file 1 + size file 2 + size file 3 ≡ length file
-  pub head : size file 0 ≡ 19
-  pub wholePools : size file 1 % 4 ≡ 0
-  pub fewPools : size file 1 ≤ 16
-  pub wholeStores : size file 2 % 4 ≡ 0
-  pub fewStores : size file 2 ≤ 16
-  pub wholeActions : size file 3 % actionSize (size file 1 / 4) (size file 2 / 4) ≡ 0
-  pub fewActions : size file 3 / actionSize (size file 1 / 4) (size file 2 / 4) ≤ 64
-
--- ── one test of a row ──
-
-next : (m n : ℕ) (b : Bool) → (eqb m n && b) ≡ true → (m ≡ n) × (b ≡ true)
-next m n b h = (eqb-true m n (and-left (eqb m n) b h), and-right (eqb m n) b h)
+-- the lengths of the bodies are those that a job gives
+pub record Sized (l : Layout) : Type 0 where
+  pub head : l .head ≡ 19
+  pub wholePools : l .pools % 4 ≡ 0
+  pub fewPools : l .pools ≤ 16
+  pub wholeStores : l .stores % 4 ≡ 0
+  pub fewStores : l .stores ≤ 16
+  pub wholeActions : l .actions % actionSize (l .pools / 4) (l .stores / 4) ≡ 0
+  pub fewActions : l .actions / actionSize (l .pools / 4) (l .stores / 4) ≤ 64
 
 last-equal : (b : Bool) (m n : ℕ) → (b || not (eqb m n)) ≡ false → (b ≡ false) × (m ≡ n)
 last-equal b m n h =
@@ -45,76 +31,63 @@ last-within : (b : Bool) (limit n : ℕ) → (b || over limit n) ≡ false → (
 last-within b limit n h =
     (or-left b (over limit n) h, ltb-false limit n (or-right b (over limit n) h))
 
-pub laid : (file : List ℕ) → gapless file 16 0 4 ≡ true → missized (layoutIn file) ≡ false → Laid file
-unfolding gapless missized
-laid file g m =
-    let one = actionSize (size file 1 / 4) (size file 2 / 4) in
-    let g0 = next (offset file 0) 16 _ g in
-    let g1 = next (offset file 1) (16 + size file 0) _ (g0 .1) in
-    let g2 = next (offset file 2) (16 + size file 0 + size file 1) _ (g1 .1) in
-    let g3 = next (offset file 3) (16 + size file 0 + size file 1 + size file 2) _ (g2 .1) in
-    let m6 = last-within _ 64 (size file 3 / one) m in
-    let m5 = last-equal _ (size file 3 % one) 0 (m6 .0) in
-    let m4 = last-within _ 16 (size file 2) (m5 .0) in
-    let m3 = last-equal _ (size file 2 % 4) 0 (m4 .0) in
-    let m2 = last-within _ 16 (size file 1) (m3 .0) in
-    let m1 = last-equal _ (size file 1 % 4) 0 (m2 .0) in
+module _ (l : Layout) where
+  abbrev one : ℕ
+  one = actionSize (l .pools / 4) (l .stores / 4)
+
+  pub sized : missized l ≡ false → Sized l
+  unfolding missized
+  sized m =
+      let m6 = last-within _ 64 (l .actions / one) m in
+      let m5 = last-equal _ (l .actions % one) 0 (m6 .0) in
+      let m4 = last-within _ 16 (l .stores) (m5 .0) in
+      let m3 = last-equal _ (l .stores % 4) 0 (m4 .0) in
+      let m2 = last-within _ 16 (l .pools) (m3 .0) in
+      let m1 = last-equal _ (l .pools % 4) 0 (m2 .0) in
+      record {
+        head = eqb-true (l .head) 19 (not-false _ (m1 .0));
+        wholePools = m1 .1;
+        fewPools = m2 .1;
+        wholeStores = m3 .1;
+        fewStores = m4 .1;
+        wholeActions = m5 .1;
+        fewActions = m6 .1;
+      }
+
+  pub not-missized : Sized l → missized l ≡ false
+  unfolding missized
+  not-missized s =
+      rw (
+        eq-eqb (l .head) 19 (s .head),
+        eq-eqb (l .pools % 4) 0 (s .wholePools),
+        le-ltb 16 (l .pools) (s .fewPools),
+        eq-eqb (l .stores % 4) 0 (s .wholeStores),
+        le-ltb 16 (l .stores) (s .fewStores),
+        eq-eqb (l .actions % one) 0 (s .wholeActions),
+      ) (le-ltb 64 (l .actions / one) (s .fewActions))
+
+-- ── of bodies in a row ──
+
+abbrev pub layoutOf : List (List ℕ) → Layout
+layoutOf bs =
     record {
-      offset0 = g0 .0;
-      offset1 = g1 .0;
-      offset2 = g2 .0;
-      offset3 = g3 .0;
-      end = eqb-true _ _ (g3 .1);
-      head = eqb-true (size file 0) 19 (not-false _ (m1 .0));
-      wholePools = m1 .1;
-      fewPools = m2 .1;
-      wholeStores = m3 .1;
-      fewStores = m4 .1;
-      wholeActions = m5 .1;
-      fewActions = m6 .1;
+      head = length (getD bs 0 []);
+      pools = length (getD bs 1 []);
+      stores = length (getD bs 2 []);
+      actions = length (getD bs 3 []);
     }
 
-module _ (file : List ℕ) (l : Laid file) where
-  -- ── and back ──
+pub layout-in-row : (file head pools stores actions : List ℕ) (at : ℕ)
+    → InRow file at 0 (head ∷ pools ∷ stores ∷ actions ∷ [])
+    → layoutIn file ≡ layoutOf (head ∷ pools ∷ stores ∷ actions ∷ [])
+layout-in-row file head pools stores actions at r =
+    rw (r .0 .extent, r .1 .0 .extent, r .1 .1 .0 .extent, r .1 .1 .1 .0 .extent)
 
-  pub laid-gapless : gapless file 16 0 4 ≡ true
-  unfolding gapless
-  laid-gapless =
-      rw (
-        eq-eqb (offset file 0) 16 (l .offset0),
-        eq-eqb (offset file 1) _ (l .offset1),
-        eq-eqb (offset file 2) _ (l .offset2),
-        eq-eqb (offset file 3) _ (l .offset3),
-      ) (eq-eqb _ (length file) (l .end))
+pub record Laid (file : List ℕ) : Type 0 where
+  pub row : InRow file 16 0 (bodiesIn file 0 4)
+  pub sizes : Sized (layoutOf (bodiesIn file 0 4))
 
-  pub laid-sized : missized (layoutIn file) ≡ false
-  unfolding missized
-  laid-sized =
-      rw (
-        eq-eqb (size file 0) 19 (l .head),
-        eq-eqb (size file 1 % 4) 0 (l .wholePools),
-        le-ltb 16 (size file 1) (l .fewPools),
-        eq-eqb (size file 2 % 4) 0 (l .wholeStores),
-        le-ltb 16 (size file 2) (l .fewStores),
-        eq-eqb (size file 3 % actionSize (size file 1 / 4) (size file 2 / 4)) 0 (l .wholeActions),
-      ) (le-ltb 64 (size file 3 / actionSize (size file 1 / 4) (size file 2 / 4)) (l .fewActions))
-
-  -- ── the bodies ──
-
-  pub length-body0 : length (body file 0) ≡ size file 0
-  length-body0 = length-part file (offset file 0) (size file 0) (omega arith)
-
-  pub length-body1 : length (body file 1) ≡ size file 1
-  length-body1 = length-part file (offset file 1) (size file 1) (omega arith)
-
-  pub length-body2 : length (body file 2) ≡ size file 2
-  length-body2 = length-part file (offset file 2) (size file 2) (omega arith)
-
-  pub length-body3 : length (body file 3) ≡ size file 3
-  length-body3 = length-part file (offset file 3) (size file 3) (omega arith)
-
-pub decoded-shape : (file : List ℕ) → Shape (decoded file)
-decoded-shape file = job-of-shape (body file 0) (body file 1) (body file 2) (body file 3)
-
-pub value-holds-decoded : (file : List ℕ) (j : held.Job) → j ≡ jobValue (decoded file) → jobIn j ≡ decoded file
-value-holds-decoded file j e = ap jobIn e ∙ value-holds-job (decoded file) (decoded-shape file)
+pub laid : (file : List ℕ) → gapless file 16 0 4 ≡ true → missized (layoutIn file) ≡ false → Laid file
+laid file g m =
+    let row = in-row-when-gapless file 16 0 4 g in
+    record { row = row; sizes = sized _ (rw (layout-in-row file _ _ _ _ 16 row) at m) }

@@ -1,5 +1,6 @@
 pub mod Lengths
-pub mod Contents
+pub mod Fields
+pub mod Bodies
 pub mod Writes
 pub mod DecodeLaws
 pub mod Laid

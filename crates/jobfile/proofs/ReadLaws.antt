@@ -22,8 +22,8 @@ use Rattle.jobfile.specs.declared.Reading.{Reading}
 use Rattle.jobfile.specs.File.{size, body, offset, layoutIn, actionSize, jobOf, decoded}
 use Rattle.jobfile.specs.File.{gapless, missized, fileRows}
 use Rattle.jobfile.specs.Answers.{readRows, readingOf, readFile}
-use Rattle.jobfile.proofs.Laid.{Laid, laid, length-body0, length-body1, length-body2, length-body3}
-use Rattle.jobfile.proofs.Laid.{value-holds-decoded}
+use Rattle.jobfile.proofs.Laid.{Laid, laid}
+use Rattle.jobfile.proofs.DecodeLaws.{value-holds-decoded}
 
 -- the answer to a file that is refused
 abbrev pub refusedWith : Refusal → Reading
@@ -94,21 +94,21 @@ part-is-body file at n k e f = rw (e, f)
 
 module _ (file : List ℕ) (l : Laid file) (a b c : ℕ) (ea : a ≡ 16 + size file 0) (eb : b ≡ a + size file 1)
     (ec : c ≡ b + size file 2) where
-  slice0 : part file 16 (a - 16) ≡ body file 0
-  slice0 = part-is-body file 16 (a - 16) 0 (omega arith) (omega arith)
-
-  slice1 : part file a (b - a) ≡ body file 1
-  slice1 = part-is-body file a (b - a) 1 (omega arith) (omega arith)
-
-  slice2 : part file b (c - b) ≡ body file 2
-  slice2 = part-is-body file b (c - b) 2 (omega arith) (omega arith)
-
-  slice3 : part file c (length file - c) ≡ body file 3
-  slice3 = part-is-body file c (length file - c) 3 (omega arith) (omega arith)
+  slices-are-bodies : (part file 16 (a - 16) ≡ body file 0)
+      × (part file a (b - a) ≡ body file 1)
+      × (part file b (c - b) ≡ body file 2)
+      × (part file c (length file - c) ≡ body file 3)
+  slices-are-bodies =
+      let row = l .row in (
+        part-is-body file 16 (a - 16) 0 (omega arith) (omega arith),
+        part-is-body file a (b - a) 1 (omega arith) (omega arith),
+        part-is-body file b (c - b) 2 (omega arith) (omega arith),
+        part-is-body file c (length file - c) 3 (omega arith) (omega arith),
+      )
 
   pub decoded-by-slices : jobOf (part file 16 (a - 16)) (part file a (b - a)) (part file b (c - b))
       (part file c (length file - c)) ≡ decoded file
-  decoded-by-slices = rw (slice0, slice1, slice2, slice3)
+  decoded-by-slices = let s = slices-are-bodies in rw (s .0, s .1, s .2, s .3)
 
   -- what decoding them requires
   pub slices-fit : (length (part file 16 (a - 16)) ≡ 19)
@@ -117,6 +117,6 @@ module _ (file : List ℕ) (l : Laid file) (a b c : ℕ) (ea : a ≡ 16 + size f
       × (length (part file c (length file - c))
       / actionSize (length (part file a (b - a)) / 4) (length (part file b (c - b)) / 4) ≤ 64)
   slices-fit =
-      rw (slice0, slice1, slice2, slice3)
-      (rw (length-body0 file l, length-body1 file l, length-body2 file l, length-body3 file l)
-      (l .head, l .fewPools, l .fewStores, l .fewActions))
+      let s = slices-are-bodies in
+      let z = l .sizes in
+      rw (s .0, s .1, s .2, s .3) (z .head, z .fewPools, z .fewStores, z .fewActions)

@@ -23,7 +23,7 @@ use Rattle.jobfile.specs.declared.Written.the-variants as written
 use Rattle.jobfile.specs.File.{fileOf, decoded}
 use Rattle.jobfile.specs.Answers.{readRows, readingOf, readFile, writeRows, writtenOf, writeFile, leftOf}
 use Rattle.jobfile.specs.Answers.{leftByWrite}
-use Rattle.jobfile.proofs.Laid.{value-holds-decoded}
+use Rattle.jobfile.proofs.DecodeLaws.{value-holds-decoded}
 use Rattle.jobfile.proofs.ReadLaws.{passes-laid}
 use Rattle.jobfile.proofs.ReadWrite.{read-write}
 use Rattle.jobfile.proofs.WriteRead.{write-read}

@@ -42,9 +42,12 @@ abbrev pub contents : ℕ → List (List ℕ) → List ℕ
 contents at [] = []
 contents at (body ∷ rest) = at ∷ length body ∷ contents (at + length body) rest
 
--- "Contents come first. The bodies follow in the same order without gaps: the first offset is 16."
+-- "Contents come first. The bodies follow in the same order without gaps: the first offset is 16": 4 for each body
+abbrev pub fileOfBodies : List (List ℕ) → List ℕ
+fileOfBodies bs = joined (toBytes 2) (contents (4 * length bs) bs) ++ joined (λ body. body) bs
+
 unfoldable pub fileOf : Job → List ℕ
-fileOf J = joined (toBytes 2) (contents 16 (bodies J)) ++ joined (λ body. body) (bodies J)
+fileOf J = fileOfBodies (bodies J)
 
 -- ── the job in bytes ──
 

@@ -51,4 +51,4 @@ placed file l g e m =
     let h = ap (λ (l : Layout). l .head) e in
     let p = ap (λ (l : Layout). l .pools) e in
     let s = ap (λ (l : Layout). l .stores) e in
-    record { right = k; head = h; pools = p; stores = s; inside = omega (arith, k .end) }
+    record { right = k; head = h; pools = p; stores = s; inside = omega (arith, k .row) }

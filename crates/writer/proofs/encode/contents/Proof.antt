@@ -11,7 +11,7 @@ use Rattle.encoding.proofs.Numbers.{length-bytes}
 use Rattle.encoding.proofs.Overwrite.{length-pieces, pieces-none, pieces-more}
 use Rattle.job.specs.Job.{jobIn, actionAt}
 use Rattle.jobfile.specs.File.{actionBytes}
-use Rattle.jobfile.proofs.Contents.{contentsOf, contents-of}
+use Rattle.jobfile.proofs.Writes.{contentsOf, contents-of}
 use Rattle.writer.proofs.ActionLaws.{length-action-at, few-action-bytes}
 use native.Mathlib.Omega.{arith}
 use Rattle.writer.proofs.encode.contents.Statement.{statement}
