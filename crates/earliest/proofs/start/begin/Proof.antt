@@ -14,25 +14,19 @@ use Rattle.earliest.proofs.start.begin.Statement.{statement}
 use Rattle.earliest.proofs.start.begin.Tie as tie
 
 abbrev Inv-loop : tie.InvT-loop
-Inv-loop table₀ facts start pairs count entry₀ table entry = (entry ≤ count) × StartTimes start entry table
+Inv-loop table₀ facts start count entry₀ table entry = (entry ≤ count) × StartTimes start entry table
 
 abbrev μ-loop : tie.MeasureT-loop
-μ-loop table₀ facts start pairs count entry₀ table entry = count - entry
-
-all-requires : tie.Need-all-requires Inv-loop μ-loop
-all-requires c κs = search needs
+μ-loop table₀ facts start count entry₀ table entry = count - entry
 
 count-requires : tie.Need-count-requires Inv-loop μ-loop
 count-requires c κs = search needs
 
 loop-holds : tie.Need-loop-holds Inv-loop μ-loop
-loop-holds c = (omega arith, start-at-first _ _ (c .before .before .before .pre .0))
-
-slice-aggregate-both-in : tie.Need-slice-aggregate-both-in Inv-loop μ-loop
-slice-aggregate-both-in c = search needs
+loop-holds c = (omega arith, start-at-first _ _ (c .before .before .pre .0))
 
 both-in-requires : tie.Need-both-in-requires Inv-loop μ-loop
-both-in-requires c κs = (c .before .before .before .before .all .ensures, omega arith)
+both-in-requires c κs = omega arith
 
 mul-table : tie.Need-mul-table Inv-loop μ-loop
 mul-table c = omega arith
@@ -48,8 +42,8 @@ loop-less c = omega arith
 
 loop-again : tie.Need-loop-again Inv-loop μ-loop
 loop-again c =
-    let start = c .before .before .before .before .before .before .before .before .args .start in
-    let c-loop = c .before .before .before .before .loop in
+    let start = c .before .before .before .before .before .before .args .start in
+    let c-loop = c .before .before .before .loop in
     let entry = c-loop .entry in
     let before = c-loop .inv .1 in
     let test = c .before .both-in .ensures in (
@@ -62,13 +56,13 @@ loop-again c =
 
 same-length : tie.Need-same-length Inv-loop μ-loop
 same-length c =
-    let h = c .before .before .before .before .before .pre in
+    let h = c .before .before .before .before .pre in
     c .before .loop .inv .1 .whole ∙ sym (ap length (h .0) ∙ length-replicate 2080 none)
 
 returns : tie.Need-returns Inv-loop μ-loop
 returns c =
     let c-loop = c .before .loop in
-    let all : c-loop .entry ≡ entryOf 0 (c .before .before .before .before .before .args .facts) = omega arith in
+    let all : c-loop .entry ≡ entryOf 0 (c .before .before .before .before .args .facts) = omega arith in
     rw all at (c-loop .inv .1)
 
 pub begin-spec : {M : Type 1} → statement M
@@ -77,10 +71,8 @@ begin-spec =
     (tie.spec
     Inv-loop
     μ-loop
-    all-requires
     count-requires
     loop-holds
-    slice-aggregate-both-in
     both-in-requires
     mul-table
     slice-write-table

@@ -1,4 +1,4 @@
--- `both_in` meets its contract: the table of pairs has the facts of the entry.
+-- `both_in` meets its contract: the facts of the entry are both asked for.
 -- Assumes nothing.
 use mathlib.Core.Path.{ap₂}
 use mathlib.Core.Bool.{Bool, _&&_}
