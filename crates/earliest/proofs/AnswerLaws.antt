@@ -7,7 +7,7 @@ use mathlib.Core.List.{List, [], _∷_}
 use lib.Dec.{ltb}
 use Rattle.facts.specs.FactSet.{foreign}
 use Rattle.job.specs.Job.{Job}
-use Rattle.job.specs.Refusal.{Row, first, _when_}
+use Rattle.job.specs.Refusal.{Row, first, _when_, returned}
 use Rattle.job.specs.Valid.{jobRows}
 use Rattle.job.specs.declared.refusal.Refusal.{Refusal}
 use Rattle.job.specs.declared.refusal.Refusal.the-variants.{ForeignAskedFact}
@@ -15,17 +15,21 @@ use Rattle.job.specs.declared.refusal.Verdict.{Verdict}
 use Rattle.job.specs.declared.refusal.Verdict.the-variants.{Pass, Refused}
 use Rattle.job.proofs.Passed.{passed}
 use Rattle.job.proofs.Table.{first-here, first-next, first-none, first-append-pass, first-append-refused}
-use Rattle.times.specs.Time.{at, unreachable}
+use Rattle.times.specs.Time.{Time, at, unreachable}
 use Rattle.times.specs.Earliest.{timeOf}
 use Rattle.times.specs.Numbers.{tableIn}
 use Rattle.times.proofs.Monotone.{durations-of-passed}
 use Rattle.times.proofs.Unique.{one-solution-of-sets}
 use Rattle.earliest.specs.declared.EarliestTime.{EarliestTime}
 use Rattle.earliest.specs.declared.EarliestTime.the-variants as answer
-use Rattle.earliest.specs.Answer.{earliestRows, answerOf, AnswersBy, Answers}
+use Rattle.earliest.specs.Answer.{earliestRows, answerOf, timeReply, AnswersBy, Answers}
 use Rattle.earliest.specs.Numbers.{setNumber, SameTime}
 use Rattle.earliest.specs.Sweep.{Filled}
 use Rattle.earliest.proofs.SetTimes.{time-of-set, same-time}
+
+reply-of-time : (t : Time) → timeReply (answerOf t) ≡ returned t
+reply-of-time (at x) = refl
+reply-of-time unreachable = refl
 
 module _ (J : Job) (set : ℕ) where
   abbrev last : List Row
@@ -37,14 +41,14 @@ module _ (J : Job) (set : ℕ) where
 
   pub answers-refused-job : (why : Refusal) → first (jobRows J) ≡ Refused why → Answers J set (answer.Refused why)
   answers-refused-job why e =
-      answers-by (Refused why) (first-append-refused (jobRows J) last why e) (answer.Refused why) refl
+      answers-by (Refused why) (first-append-refused (jobRows J) last why e) (answer.Refused why) (refl, refl)
 
   pub answers-foreign : first (jobRows J) ≡ Pass → foreign (J .facts) set ≡ true
       → Answers J set (answer.Refused ForeignAskedFact)
   answers-foreign e f =
       answers-by (Refused ForeignAskedFact)
       (first-append-pass (jobRows J) last e ∙ first-here ForeignAskedFact (foreign (J .facts) set) [] f)
-      (answer.Refused ForeignAskedFact) refl
+      (answer.Refused ForeignAskedFact) (refl, refl)
 
   pub answers-time : first (jobRows J) ≡ Pass → foreign (J .facts) set ≡ false → (xs : List ℕ) → Filled J xs
       → (n : ℕ) → SameTime n (setNumber xs set (J .facts)) → (r : EarliestTime)
@@ -59,5 +63,7 @@ module _ (J : Job) (set : ℕ) where
       answers-by Pass pass r (
         (tableIn xs, filled .solves),
         λ T solves.
-            h ∙ ap answerOf (sym time ∙ one-solution-of-sets J positive (tableIn xs) T (filled .solves) solves set),
+            let told : r ≡ answerOf (timeOf J T set) =
+            h ∙ ap answerOf (sym time ∙ one-solution-of-sets J positive (tableIn xs) T (filled .solves) solves set) in
+            (told, rw told (reply-of-time (timeOf J T set))),
       )

@@ -1,7 +1,7 @@
 -- What reading a file answers: one law for each way out of the reader, and the job in the slices that it takes.
 -- Assumes nothing.
 use Prim.Native.Nat.{ℕ, _+_, _-_, _/_, _≤_}
-use mathlib.Core.Path.{_≡_, ap, sym, _∙_}
+use mathlib.Core.Path.{_≡_, refl, ap, sym, _∙_}
 use mathlib.Core.Bool.{Bool, true, false, not, _||_}
 use mathlib.Core.List.{List}
 use native.Mathlib.Omega.{arith}
@@ -10,7 +10,7 @@ use lib.ListN.{length}
 use borrow.Author.Tests.{le-ltb, not-false}
 use Rattle.encoding.specs.Bytes.{part}
 use Rattle.job.specs.Job.{Job, jobIn, jobValue, zeroValue}
-use Rattle.job.specs.Refusal.{first}
+use Rattle.job.specs.Refusal.{first, replyBy}
 use Rattle.job.specs.Valid.{over, jobRows}
 use Rattle.job.specs.declared.Job as held
 use Rattle.job.specs.declared.refusal.Refusal.{Refusal}
@@ -21,7 +21,7 @@ use Rattle.job.proofs.Table.{first-here, first-next, first-pass}
 use Rattle.jobfile.specs.declared.Reading.{Reading}
 use Rattle.jobfile.specs.File.{size, body, offset, layoutIn, actionSize, jobOf, decoded}
 use Rattle.jobfile.specs.File.{gapless, missized, fileRows}
-use Rattle.jobfile.specs.Answers.{readRows, readingOf, readFile}
+use Rattle.jobfile.specs.Answers.{readRows, readingOf, readFile, readReply, Reads}
 use Rattle.jobfile.proofs.Laid.{Laid, laid}
 use Rattle.jobfile.proofs.DecodeLaws.{value-holds-decoded}
 
@@ -120,3 +120,13 @@ module _ (file : List ℕ) (l : Laid file) (a b c : ℕ) (ea : a ≡ 16 + size f
       let s = slices-are-bodies in
       let z = l .sizes in
       rw (s .0, s .1, s .2, s .3) (z .head, z .fewPools, z .fewStores, z .fewActions)
+
+-- what is answered makes the papers' reply
+pub reads-of-answer : (file : List ℕ) (r : Reading) → r ≡ readFile file → Reads file r
+unfolding readFile
+reads-of-answer file r e =
+    record { answers = e; replies = rw e (reply-of-reading (first (readRows file)) (decoded file)) }
+  where
+    reply-of-reading : (v : Verdict) (J : Job) → readReply (readingOf v J) ≡ replyBy v (jobValue J)
+    reply-of-reading Pass J = refl
+    reply-of-reading (Refused why) J = refl

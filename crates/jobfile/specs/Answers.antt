@@ -1,12 +1,14 @@
 -- What reading and writing answer, and what they leave in a lent slice.
 -- Assumes nothing.
 use Prim.Native.Nat.{ℕ}
+use mathlib.Core.Path.{_≡_}
 use mathlib.Core.List.{List, [], _∷_, _++_}
 use lib.Dec.{ltb}
 use lib.ListN.{length}
 use Rattle.encoding.specs.Bytes.{overwrite}
+use Rattle.job.specs.declared.Job as held
 use Rattle.job.specs.Job.{Job, jobValue, zeroValue}
-use Rattle.job.specs.Refusal.{Row, _when_, first}
+use Rattle.job.specs.Refusal.{Row, _when_, number, first, Reply, refused, returned, replyBy}
 use Rattle.job.specs.Valid.{jobRows}
 use Rattle.job.specs.declared.refusal.Refusal.the-variants.{FileSlice}
 use Rattle.job.specs.declared.refusal.Verdict.{Verdict}
@@ -30,6 +32,15 @@ readingOf (Refused why) J = record { verdict = Refused why; job = zeroValue }
 unfoldable pub readFile : List ℕ → Reading
 readFile file = readingOf (first (readRows file)) (decoded file)
 
+-- the papers' reply: the number of the refusal, or the job
+abbrev pub readReply : Reading → Reply held.Job
+readReply r = replyBy (r .verdict) (r .job)
+
+-- what reading promises of a file
+pub record Reads (file : List ℕ) (r : Reading) : Type 0 where
+  pub answers : r ≡ readFile file
+  pub replies : readReply r ≡ replyBy (first (readRows file)) (jobValue (decoded file))
+
 -- ── writing ──
 
 -- tests 3 to 11 of the job; then "slice shorter than the file"
@@ -43,6 +54,11 @@ writtenOf (Refused why) J = written.Refused why
 
 unfoldable pub writeFile : Job → List ℕ → Written
 writeFile J slice = writtenOf (first (writeRows J slice)) J
+
+-- the papers' reply: the number of the refusal, or the file's length
+abbrev pub writtenReply : Written → Reply ℕ
+writtenReply (written.Length n) = returned n
+writtenReply (written.Refused why) = refused (number why)
 
 -- "and writes only so much"; "no slice changes" after a refusal
 abbrev pub leftOf : Verdict → Job → List ℕ → List ℕ

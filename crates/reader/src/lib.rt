@@ -10,7 +10,7 @@ ghost use lib.ListN.{length};
 ghost use Rattle.encoding.specs.Bytes.{fromBytes, part};
 ghost use Rattle.job.specs.Job.{jobValue, zeroValue};
 ghost use Rattle.jobfile.specs.File.{gapless, layoutIn, missized, Small, decoded};
-ghost use Rattle.jobfile.specs.Answers.{readFile};
+ghost use Rattle.jobfile.specs.Answers.{Reads};
 use job::Job;
 use job::refusal::Refusal;
 use job::refusal::Verdict;
@@ -86,7 +86,7 @@ fn refused(why: Refusal) -> Reading
 
 // The job in a file, or the first refusal of 1 to 11 with a job of zeros.
 pub fn read(file: &[u8]) -> Reading
-    ensures { λ r. ⌜ r ≡ readFile (now (file .entry)) ⌝ }
+    ensures { λ r. ⌜ Reads (now (file .entry)) r ⌝ }
 {
     let length = file.len();
     if (length < Layout::CONTENTS) | (Layout::FILE < length) {

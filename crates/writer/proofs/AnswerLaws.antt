@@ -1,7 +1,7 @@
 -- What writing answers and leaves, for each way out of the writer.
 -- Assumes nothing.
 use Prim.Native.Nat.{ℕ, _≤_, _<_}
-use mathlib.Core.Path.{_≡_, _∙_}
+use mathlib.Core.Path.{_≡_, refl, _∙_}
 use mathlib.Core.List.{List, []}
 use lib.ListN.{length}
 use borrow.Author.Tests.{lt-ltb, le-ltb}
@@ -11,18 +11,22 @@ use Rattle.job.specs.declared.refusal.Refusal.the-variants.{FileSlice}
 use Rattle.job.specs.declared.refusal.Verdict.{Verdict}
 use Rattle.job.specs.declared.refusal.Verdict.the-variants.{Pass, Refused}
 use Rattle.job.specs.Job.{Job}
-use Rattle.job.specs.Refusal.{first}
+use Rattle.job.specs.Refusal.{first, replyBy}
 use Rattle.job.specs.Valid.{jobRows}
 use Rattle.job.proofs.Table.{first-here, first-next, first-append-pass, first-append-refused}
 use Rattle.jobfile.specs.declared.Written.the-variants as written
 use Rattle.jobfile.specs.File.{fileOf}
 use Rattle.writer.specs.Wrote.{Wrote}
-use Rattle.jobfile.specs.Answers.{writeRows, writtenOf, writeFile, leftOf, leftByWrite}
+use Rattle.jobfile.specs.Answers.{writeRows, writtenOf, writtenReply, writeFile, leftOf, leftByWrite}
 
 module _ (J : Job) (slice : List ℕ) where
   by-verdict : (v : Verdict) → first (writeRows J slice) ≡ v → Wrote J slice (writtenOf v J) (leftOf v J slice)
   unfolding writeFile leftByWrite
-  by-verdict v e = record { answers = rw e; leaves = rw e }
+  by-verdict v e = record { answers = rw e; replies = rw e (reply-of v); leaves = rw e }
+    where
+      reply-of : (w : Verdict) → writtenReply (writtenOf w J) ≡ replyBy w (length (fileOf J))
+      reply-of Pass = refl
+      reply-of (Refused why) = refl
 
   pub wrote-refused : (why : Refusal) → first (jobRows J) ≡ Refused why → Wrote J slice (written.Refused why) slice
   unfolding writeRows

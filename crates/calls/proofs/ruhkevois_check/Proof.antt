@@ -19,8 +19,8 @@ returns : tie.Need-returns
 returns c =
     let c-read = c .before .before .before .before .read in
     let c-verdict = c .before .before .verdict in (
-      c .refused .ensures ∙ file-refused _ _ (c-read .ensures) _ (c-verdict .given .1) _,
-      peaks-kept _ _ (c-read .ensures) _ (c-verdict .given .1) _ _,
+      c .refused .ensures ∙ file-refused _ _ (c-read .ensures .answers) _ (c-verdict .given .1) _,
+      peaks-kept _ _ (c-read .ensures .answers) _ (c-verdict .given .1) _ _,
     )
 
 enum-told : tie.Need-enum-told
@@ -41,8 +41,8 @@ returns-2 c =
     let c-enum-told = c .before .before .before .before .enum-told in
     let c-check = c .before .before .before .check in (
       c .day-told .ensures
-          ∙ check-accepted _ _ (c-read .ensures) (c-enum-told .given .1) _ _ (c-check .ensures .answers),
-      peaks-told _ _ (c-read .ensures) (c-enum-told .given .1) _ _ _ _ (c-check .ensures .answers) (c .before .put-peaks .ensures),
+          ∙ check-accepted _ _ (c-read .ensures .answers) (c-enum-told .given .1) _ _ (c-check .ensures .answers),
+      peaks-told _ _ (c-read .ensures .answers) (c-enum-told .given .1) _ _ _ _ (c-check .ensures .answers) (c .before .put-peaks .ensures),
     )
 
 pub ruhkevois-check-spec : {M : Type 1} → statement M

@@ -17,7 +17,7 @@ refused-requires c κs = search needs
 returns : tie.Need-returns
 returns c =
     let c-read = c .before .before .before .before .read in
-    earliest-refused _ _ (c-read .ensures) _ (c .before .before .verdict .given .1) _ _ (c .refused .ensures)
+    earliest-refused _ _ (c-read .ensures .answers) _ (c .before .before .verdict .given .1) _ _ (c .refused .ensures)
 
 enum-told : tie.Need-enum-told
 enum-told c = search needs
@@ -31,7 +31,7 @@ told-requires c κs = search needs
 returns-2 : tie.Need-returns-2
 returns-2 c =
     let c-read = c .before .before .before .before .read in
-    earliest-accepted _ _ (c-read .ensures) (c .before .before .enum-told .given .1) _ _ _
+    earliest-accepted _ _ (c-read .ensures .answers) (c .before .before .enum-told .given .1) _ _ _
     (c .before .earliest .ensures) (c .told .ensures)
 
 pub ruhkevois-earliest-spec : {M : Type 1} → statement M

@@ -20,7 +20,7 @@ refused-requires c κs = search needs
 returns : tie.Need-returns
 returns c =
     let c-read = c .before .before .before .before .read in
-    plan-refused _ _ (c-read .ensures) _ (c .before .before .verdict .given .1) _ _ _ (c .refused .ensures)
+    plan-refused _ _ (c-read .ensures .answers) _ (c .before .before .verdict .given .1) _ _ _ (c .refused .ensures)
 
 enum-told : tie.Need-enum-told
 enum-told c = search needs
@@ -52,7 +52,7 @@ returns-2 c =
     let c-read = at8 .before .before .read in
     let c-enum-told = c .before .before .before .before .before .before .before .before .enum-told in
     let c-plan = c .before .before .before .before .before .before .plan in
-    plan-accepted _ _ (c-read .ensures) (c-enum-told .given .1) _ _ _ _ _ _ (c-plan .ensures) (c .day-told .ensures)
+    plan-accepted _ _ (c-read .ensures .answers) (c-enum-told .given .1) _ _ _ _ _ _ (c-plan .ensures) (c .day-told .ensures)
     (c .before .before .put-peaks .ensures)
 
 pub ruhkevois-plan-spec : {M : Type 1} → statement M

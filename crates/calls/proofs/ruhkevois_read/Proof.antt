@@ -21,14 +21,14 @@ refused-requires c κs = search needs
 returns : tie.Need-returns
 returns c =
     let c-read = c .before .before .before .before .read in
-    c .refused .ensures ∙ file-refused _ _ (c-read .ensures) _ (c .before .before .verdict .given .1) _
+    c .refused .ensures ∙ file-refused _ _ (c-read .ensures .answers) _ (c .before .before .verdict .given .1) _
 
 enum-told : tie.Need-enum-told
 enum-told c = search needs
 
 cast-pack : tie.Need-cast-pack
 cast-pack c =
-    let passed = verdict-of-file _ _ (c .before .before .read .ensures) Pass (c .enum-told .given .1) in
+    let passed = verdict-of-file _ _ (c .before .before .read .ensures .answers) Pass (c .enum-told .given .1) in
     let short = accepted-file-is-short _ passed in
     record { fits = omega arith }
 
@@ -37,7 +37,7 @@ pack-requires c κs = search needs
 
 returns-2 : tie.Need-returns-2
 returns-2 c =
-    c .pack .ensures ∙ read-accepted _ _ (c .before .before .before .read .ensures) (c .before .enum-told .given .1)
+    c .pack .ensures ∙ read-accepted _ _ (c .before .before .before .read .ensures .answers) (c .before .enum-told .given .1)
 
 pub ruhkevois-read-spec : {M : Type 1} → statement M
 ruhkevois-read-spec =

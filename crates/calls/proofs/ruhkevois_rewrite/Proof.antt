@@ -19,7 +19,7 @@ refused-requires c κs = search needs
 returns : tie.Need-returns
 returns c =
     let c-read = c .before .before .before .before .read in
-    let read = c-read .ensures in
+    let read = c-read .ensures .answers in
     let why = c .before .before .verdict .given .1 in
     (c .refused .ensures ∙ file-refused _ _ read _ why _, slice-kept _ _ read _ why _ _)
 
@@ -45,7 +45,7 @@ returns-2 c =
     let c-read = c .before .before .before .before .before .before .before .read in
     let c-enum-told = c .before .before .before .before .before .enum-told in
     let c-write = c .before .before .before .write in
-    let read = c-read .ensures in
+    let read = c-read .ensures .answers in
     let pass = c-enum-told .given .1 in
     let wrote = c-write .ensures in (
       c .written .ensures ∙ rewrite-accepted _ _ read pass _ _ (wrote .answers),

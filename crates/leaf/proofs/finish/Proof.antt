@@ -21,7 +21,7 @@ returns : tie.Need-returns
 returns c =
     let c-args = c .before .before .before .before .before .args in
     let c-read = c .before .before .before .read in
-    finishes-unread _ (c-args .frame) (c-args .steps) _ _ _ (c-read .ensures) (c .before .enum-told2 .given .1)
+    finishes-unread _ (c-args .frame) (c-args .steps) _ _ _ (c-read .ensures .answers) (c .before .enum-told2 .given .1)
 
 resumed-requires : tie.Need-resumed-requires
 resumed-requires c κs = search needs
@@ -38,7 +38,7 @@ returns-2 c =
     let c-pre = c .before .before .before .before .before .before .before .before .pre in
     let c-read = c .before .before .before .before .before .before .read in
     let c-in-order = c .before .in-order in
-    finishes-read _ (c-args .frame) (c-args .steps) _ _ _ (c-read .ensures) _ (c .before .before .resumed .ensures)
+    finishes-read _ (c-args .frame) (c-args .steps) _ _ _ (c-read .ensures .answers) _ (c .before .before .resumed .ensures)
     (c-pre)
     (c-in-order .ensures .0) (c-in-order .ensures .1) (c .as-plan .ensures)
 

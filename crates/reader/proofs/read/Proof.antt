@@ -4,6 +4,7 @@ use mathlib.Core.Path.{sym, _∙_}
 use borrow.Author.Tests.{not-true, not-false}
 use Rattle.jobfile.proofs.ReadLaws.{read-wrong-size, read-offsets, read-body-sizes, read-refused, read-passed}
 use Rattle.reader.proofs.ContentsLaws.{has-contents}
+use Rattle.jobfile.proofs.ReadLaws.{reads-of-answer}
 use borrow.Author.Needs.{needs}
 use Rattle.reader.proofs.read.Statement.{statement}
 use Rattle.reader.proofs.read.Tie as tie
@@ -13,7 +14,7 @@ refused-requires c κs = search needs
 
 returns : tie.Need-returns
 returns c =
-    c .refused .ensures ∙ sym (read-wrong-size (c .before .before .before .args .file .now) (c .before .if1 .taken))
+    reads-of-answer _ _ (c .refused .ensures ∙ sym (read-wrong-size (c .before .before .before .args .file .now) (c .before .if1 .taken)))
 
 gapless-requires : tie.Need-gapless-requires
 gapless-requires c κs = has-contents (c .before .before .args .file .now) (c .if1 .left)
@@ -25,9 +26,9 @@ returns-2 : tie.Need-returns-2
 returns-2 c =
     let c-args = c .before .before .before .before .before .args in
     let c-if1 = c .before .before .before .if1 in
-    c .refused2 .ensures
+    reads-of-answer _ _ (c .refused2 .ensures
     ∙ sym (read-offsets (c-args .file .now) (c-if1 .left)
-    (sym (c .before .before .gapless .ensures) ∙ not-true _ (c .before .if2 .taken)))
+    (sym (c .before .before .gapless .ensures) ∙ not-true _ (c .before .if2 .taken))))
 
 layout-requires : tie.Need-layout-requires
 layout-requires c κs =
@@ -49,7 +50,7 @@ returns-3 c =
     let c-layout = c .before .before .before .layout in
     let t2 = sym (c-gapless .ensures) ∙ not-false _ (c-if2 .left) in
     let t3 = rw (c-layout .ensures .0) at (sym (c .before .before .missized .ensures) ∙ c .before .if3 .taken) in
-    c .refused3 .ensures ∙ sym (read-body-sizes (c-args .file .now) (c-if1 .left) t2 t3)
+    reads-of-answer _ _ (c .refused3 .ensures ∙ sym (read-body-sizes (c-args .file .now) (c-if1 .left) t2 t3))
 
 job-in-requires : tie.Need-job-in-requires
 job-in-requires c κs =
@@ -86,8 +87,8 @@ returns-4 c =
     let t3 = rw (c-layout .ensures .0) at (sym (c-missized .ensures) ∙ c-if3 .left) in
     let v = sym (c-validate .ensures) ∙ c-verdict .given .1 in
     let j = c-job-in .result in
-    c .refused4 .ensures
-    ∙ sym (read-refused (c-args .file .now) (c-if1 .left) t2 t3 j (c-job-in .ensures) (c-verdict .given .0 .0) v)
+    reads-of-answer _ _ (c .refused4 .ensures
+    ∙ sym (read-refused (c-args .file .now) (c-if1 .left) t2 t3 j (c-job-in .ensures) (c-verdict .given .0 .0) v))
 
 enum-told : tie.Need-enum-told
 enum-told c = search needs
@@ -107,7 +108,7 @@ returns-5 c =
     let t3 = rw (c-layout .ensures .0) at (sym (c-missized .ensures) ∙ c-if3 .left) in
     let v = sym (c .before .before .validate .ensures) ∙ c .enum-told .given .1 in
     let j = c-job-in .result in
-    rw (c .enum-told .given .1) (sym (read-passed (c-args .file .now) (c-if1 .left) t2 t3 j (c-job-in .ensures) v))
+    reads-of-answer _ _ (rw (c .enum-told .given .1) (sym (read-passed (c-args .file .now) (c-if1 .left) t2 t3 j (c-job-in .ensures) v)))
 
 pub read-spec : {M : Type 1} → statement M
 read-spec =
