@@ -1,7 +1,7 @@
-mod Loops
+pub mod Loops
 mod PlanBytes
 mod ShareLaws
 mod WatchLaws
 mod ChainLaws
-mod StepLaws
+pub mod StepLaws
 mod PlanLaws
