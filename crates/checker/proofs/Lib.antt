@@ -1,8 +1,8 @@
-mod Loops
+pub mod Loops
 mod PlanBytes
 mod ShareLaws
 mod WatchLaws
 mod ChainLaws
-mod StepLaws
+pub mod StepLaws
 mod PlanLaws
 mod PeakLaws

@@ -14,7 +14,7 @@ use Rattle.timeline.specs.Accepted.{unknown}
 use Rattle.timeline.proofs.Places.{EachStep, each-here, each-rest, none-of-any}
 use Rattle.timeline.proofs.JobSteps.{lasting-of-known, steps-in-bytes}
 
-each-of-steps : (F : Step → Type 0) (P : List Step) → EachStep F P → Each F P
+pub each-of-steps : (F : Step → Type 0) (P : List Step) → EachStep F P → Each F P
 each-of-steps F [] h = tt
 each-of-steps F (x ∷ P) h = (each-here F x P h, each-of-steps F P (each-rest F x P h))
 

@@ -35,6 +35,7 @@ number why.PlanSlice = 21
 number why.NoPlan = 22
 number why.FileSlice = 23
 number why.ForeignAskedFact = 24
+number why.RateOver = 25
 
 -- a row of the table: the refusal, and whether it holds
 pub data Row : Type 0 where

@@ -1,4 +1,4 @@
-// The refusals in the order of document 01's table, by name; `number` gives the number that is shown.
+// The refusals by name, in the order of document 01's table, then those of document 02; `number` gives their numbers.
 ghost use mathlib.Core.Path.{_≡_};
 ghost use Rattle.job.specs.Refusal.{number};
 
@@ -35,6 +35,8 @@ pub enum Refusal {
     FileSlice,
     // the earliest time
     ForeignAskedFact,
+    // the price
+    RateOver,
 }
 
 // What a test of a whole table answers: the first refusal that holds, or none.
@@ -72,5 +74,6 @@ pub fn number(refusal: Refusal) -> u8
         Refusal::NoPlan => 22,
         Refusal::FileSlice => 23,
         Refusal::ForeignAskedFact => 24,
+        Refusal::RateOver => 25,
     }
 }

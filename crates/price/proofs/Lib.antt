@@ -1,0 +1,4 @@
+mod ChargeLaws
+mod SmallCharges
+mod PriceLaws
+pub mod Meaning
