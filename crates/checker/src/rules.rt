@@ -4,7 +4,7 @@ ghost use mathlib.Core.Bool.{not};
 ghost use mathlib.Core.List.{[], _∷_};
 ghost use Prim.Native.Nat.{max, _≤_, _<_};
 ghost use lib.ListN.{length};
-ghost use Rattle.lists.specs.Lists.{any, tabulate};
+ghost use Rattle.lists.specs.Lists.{any, tabulate, anyBelow};
 ghost use Rattle.job.specs.Job.{jobIn, Fits};
 ghost use Rattle.job.specs.declared.Counts.{Counts};
 ghost use Rattle.job.specs.Refusal.{_when_, first};
@@ -13,7 +13,7 @@ ghost use Rattle.job.specs.declared.refusal.Refusal.the-variants.{StepOrder, Af
 ghost use Rattle.job.specs.declared.refusal.Refusal.the-variants.{StoreExceeded};
 ghost use Rattle.timeline.specs.Step.{before, strictlyRising, anyPair};
 ghost use Rattle.timeline.specs.Timeline.{end};
-ghost use Rattle.timeline.specs.Accepted.{anyBelow, clashing, exceedsStore};
+ghost use Rattle.timeline.specs.Accepted.{clashing, exceedsStore};
 ghost use Rattle.timeline.specs.Value.{stepOfValue, stepAt, stepsOf};
 ghost use Rattle.checker.specs.Leaf.{UsedUp};
 use job::Counts;

@@ -8,6 +8,7 @@ use mathlib.Core.List.{List, [], _∷_, _++_, append-assoc}
 use native.Mathlib.Omega.{arith}
 use lib.ListN.{length, getD}
 use borrow.Author.Tests.{not-true, ltb-false, ne-eqb}
+use Rattle.lists.proofs.Below.{below-none}
 use Rattle.facts.specs.FactSet.{has, difference, Subset}
 use Rattle.facts.proofs.SetLaws.{in-union-cases}
 use Rattle.job.specs.Job.{Job}
@@ -16,7 +17,6 @@ use Rattle.timeline.specs.From.{From, IsNew}
 use Rattle.timeline.specs.Timeline.{held}
 use Rattle.timeline.proofs.Tests.{not-both, or-neither, le-or-lt}
 use Rattle.timeline.proofs.Places.{Place, EachStep, split-place, place-append, each-cons, length-place, total-zero}
-use Rattle.timeline.proofs.Places.{below-none}
 use Rattle.timeline.proofs.NewSteps.{new-from-minute, new-both-from-minute}
 use Rattle.times.specs.Earliest.{actionOf}
 use Rattle.times.proofs.PlanSteps.{PlanOf, Paired, own-action, own-stop, needs-at}

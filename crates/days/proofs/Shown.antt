@@ -9,7 +9,7 @@ use Rattle.encoding.specs.Bytes.{fromBytes, toBytes}
 use Rattle.job.specs.Resources.{handover, storeAmount, storeCap}
 use Rattle.job.specs.Job.{Job}
 use Rattle.job.specs.Refusal.{first}
-use Rattle.job.specs.Valid.{actionRows, jobRows}
+use Rattle.job.specs.Valid.{actionRows, limitRows, usesBeyond, jobRows}
 use Rattle.timeline.specs.Step.{stepsIn}
 use Rattle.timeline.specs.Timeline.{free, peak}
 use Rattle.timeline.specs.Accepted.{stepRows, planRows}
@@ -43,7 +43,7 @@ _and_ : {A B : Type 0} → A → B → A × B
 x and y = (x, y)
 
 pub days-hold : Each Holds days
-unfolding tabulate any has union difference subset meets foreign fromBytes toBytes first actionRows jobRows stepsIn free
+unfolding tabulate any has union difference subset meets foreign fromBytes toBytes first actionRows limitRows usesBeyond jobRows stepsIn free
     handover storeAmount storeCap peak stepRows planRows checkRows checkPlan rightSide makespanFrom
 days-hold =
     -- 1, 2, 3

@@ -6,14 +6,14 @@ use mathlib.Core.Bool.{Bool, true, false, not, _||_, and-false}
 use mathlib.Core.List.{List}
 use native.Mathlib.Omega.{arith}
 use lib.ListN.{length, getD, getD-replicate}
+use Rattle.lists.specs.Lists.{anyBelow}
+use Rattle.lists.proofs.Below.{below-same}
 use Rattle.lists.proofs.Tabulate.{length-tabulate, getD-tabulate}
 use Rattle.job.specs.declared.Action as value
 use Rattle.job.specs.declared.Counts.{Counts}
 use Rattle.job.specs.Job.{Job, actionIn, unusedAction}
 use Rattle.job.specs.Valid.{over}
 use Rattle.timeline.specs.Timeline.{hinders}
-use Rattle.timeline.specs.Accepted.{anyBelow}
-use Rattle.timeline.proofs.Below.{below-same}
 use Rattle.times.specs.Earliest.{actionOf, fitsAlone, fitTogether}
 use Rattle.earliest.specs.Sweep.{fitsAloneIn, fitTogetherIn, HasPools, isLonger, mayJoin}
 

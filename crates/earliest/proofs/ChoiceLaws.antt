@@ -8,6 +8,7 @@ use mathlib.Core.List.{List}
 use native.Mathlib.Omega.{arith}
 use lib.ListN.{length, getD}
 use borrow.Author.Tests.{not-true, ltb-false, le-ltb}
+use Rattle.lists.proofs.Below.{below-none, none-below}
 use Rattle.lists.proofs.Bools.{and-left, and-right, or-left, or-right}
 use Rattle.facts.specs.FactSet.{has, union, difference, single}
 use Rattle.facts.proofs.Membership.{has-union}
@@ -15,7 +16,6 @@ use Rattle.facts.proofs.SetLaws.{in-difference-parts}
 use Rattle.job.specs.Job.{Action, Job}
 use Rattle.job.specs.Valid.{over}
 use Rattle.timeline.specs.Timeline.{hinders}
-use Rattle.timeline.proofs.Places.{below-none, none-below}
 use Rattle.times.specs.Earliest.{timeOf, actionOf, fitsAlone, fitTogether}
 use Rattle.times.specs.Numbers.{none, tableIn}
 use Rattle.times.proofs.Times.{By}

@@ -8,12 +8,12 @@ use native.Mathlib.Omega.{arith}
 use lib.Dec.{eqb, ltb}
 use lib.ListN.{length, getD}
 use borrow.Author.Tests.{ltb-true, lt-ltb, eqb-true, eq-eqb}
+use Rattle.lists.proofs.Below.{below-same}
 use Rattle.lists.proofs.Bools.{and-left, and-right}
 use Rattle.facts.specs.FactSet.{union}
 use Rattle.facts.proofs.SetLaws.{in-union-right, union-comm}
 use Rattle.job.specs.Job.{Action, Job}
 use Rattle.job.specs.Valid.{over}
-use Rattle.timeline.proofs.Below.{below-same}
 use Rattle.timeline.proofs.Tests.{or-cases, le-or-lt}
 use Rattle.times.specs.Earliest.{Table, actionOf, fitTogether}
 use Rattle.times.proofs.Times.{timeOf-part}

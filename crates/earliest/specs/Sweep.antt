@@ -6,7 +6,7 @@ use mathlib.Core.Bool.{Bool, true, false, not, _&&_, _||_}
 use mathlib.Core.List.{List}
 use lib.Dec.{eqb, ltb}
 use lib.ListN.{length, getD}
-use Rattle.lists.specs.Lists.{firsts}
+use Rattle.lists.specs.Lists.{firsts, anyBelow}
 use Rattle.facts.specs.FactSet.{has, union, difference, single}
 use Rattle.job.specs.declared.Action as value
 use Rattle.job.specs.declared.Job as held
@@ -14,7 +14,6 @@ use Rattle.job.specs.declared.Counts.{Counts}
 use Rattle.job.specs.Job.{Action, Job, actionIn, jobIn}
 use Rattle.job.specs.Valid.{over}
 use Rattle.timeline.specs.Timeline.{hinders}
-use Rattle.timeline.specs.Accepted.{anyBelow}
 use Rattle.times.specs.Earliest.{actionOf, fitsAlone, fitTogether, Solves}
 use Rattle.times.specs.Numbers.{tableIn}
 use Rattle.earliest.specs.Numbers.{setNumber, afterNumber}

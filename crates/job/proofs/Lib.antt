@@ -7,3 +7,4 @@ mod Answers
 mod Agree
 mod SameParts
 pub mod ResourceLaws
+mod BeyondLaws

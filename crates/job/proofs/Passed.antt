@@ -18,9 +18,9 @@ use Rattle.job.specs.declared.validate.ActionRule.the-variants.{Duration
 use Rattle.job.specs.declared.refusal.Verdict.the-variants.{Pass}
 use Rattle.job.specs.Job.{Action, Job, jobValue}
 use Rattle.job.specs.Refusal.{first}
-use Rattle.job.specs.Valid.{over, breaks, actionRows, jobRows}
+use Rattle.job.specs.Valid.{over, breaks, actionRows, limitRows, jobRows}
 use Rattle.job.proofs.Table.{first-pass}
-use Rattle.job.proofs.Rows.{fits-of-counts}
+use Rattle.job.proofs.Rows.{fits-of-counts, limits-of-pass}
 
 -- an amount of a pool or a store, available or used
 abbrev pub Amounts : List ℕ → Type 0
@@ -103,9 +103,9 @@ rules broken d f e u Facts = f
 rules broken d f e u Effects = e
 rules broken d f e u Uses = u
 
-pub passed : (J : Job) → first (jobRows J) ≡ Pass → Passed J
-unfolding jobRows actionRows
-passed J h =
+within-limits : (J : Job) → first (limitRows J) ≡ Pass → Passed J
+unfolding limitRows actionRows
+within-limits J h =
     let t3 = first-pass _ _ _ h in
     let t4 = first-pass _ _ _ (t3 .1) in
     let t5 = first-pass _ _ _ (t4 .1) in
@@ -134,3 +134,6 @@ passed J h =
       actions = passed-actions (J .facts) few (J .actions)
           (λ rule. any-none (breaks rule (J .facts)) (J .actions) (kept rule));
     }
+
+pub passed : (J : Job) → first (jobRows J) ≡ Pass → Passed J
+passed J h = within-limits J (limits-of-pass J h)

@@ -13,11 +13,11 @@ use Rattle.job.specs.declared.Job as held
 use Rattle.job.specs.declared.refusal.Refusal.the-variants.{BodySizes, FactCount, Deadline, ForeignFact}
 use Rattle.job.specs.declared.refusal.Refusal.the-variants.{Availability}
 use Rattle.job.specs.declared.Counts.{Counts}
-use Rattle.job.specs.Job.{jobIn, Fits}
+use Rattle.job.specs.Job.{Job, jobIn, Fits}
 use Rattle.job.specs.declared.refusal.Verdict.the-variants.{Pass}
 use Rattle.job.specs.Refusal.{Row, _when_, first}
-use Rattle.job.proofs.Table.{first-pass}
-use Rattle.job.specs.Valid.{over, actionRows, jobRows}
+use Rattle.job.proofs.Table.{first-pass, pass-of-append}
+use Rattle.job.specs.Valid.{over, actionRows, limitRows, jobRows}
 
 abbrev pub valueRows : held.Job → List Row
 valueRows j =
@@ -28,8 +28,8 @@ valueRows j =
     ∷ Availability when (any (over 1000000) (jobIn j .pools) || any (over 1000000) (jobIn j .stores))
     ∷ actionRows (jobIn j)
 
-pub rows-of-value : (j : held.Job) → jobRows (jobIn j) ≡ valueRows j
-unfolding jobRows
+pub rows-of-value : (j : held.Job) → limitRows (jobIn j) ≡ valueRows j
+unfolding limitRows
 rows-of-value j = simp (length-tabulate, any-append)
 
 -- what test 3 says of the counts
@@ -41,5 +41,13 @@ fits-of-counts n h =
       ltb-false 64 (n .actions) (or-right (over 4 (n .pools) || over 4 (n .stores)) (over 64 (n .actions)) h),
     )
 
+pub fits-of-limits : (j : held.Job) → first (limitRows (jobIn j)) ≡ Pass → Fits (j .counts)
+fits-of-limits j h = fits-of-counts (j .counts) (first-pass BodySizes _ _ (sym (ap first (rows-of-value j)) ∙ h) .0)
+
+-- a job that passes all its tests is within its limits
+pub limits-of-pass : (J : Job) → first (jobRows J) ≡ Pass → first (limitRows J) ≡ Pass
+unfolding jobRows
+limits-of-pass J h = pass-of-append (limitRows J) _ h .0
+
 pub fits-of-pass : (j : held.Job) → first (jobRows (jobIn j)) ≡ Pass → Fits (j .counts)
-fits-of-pass j h = fits-of-counts (j .counts) (first-pass BodySizes _ _ (sym (ap first (rows-of-value j)) ∙ h) .0)
+fits-of-pass j h = fits-of-limits j (limits-of-pass (jobIn j) h)

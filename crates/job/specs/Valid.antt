@@ -1,18 +1,19 @@
--- Tests 3 to 11 of a job, in the order of the table.
+-- Tests 3 to 11 and 26 of a job, in the order of the table.
 -- Assumes nothing.
 use Prim.Native.Nat.{ℕ}
 use mathlib.Core.Bool.{Bool, _||_}
 use mathlib.Core.List.{List, [], _∷_, _++_}
 use lib.Dec.{eqb, ltb}
-use lib.ListN.{length}
-use Rattle.lists.specs.Lists.{any}
+use lib.ListN.{length, getD}
+use Rattle.lists.specs.Lists.{any, anyBelow}
 use Rattle.facts.specs.FactSet.{meets, foreign}
 use Rattle.job.specs.declared.refusal.Refusal.the-variants.{BodySizes, FactCount, Deadline, ForeignFact}
 use Rattle.job.specs.declared.refusal.Refusal.the-variants.{Availability, ZeroDuration, ForeignActionFact}
-use Rattle.job.specs.declared.refusal.Refusal.the-variants.{AddedAndDeleted, ActionUse}
+use Rattle.job.specs.declared.refusal.Refusal.the-variants.{AddedAndDeleted, ActionUse, UseBeyond}
 use Rattle.job.specs.declared.validate.ActionRule.{ActionRule}
 use Rattle.job.specs.declared.validate.ActionRule.the-variants.{Duration, Facts, Effects, Uses}
 use Rattle.job.specs.Job.{Action, Job}
+use Rattle.job.specs.Resources.{storeAmount, storeCap}
 use Rattle.job.specs.Refusal.{Row, _when_}
 
 -- x is over the limit
@@ -35,13 +36,23 @@ actionRows J =
     ∷ ActionUse when any (breaks Uses (J .facts)) (J .actions)
     ∷ []
 
--- "3: over four pools, four stores or 64 actions"; "over 64 facts"; "deadline over 1,440"; "start or goal bit at or
--- above the number of facts"; "availability over 1,000,000"; then the actions
-unfoldable pub jobRows : Job → List Row
-jobRows J =
+-- the limits, tests 3 to 11: "3: over four pools, four stores or 64 actions"; "over 64 facts"; "deadline over 1,440";
+-- "start or goal bit at or above the number of facts"; "availability over 1,000,000"; then the actions
+unfoldable pub limitRows : Job → List Row
+limitRows J =
     BodySizes when (over 4 (length (J .pools)) || over 4 (length (J .stores)) || over 64 (length (J .actions)))
     ∷ FactCount when over 64 (J .facts)
     ∷ Deadline when over 1440 (J .deadline)
     ∷ ForeignFact when (foreign (J .facts) (J .start) || foreign (J .facts) (J .goal))
     ∷ Availability when any (over 1000000) (J .pools ++ J .stores)
     ∷ actionRows J
+
+-- "an action uses more of a pool or store than is available"
+unfoldable pub usesBeyond : Job → Action → Bool
+usesBeyond J a =
+    anyBelow (length (J .pools)) (λ pool. over (getD (J .pools) pool 0) (getD (a .pools) pool 0))
+    || anyBelow (length (J .stores)) (λ store. over (storeCap J store) (storeAmount J store a))
+
+-- then 26, "after 11 and before 12": it refuses, and no law rests on it
+unfoldable pub jobRows : Job → List Row
+jobRows J = limitRows J ++ (UseBeyond when any (usesBeyond J) (J .actions) ∷ [])

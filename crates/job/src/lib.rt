@@ -1,6 +1,7 @@
 // The job of a day by value: its actions, its resources and its sets of facts, with every limit once.
 pub mod refusal; // the table of refusals
-pub mod validate; // tests 3 to 11 of a job value
+pub mod validate; // tests 3 to 11 and 26 of a job value
+mod beyond; // test 26
 pub mod same; // whether two values hold the same job
 pub mod resources; // what an action takes of the stores
 pub mod resumed; // the job of what is left of a day

@@ -37,6 +37,8 @@ pub enum Refusal {
     ForeignAskedFact,
     // the price
     RateOver,
+    // its actions, after all else
+    UseBeyond,
 }
 
 // What a test of a whole table answers: the first refusal that holds, or none.
@@ -75,5 +77,6 @@ pub fn number(refusal: Refusal) -> u8
         Refusal::FileSlice => 23,
         Refusal::ForeignAskedFact => 24,
         Refusal::RateOver => 25,
+        Refusal::UseBeyond => 26,
     }
 }

@@ -1,13 +1,14 @@
-// Tests 3 to 11 of a job value, in the order of the table over the whole job.
+// Tests 3 to 11 and 26 of a job value, in the order of the table over the whole job.
 ghost use mathlib.Core.Path.{_≡_};
 ghost use Prim.Native.Nat.{_≤_};
 ghost use Rattle.lists.specs.Lists.{firsts, any};
 ghost use Rattle.job.specs.Job.{actionIn, jobIn, Fits};
 ghost use Rattle.job.specs.Refusal.{first};
-ghost use Rattle.job.specs.Valid.{over, breaks, actionRows, jobRows};
+ghost use Rattle.job.specs.Valid.{over, breaks, actionRows, limitRows, jobRows};
 use crate::Action;
 use crate::Counts;
 use crate::Job;
+use crate::beyond;
 use crate::refusal::Refusal;
 use crate::refusal::Verdict;
 
@@ -93,9 +94,9 @@ fn validate_actions(job: Job) -> Verdict
     Verdict::Pass
 }
 
-// The first of tests 3 to 11 that the job fails. Every call that is handed a job value begins with it.
-pub fn validate(job: Job) -> Verdict
-    ensures { λ r. ⌜ r ≡ first (jobRows (jobIn job)) ⌝ }
+// The first of tests 3 to 11 that the job fails.
+fn validate_limits(job: Job) -> Verdict
+    ensures { λ r. ⌜ r ≡ first (limitRows (jobIn job)) ⌝ }
 {
     let counts = job.counts;
     let pools = job.pools;
@@ -121,4 +122,18 @@ pub fn validate(job: Job) -> Verdict
         return Verdict::Refused(Refusal::Availability);
     }
     validate_actions(job)
+}
+
+// The first of tests 3 to 11 and 26 that the job fails. Every call that is handed a job value begins with it.
+pub fn validate(job: Job) -> Verdict
+    ensures { λ r. ⌜ r ≡ first (jobRows (jobIn job)) ⌝ }
+{
+    let verdict = validate_limits(job);
+    if let Verdict::Refused(why) = verdict {
+        return Verdict::Refused(why);
+    }
+    if beyond::any_beyond(job) {
+        return Verdict::Refused(Refusal::UseBeyond);
+    }
+    Verdict::Pass
 }

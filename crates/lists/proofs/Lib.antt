@@ -2,3 +2,4 @@ pub mod Bools
 pub mod Tabulate
 pub mod Any
 pub mod Inside
+pub mod Below

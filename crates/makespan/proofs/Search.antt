@@ -10,6 +10,7 @@ use lib.Dec.{leb, ltb}
 use lib.ListN.{length, length-append}
 use lib.Seq.{append-snoc}
 use borrow.Author.Tests.{le-leb, leb-true, le-ltb, lt-ltb, ltb-true, ltb-false}
+use Rattle.lists.proofs.Below.{below-some, below-found}
 use Rattle.lists.proofs.Bools.{and-left, and-right}
 use Rattle.job.specs.Job.{Job}
 use Rattle.job.specs.Refusal.{first}
@@ -22,8 +23,7 @@ use Rattle.timeline.specs.Accepted.{Accepted, clashing, stepRows}
 use Rattle.timeline.proofs.Tests.{not-both, and-both, or-neither}
 use Rattle.timeline.proofs.Places.{here, there, EachStep, each-step, each-cons, each-rest, any-of-none}
 use Rattle.timeline.proofs.Places.{append-cases}
-use Rattle.timeline.proofs.Places.{place-append, place-after, pair-none, below-some, largest-at-least, largest-at-most}
-use Rattle.timeline.proofs.Below.{below-found}
+use Rattle.timeline.proofs.Places.{place-append, place-after, pair-none, largest-at-least, largest-at-most}
 use Rattle.timeline.proofs.Clashes.{clashing-sym}
 use Rattle.timeline.proofs.AcceptedSteps.{accepted-steps}
 use Rattle.timeline.proofs.Keeps.{Lasting}

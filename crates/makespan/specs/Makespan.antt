@@ -6,14 +6,14 @@ use mathlib.Core.Bool.{Bool, true, false, cond, not, _&&_, _||_}
 use mathlib.Core.List.{List, [], _∷_, _++_}
 use lib.Dec.{leb, ltb}
 use lib.ListN.{length}
-use Rattle.lists.specs.Lists.{any}
+use Rattle.lists.specs.Lists.{any, anyBelow}
 use Rattle.job.specs.Job.{Job}
 use Rattle.job.specs.Refusal.{first}
 use Rattle.job.specs.declared.refusal.Verdict.{Verdict}
 use Rattle.job.specs.declared.refusal.Verdict.the-variants.{Pass, Refused}
 use Rattle.timeline.specs.Step.{Step, stepOf, stepsIn, before}
 use Rattle.timeline.specs.Timeline.{end}
-use Rattle.timeline.specs.Accepted.{Accepted, anyBelow, clashing, stepRows}
+use Rattle.timeline.specs.Accepted.{Accepted, clashing, stepRows}
 
 -- the least end of the accepted plans; or there is none
 pub data Makespan : Type 0 where

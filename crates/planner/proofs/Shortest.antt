@@ -13,7 +13,7 @@ use Rattle.job.specs.declared.refusal.Verdict.{Verdict}
 use Rattle.job.specs.declared.refusal.Verdict.the-variants.{Pass, Refused}
 use Rattle.job.specs.Job.{Job}
 use Rattle.job.specs.Refusal.{Row, _when_, number, first}
-use Rattle.job.specs.Valid.{jobRows, actionRows}
+use Rattle.job.specs.Valid.{jobRows, limitRows, actionRows}
 use Rattle.job.proofs.Passed.{Passed, passed}
 use Rattle.job.proofs.Table.{pass-of-append}
 use Rattle.timeline.specs.declared.Day.{Day}
@@ -51,9 +51,9 @@ not-22 (why when true ∷ rows) others h =
 not-22 (why when false ∷ rows) others h = not-22 rows (others .1) h
 
 tests-before-22 : (J : Job) (slice : List ℕ) → Not22 (planRefusals J slice)
-unfolding jobRows actionRows
+unfolding jobRows limitRows actionRows
 tests-before-22 J slice =
-    (refl, (refl, (refl, (refl, (refl, (refl, (refl, (refl, (refl, (refl, tt))))))))))
+    (refl, (refl, (refl, (refl, (refl, (refl, (refl, (refl, (refl, (refl, (refl, tt)))))))))))
 
 module _ (J : Job) (slice : List ℕ) (answer : Day) (after : List ℕ) where
   -- the end told is the least one of all accepted plans; the slice has such a plan, of at most 32 steps

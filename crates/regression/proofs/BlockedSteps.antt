@@ -10,6 +10,7 @@ use native.Mathlib.Omega.{arith}
 use lib.Dec.{eqb}
 use lib.ListN.{length, getD}
 use borrow.Author.Tests.{eqb-true, eq-eqb, eqb-false, ne-eqb, ltb-false, le-ltb}
+use Rattle.lists.proofs.Below.{below-none, none-below, below-some, below-found}
 use Rattle.lists.specs.Lists.{any}
 use Rattle.lists.proofs.Bools.{and-left, or-left, or-right}
 use Rattle.job.specs.Resources.{handover}
@@ -18,8 +19,7 @@ use Rattle.timeline.specs.Step.{Step}
 use Rattle.timeline.specs.Timeline.{clash, free, hasShare, inUse}
 use Rattle.timeline.proofs.Tests.{decided, not-both, false-unless, and-other-false, or-cases, or-neither}
 use Rattle.timeline.proofs.Places.{Place, here, place-wider, none-of-any, any-of-none}
-use Rattle.timeline.proofs.Places.{below-none, none-below, below-some, total-mono}
-use Rattle.timeline.proofs.Below.{below-found}
+use Rattle.timeline.proofs.Places.{total-mono}
 use Rattle.timeline.proofs.Shares.{free-is, share-reads, share-when, useAt, use-of-share, use-without-share}
 use Rattle.timeline.proofs.Shares.{inUse-place}
 use Rattle.timeline.proofs.Keeps.{Keeps}

@@ -6,12 +6,12 @@ use mathlib.Core.Bool.{Bool, _||_}
 use mathlib.Core.List.{List}
 use lib.Dec.{eqb}
 use lib.ListN.{length, getD}
+use Rattle.lists.proofs.Below.{below-same}
 use Rattle.facts.specs.FactSet.{union, difference, meets}
 use Rattle.job.specs.Job.{Job}
 use Rattle.job.specs.Valid.{over}
 use Rattle.timeline.specs.Step.{Step}
 use Rattle.timeline.specs.Timeline.{ifStops, free}
-use Rattle.timeline.proofs.Below.{below-same}
 use Rattle.timeline.proofs.Shares.{useAt}
 use Rattle.timeline.proofs.Permutations.{Permutation, permutation-any, permutation-total, permutation-held}
 use Rattle.regression.specs.Wanted.{ifStarts, wanted}

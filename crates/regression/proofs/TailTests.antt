@@ -9,6 +9,7 @@ use native.Mathlib.Omega.{arith}
 use lib.Dec.{eqb, leb, ltb}
 use lib.ListN.{length, getD}
 use borrow.Author.Tests.{eqb-true, eqb-false, ltb-true, leb-true}
+use Rattle.lists.proofs.Below.{below-same}
 use Rattle.lists.specs.Lists.{any}
 use Rattle.lists.proofs.Bools.{and-left, and-right}
 use Rattle.facts.specs.FactSet.{has, difference, meets, Subset}
@@ -20,7 +21,6 @@ use Rattle.timeline.specs.Step.{Step, unionOf}
 use Rattle.timeline.specs.Timeline.{held, free}
 use Rattle.timeline.proofs.Tests.{decided, not-both, false-unless, or-cases}
 use Rattle.timeline.proofs.Places.{Place, place-after, split-place, any-at, find-any}
-use Rattle.timeline.proofs.Below.{below-same}
 use Rattle.timeline.proofs.HeldFacts.{held-comes-from}
 use Rattle.timeline.proofs.Clashes.{no-clash-of-test}
 use Rattle.timeline.proofs.Shares.{free-is}

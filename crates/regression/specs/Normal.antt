@@ -6,14 +6,13 @@ use mathlib.Core.Bool.{Bool, cond, not, _&&_, _||_}
 use mathlib.Core.List.{List}
 use lib.Dec.{eqb}
 use lib.ListN.{length, getD}
-use Rattle.lists.specs.Lists.{any}
+use Rattle.lists.specs.Lists.{any, anyBelow}
 use Rattle.facts.specs.FactSet.{difference, meets}
 use Rattle.job.specs.Resources.{handover}
 use Rattle.job.specs.Job.{Job}
 use Rattle.job.specs.Valid.{over}
 use Rattle.timeline.specs.Step.{Step, unionOf}
 use Rattle.timeline.specs.Timeline.{clash, held, free, inUse}
-use Rattle.timeline.specs.Accepted.{anyBelow}
 use Rattle.regression.specs.Wanted.{wantedAt}
 
 -- ── critical facts ──

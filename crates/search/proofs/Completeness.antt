@@ -8,6 +8,7 @@ use native.Mathlib.Omega.{arith}
 use lib.Dec.{eqb}
 use lib.ListN.{length}
 use borrow.Author.Tests.{eq-eqb, not-true, not-false}
+use Rattle.lists.proofs.Below.{below-none}
 use Rattle.lists.proofs.Bools.{or-left, or-right}
 use Rattle.facts.specs.FactSet.{has, single, difference}
 use Rattle.facts.proofs.Membership.{has-zero}
@@ -15,7 +16,6 @@ use Rattle.facts.proofs.SetLaws.{in-difference}
 use Rattle.job.specs.Job.{Job}
 use Rattle.timeline.specs.Step.{Step}
 use Rattle.timeline.proofs.Tests.{not-both, false-unless}
-use Rattle.timeline.proofs.Places.{below-none}
 use Rattle.times.proofs.Singles.{only-in-single}
 use Rattle.regression.specs.DeadEnd.{Until, Open}
 use Rattle.regression.proofs.Decisions.{alsoDecided, dead-choose, dead-decided}

@@ -11,13 +11,13 @@ use lib.Dec.{leb, ltb, leb·suc-suc}
 use lib.ListN.{length, getD, set, length-set, replicate, getD-replicate}
 use lib.Seq.{getD-set-same, getD-set-other}
 use borrow.Author.Tests.{lt-ltb, le-ltb}
+use Rattle.lists.proofs.Below.{below-more, below-found, below-same}
 use Rattle.job.specs.Job.{Job}
 use Rattle.job.specs.Valid.{over}
 use Rattle.timeline.specs.Step.{Step, stepOf}
 use Rattle.timeline.specs.Timeline.{hasShare}
 use Rattle.timeline.proofs.Shares.{free-at-stop}
 use Rattle.timeline.proofs.Tests.{or-neither}
-use Rattle.timeline.proofs.Below.{below-more, below-found, below-same}
 use Rattle.times.specs.Earliest.{actionOf}
 use Rattle.tables.specs.Tables.{DescribesAction, Describes, durationAt}
 use Rattle.tables.specs.declared.Frame.{Frame}

@@ -10,6 +10,7 @@ use native.Mathlib.Omega.{arith}
 use lib.Dec.{eqb, leb, ltb}
 use lib.ListN.{length, getD}
 use borrow.Author.Tests.{ltb-true, leb-true, lt-ltb, le-ltb, le-leb, eq-eqb, ne-eqb, eqb-true}
+use Rattle.lists.proofs.Below.{below-same, below-some}
 use Rattle.lists.proofs.Bools.{and-left, and-right}
 use Rattle.facts.specs.FactSet.{has, union, difference, meets, single}
 use Rattle.facts.proofs.Membership.{meets-some}
@@ -23,9 +24,8 @@ use Rattle.timeline.specs.Timeline.{free, inUse, usedUp, clash}
 use Rattle.timeline.specs.Accepted.{clashing}
 use Rattle.timeline.proofs.Shares.{free-at-stop}
 use Rattle.timeline.proofs.Tests.{and-both, decided, or-neither}
-use Rattle.timeline.proofs.Below.{below-same}
 use Rattle.job.specs.Valid.{over}
-use Rattle.timeline.proofs.Places.{Place, here, there, EachStep, any-at, below-some}
+use Rattle.timeline.proofs.Places.{Place, here, there, EachStep, any-at}
 use Rattle.timeline.proofs.Places.{any-of-none, each-cons}
 use Rattle.timeline.proofs.Clashes.{overlap-when}
 use Rattle.timeline.proofs.NewSteps.{fits-by, new-of-fits}

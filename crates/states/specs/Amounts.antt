@@ -5,12 +5,12 @@ use mathlib.Core.Path.{_≡_}
 use mathlib.Core.Bool.{Bool, cond}
 use mathlib.Core.List.{List, [], _∷_}
 use lib.ListN.{length, getD}
+use Rattle.lists.specs.Lists.{anyBelow}
 use Rattle.job.specs.Resources.{storeAmount, storeCap}
 use Rattle.job.specs.Job.{Job}
 use Rattle.job.specs.Valid.{over}
 use Rattle.timeline.specs.Step.{Step, stepOf}
 use Rattle.timeline.specs.Timeline.{inUse, usedUp}
-use Rattle.timeline.specs.Accepted.{anyBelow}
 use Rattle.times.specs.Earliest.{actionOf}
 use Rattle.tables.specs.Tables.{DescribesAction, chosen, DescribesEach}
 use Rattle.tables.specs.declared.Steps.{Steps}

@@ -9,6 +9,7 @@ use native.Mathlib.Omega.{arith}
 use lib.Dec.{ltb}
 use lib.ListN.{length, getD}
 use borrow.Author.Tests.{ltb-true, ltb-false, le-ltb, leb-false, lt-leb, not-false}
+use Rattle.lists.proofs.Below.{below-none, none-below}
 use Rattle.facts.specs.FactSet.{subset, Subset}
 use Rattle.facts.proofs.Membership.{subset-decides}
 use Rattle.job.specs.Resources.{storeCap}
@@ -21,7 +22,7 @@ use Rattle.timeline.specs.Step.{Step, strictlyRising, anyPair, largest}
 use Rattle.timeline.specs.Timeline.{end, held, free, inUse, usedUp}
 use Rattle.timeline.specs.Accepted.{unknown, clashing, exceedsPool, exceedsStore, lacksNeed, stepRows}
 use Rattle.timeline.proofs.Tests.{decided}
-use Rattle.timeline.proofs.Places.{EachStep, none-of-any, any-of-none, below-none, none-below}
+use Rattle.timeline.proofs.Places.{EachStep, none-of-any, any-of-none}
 use Rattle.timeline.proofs.Places.{largest-at-least}
 use Rattle.timeline.proofs.Shares.{free-is, nothing-in-use}
 

@@ -17,7 +17,6 @@ pub mod Permutations
 pub mod Rising
 pub mod Sorting
 pub mod Shorter
-pub mod Below
 mod PoolStarts
 pub mod Peaks
 pub mod RunRows

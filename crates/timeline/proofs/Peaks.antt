@@ -8,14 +8,14 @@ use mathlib.Core.Logic.{⊎-elim}
 use mathlib.Core.List.{List}
 use native.Mathlib.Omega.{arith}
 use borrow.Author.Tests.{ltb-true, lt-ltb}
-use Rattle.lists.specs.Lists.{any}
+use Rattle.lists.proofs.Below.{below-some}
+use Rattle.lists.specs.Lists.{any, anyBelow}
 use Rattle.job.specs.Job.{Job}
 use Rattle.job.specs.Valid.{over}
 use Rattle.timeline.specs.Step.{Step, largest}
 use Rattle.timeline.specs.Timeline.{free, hasShare, inUse, largestBelow, peak}
-use Rattle.timeline.specs.Accepted.{anyBelow}
 use Rattle.timeline.proofs.Tests.{decided, same-test, le-or-lt}
-use Rattle.timeline.proofs.Places.{largest-at-least, largest-at-most, below-some}
+use Rattle.timeline.proofs.Places.{largest-at-least, largest-at-most}
 use Rattle.timeline.proofs.Shares.{share-reads}
 use Rattle.timeline.proofs.PoolStarts.{last-to-start, nothing-without-shares, in-use-no-less}
 use Rattle.timeline.proofs.PoolStarts.{exceeded-before-free}

@@ -8,12 +8,11 @@ use mathlib.Core.List.{List, [], _∷_, _++_}
 use native.Mathlib.Nat.{eq-or-lt-of-le}
 use native.Mathlib.Omega.{arith}
 use lib.ListN.{length}
-use Rattle.lists.specs.Lists.{any, Each}
+use Rattle.lists.specs.Lists.{any, Each, anyBelow}
 use Rattle.lists.proofs.Bools.{or-left, or-right}
 use Rattle.facts.specs.FactSet.{union}
 use Rattle.facts.proofs.SetLaws.{union-comm, union-assoc}
 use Rattle.timeline.specs.Step.{Step, anyPair, total, largest, unionOf}
-use Rattle.timeline.specs.Accepted.{anyBelow}
 use Rattle.timeline.proofs.Tests.{decided, not-both, or-cases, or-neither, or-swap, or-exchange}
 
 -- the second list is the first with x put in at some place
@@ -172,22 +171,3 @@ module _ (test : Step → Step → Bool) (symmetric : (x y : Step) → test x y 
   pub pairs-with : {x : Step} {Q P : List Step} → Place x Q P → EachStep (λ y. test x y ≡ false) Q
       → anyPair test Q ≡ false → anyPair test P ≡ false
   pairs-with {x} {Q} i h k = anyPair-place i ∙ or-neither (any-of-none (test x) Q h) k
-
--- ---- tests of the numbers below n
-pub below-none : (n : ℕ) (test : ℕ → Bool) → anyBelow n test ≡ false → (k : ℕ) → k < n → test k ≡ false
-below-none zero test h k l = absurd (omega arith)
-below-none (suc n) test h k l =
-    ⊎-elim (λ e. let z : k ≡ n = omega arith in rw z (or-left (test n) (anyBelow n test) h))
-    (λ e. below-none n test (or-right (test n) (anyBelow n test) h) k (omega arith))
-    (eq-or-lt-of-le l)
-
-pub none-below : (n : ℕ) (test : ℕ → Bool) → ((k : ℕ) → k < n → test k ≡ false) → anyBelow n test ≡ false
-none-below zero test h = refl
-none-below (suc n) test h = or-neither (h n (omega arith)) (none-below n test (λ k l. h k (omega arith)))
-
-pub below-some : (n : ℕ) (test : ℕ → Bool) → anyBelow n test ≡ true → (k : ℕ) × (k < n) × (test k ≡ true)
-below-some zero test h = not-both h refl
-below-some (suc n) test h =
-    ⊎-elim (λ e. (n, omega arith, e))
-    (λ e. let r = below-some n test e in let l = r .1 in (r .0, omega arith, r .2))
-    (or-cases (test n) (anyBelow n test) h)

@@ -1,12 +1,12 @@
 -- When a plan is accepted: tests 12 to 20, in the order of the table.
 -- Assumes nothing.
-use Prim.Native.Nat.{ℕ, zero, suc, _%_}
+use Prim.Native.Nat.{ℕ, _%_}
 use mathlib.Core.Path.{_≡_}
-use mathlib.Core.Bool.{Bool, false, not, _&&_, _||_}
+use mathlib.Core.Bool.{Bool, not, _&&_, _||_}
 use mathlib.Core.List.{List, [], _∷_, _++_}
 use lib.Dec.{eqb, leb}
 use lib.ListN.{length, getD}
-use Rattle.lists.specs.Lists.{any}
+use Rattle.lists.specs.Lists.{any, anyBelow}
 use Rattle.facts.specs.FactSet.{subset}
 use Rattle.job.specs.Job.{Job}
 use Rattle.job.specs.Resources.{storeCap}
@@ -17,11 +17,6 @@ use Rattle.job.specs.declared.refusal.Refusal.the-variants.{PoolExceeded, Store
 use Rattle.job.specs.declared.refusal.Verdict.the-variants.{Pass}
 use Rattle.timeline.specs.Step.{Step, stepsIn, strictlyRising, anyPair, largest}
 use Rattle.timeline.specs.Timeline.{end, clash, overlap, held, free, inUse, usedUp}
-
--- the test passes at some number below n
-abbrev pub anyBelow : ℕ → (ℕ → Bool) → Bool
-anyBelow zero test = false
-anyBelow (suc n) test = test n || anyBelow n test
 
 -- "bytes not a multiple of 3 or over 96"
 abbrev pub wrongSize : List ℕ → Bool

@@ -8,11 +8,11 @@ use native.Mathlib.Nat.{le-refl}
 use native.Mathlib.Omega.{arith}
 use lib.ListN.{length, getD}
 use borrow.Author.Tests.{ltb-false, le-ltb, not-true}
+use Rattle.lists.proofs.Below.{below-none, none-below}
 use Rattle.facts.specs.FactSet.{has, union, single}
 use Rattle.facts.proofs.SetLaws.{in-union-left, in-union-right}
 use Rattle.job.specs.Job.{Action, Job}
 use Rattle.job.specs.Valid.{over}
-use Rattle.timeline.proofs.Places.{below-none, none-below}
 use Rattle.times.specs.Earliest.{Table, timeOf, actionOf, fitsAlone, fitTogether, Solves}
 use Rattle.times.proofs.Times.{By, by-ext, by-same, by-later-minute, by-timeOf, timeOf-by, timeOf-part}
 use Rattle.times.proofs.Singles.{in-single, only-in-single, in-with, in-with-cases}

@@ -10,6 +10,7 @@ use native.Mathlib.Omega.{arith}
 use lib.Dec.{eqb}
 use lib.ListN.{length, getD}
 use borrow.Author.Tests.{le-ltb}
+use Rattle.lists.proofs.Below.{none-below}
 use Rattle.lists.proofs.Bools.{or-left, or-right}
 use Rattle.facts.specs.FactSet.{has, Subset}
 use Rattle.job.specs.Job.{Action, Job}
@@ -17,7 +18,7 @@ use Rattle.job.proofs.Passed.{Passed}
 use Rattle.timeline.specs.Step.{Step, stepsIn}
 use Rattle.timeline.specs.Timeline.{hinders, held, end}
 use Rattle.timeline.specs.Accepted.{Accepted}
-use Rattle.timeline.proofs.Places.{Place, EachStep, place-wider, none-below}
+use Rattle.timeline.proofs.Places.{Place, EachStep, place-wider}
 use Rattle.timeline.proofs.HeldFacts.{Added, held-comes-from}
 use Rattle.timeline.proofs.Clashes.{compatible-no-clash, no-clash-of-test}
 use Rattle.timeline.proofs.Shares.{useAt, share-when, use-of-share, inUse-place}

@@ -5,12 +5,12 @@ use mathlib.Core.Path.{_≡_}
 use mathlib.Core.Bool.{Bool, not, _&&_, _||_}
 use lib.Dec.{eqb, leb}
 use lib.ListN.{length, getD}
+use Rattle.lists.specs.Lists.{anyBelow}
 use Rattle.facts.specs.FactSet.{has, union, single}
 use Rattle.job.specs.Job.{Action, Job}
 use Rattle.job.specs.Valid.{over}
 use Rattle.timeline.specs.Step.{noAction}
 use Rattle.timeline.specs.Timeline.{hinders}
-use Rattle.timeline.specs.Accepted.{anyBelow}
 use Rattle.times.specs.Time.{Time, at, earlier, later, after, choice, demand, least, greatest}
 
 -- a table: a time for each two facts p ≤ q, and for one fact where p ≡ q

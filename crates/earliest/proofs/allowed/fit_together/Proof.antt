@@ -4,9 +4,9 @@ use Prim.Native.Nat.{ℕ, _+_, _-_, _≤_}
 use mathlib.Core.Path.{_≡_, refl, sym, ap, _∙_}
 use mathlib.Core.Bool.{Bool, false, not}
 use lib.ListN.{getD}
+use Rattle.lists.specs.Lists.{anyBelow}
+use Rattle.lists.proofs.Below.{below-more, below-found}
 use Rattle.job.specs.Valid.{over}
-use Rattle.timeline.specs.Accepted.{anyBelow}
-use Rattle.timeline.proofs.Below.{below-more, below-found}
 use native.Mathlib.Omega.{arith}
 use Rattle.earliest.proofs.allowed.fit_together.Statement.{statement}
 use Rattle.earliest.proofs.allowed.fit_together.Tie as tie

@@ -1,0 +1,55 @@
+// Test 26 of a job value: whether an action can never run.
+ghost use mathlib.Core.Path.{_≡_};
+ghost use Prim.Native.Nat.{_≤_};
+ghost use lib.ListN.{getD};
+ghost use Rattle.lists.specs.Lists.{any, anyBelow};
+ghost use Rattle.job.specs.Job.{actionIn, jobIn, Fits};
+ghost use Rattle.job.specs.Valid.{over, usesBeyond};
+use crate::Action;
+use crate::Job;
+use crate::resources;
+
+// Whether one of the first n amounts is over its own limit.
+fn any_above(limits: [u32; Job::POOLS], amounts: [u32; Job::POOLS], n: usize) -> bool
+    requires { ⌜ n ≤ 4 ⌝ }
+    ensures { λ r. ⌜ r ≡ anyBelow n (λ k. over (getD limits k 0) (getD amounts k 0)) ⌝ }
+{
+    let mut i = 0;
+    while i < n {
+        if limits[i] < amounts[i] {
+            return true;
+        }
+        i += 1;
+    }
+    false
+}
+
+// Whether the action uses more of a pool or store than is available.
+fn uses_beyond(job: Job, action: Action) -> bool
+    requires { ⌜ Fits (job .counts) ⌝ }
+    ensures { λ r. ⌜ r ≡ usesBeyond (jobIn job) (actionIn (job .counts) action) ⌝ }
+{
+    let counts = job.counts;
+    let available = job.pools;
+    let uses = action.pools;
+    let allowed = resources::allowed(job);
+    let charged = resources::charged(job, action);
+    any_above(available, uses, counts.pools) | any_above(allowed, charged, counts.stores)
+}
+
+// Whether some action of the job does.
+pub fn any_beyond(job: Job) -> bool
+    requires { ⌜ Fits (job .counts) ⌝ }
+    ensures { λ r. ⌜ r ≡ any (usesBeyond (jobIn job)) (jobIn job .actions) ⌝ }
+{
+    let counts = job.counts;
+    let mut i = 0;
+    while i < counts.actions {
+        let action = job.actions[i];
+        if uses_beyond(job, action) {
+            return true;
+        }
+        i += 1;
+    }
+    false
+}

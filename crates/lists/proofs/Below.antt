@@ -1,0 +1,46 @@
+-- A test of the numbers below n.
+-- Assumes nothing.
+use Prim.Native.Nat.{ℕ, zero, suc, _+_, _<_}
+use mathlib.Core.Path.{_≡_, refl, ap, ap₂}
+use mathlib.Core.Bool.{Bool, true, false, _||_}
+use mathlib.Core.Logic.{⊎-elim}
+use native.Mathlib.Nat.{eq-or-lt-of-le}
+use native.Mathlib.Omega.{arith}
+use Rattle.lists.specs.Lists.{anyBelow}
+use Rattle.lists.proofs.Bools.{absurd, or-left, or-right, or-true}
+
+pub below-none : (n : ℕ) (test : ℕ → Bool) → anyBelow n test ≡ false → (k : ℕ) → k < n → test k ≡ false
+below-none zero test h k l = absurd (omega arith)
+below-none (suc n) test h k l =
+    ⊎-elim (λ e. let z : k ≡ n = omega arith in rw z (or-left (test n) (anyBelow n test) h))
+    (λ e. below-none n test (or-right (test n) (anyBelow n test) h) k (omega arith))
+    (eq-or-lt-of-le l)
+
+pub none-below : (n : ℕ) (test : ℕ → Bool) → ((k : ℕ) → k < n → test k ≡ false) → anyBelow n test ≡ false
+none-below zero test h = refl
+none-below (suc n) test h = rw (h n (omega arith), none-below n test (λ k l. h k (omega arith)))
+
+pub below-some : (n : ℕ) (test : ℕ → Bool) → anyBelow n test ≡ true → (k : ℕ) × (k < n) × (test k ≡ true)
+below-some zero test h = let e : _≡_ {A = ℕ} 0 1 = cc in absurd (omega arith)
+below-some (suc n) test h = here-or-below (test n) refl h (below-some n test)
+  where
+    here-or-below : (b : Bool) → test n ≡ b → (b || anyBelow n test) ≡ true
+        → (anyBelow n test ≡ true → (k : ℕ) × (k < n) × (test k ≡ true))
+        → (k : ℕ) × (k < suc n) × (test k ≡ true)
+    here-or-below true e h below = (n, omega arith, e)
+    here-or-below false e h below = let r = below h in let l = r .1 in (r .0, omega arith, r .2)
+
+pub below-found : (n : ℕ) (test : ℕ → Bool) (k : ℕ) → k < n → test k ≡ true → anyBelow n test ≡ true
+below-found zero test k l h = absurd (omega arith)
+below-found (suc n) test k l h =
+    ⊎-elim (λ e. let z : k ≡ n = omega arith in let here : test n ≡ true = rw z at h in rw here)
+    (λ e. rw (below-found n test k (omega arith) h) (or-true (test n)))
+    (eq-or-lt-of-le l)
+
+-- one number more, as a loop goes on
+pub below-more : (n : ℕ) (test : ℕ → Bool) → anyBelow (n + 1) test ≡ (test n || anyBelow n test)
+below-more n test = let e : n + 1 ≡ suc n = omega arith in ap (λ m. anyBelow m test) e
+
+pub below-same : (n : ℕ) (f g : ℕ → Bool) → ((k : ℕ) → k < n → f k ≡ g k) → anyBelow n f ≡ anyBelow n g
+below-same zero f g h = refl
+below-same (suc n) f g h = ap₂ _||_ (h n (omega arith)) (below-same n f g (λ k l. h k (omega arith)))
