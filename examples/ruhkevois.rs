@@ -6,6 +6,15 @@ mod exported {
         pub fn ruhkevois_read(file: *const u8, length: usize) -> u64;
         pub fn ruhkevois_rewrite(file: *const u8, length: usize, out: *mut u8, room: usize) -> u64;
         pub fn ruhkevois_check(file: *const u8, length: usize, plan: *const u8, bytes: usize) -> u64;
+        pub fn ruhkevois_price(
+            file: *const u8,
+            length: usize,
+            plan: *const u8,
+            bytes: usize,
+            pool_rates: *const u32,
+            store_rates: *const u32,
+            evening: u32,
+        ) -> u64;
         pub fn ruhkevois_earliest(file: *const u8, length: usize, set: u64) -> u64;
         pub fn ruhkevois_plan(file: *const u8, length: usize, out: *mut u8, room: usize) -> u64;
     }
@@ -16,10 +25,27 @@ mod exported {
 pub enum Answer {
     /// A plan's end, an earliest time or a file's length; the number of steps of a plan that was written, else 0.
     Done { end: u32, steps: u16 },
-    /// A refusal by its number, 1 to 24.
+    /// A refusal by its number, 1 to 25.
     Refused(u8),
     /// A set of facts that no plan ever has together.
     Unreachable,
+}
+
+/// What a loan desk quotes by: cents for a unit and a started quarter hour of each pool, and for a unit of each store,
+/// at most 100,000; the evening's percentage, at most 100. Rates beyond the job's pools and stores are ignored.
+#[derive(Clone, Copy, Debug, Default, PartialEq, Eq)]
+pub struct Rates {
+    pub pools: [u32; 4],
+    pub stores: [u32; 4],
+    pub evening: u32,
+}
+
+/// What a plan costs.
+#[derive(Clone, Copy, Debug, PartialEq, Eq)]
+pub enum Price {
+    Cents(u64),
+    /// A refusal by its number, 1 to 25.
+    Refused(u8),
 }
 
 fn unpack(answer: u64) -> Answer {
@@ -44,6 +70,14 @@ pub fn rewrite(file: &[u8], out: &mut [u8]) -> Answer {
 /// Whether a plan is accepted for the job of a file.
 pub fn check(file: &[u8], plan: &[u8]) -> Answer {
     unpack(unsafe { exported::ruhkevois_check(file.as_ptr(), file.len(), plan.as_ptr(), plan.len()) })
+}
+
+/// What a plan for the job of a file costs at these rates.
+pub fn price(file: &[u8], plan: &[u8], rates: &Rates) -> Price {
+    let (pools, stores) = (rates.pools.as_ptr(), rates.stores.as_ptr());
+    let (file, length, plan, bytes) = (file.as_ptr(), file.len(), plan.as_ptr(), plan.len());
+    let answer = unsafe { exported::ruhkevois_price(file, length, plan, bytes, pools, stores, rates.evening) };
+    if answer as u8 == 0 { Price::Cents(answer >> 8) } else { Price::Refused((answer >> 8) as u8) }
 }
 
 /// The earliest time of a set of facts in the job of a file.

@@ -12,10 +12,10 @@
  * A job crosses as the bytes of its file, at most 4,096 (README.md has the layout). A plan is at most 32 steps of 3
  * bytes: the action (1 byte), then the start minute (2 bytes, little-endian).
  *
- * Answers. Every call answers one number, packed the same way:
+ * Answers. Every call answers one number, packed the same way (but for a price that is done, see ruhkevois_price):
  *
  *   bits  0 to  7   kind: RUHKEVOIS_DONE, RUHKEVOIS_REFUSED or RUHKEVOIS_UNREACHABLE
- *   bits  8 to 15   number of the refusal, 1 to 24 (README.md has the table); 0 unless refused
+ *   bits  8 to 15   number of the refusal, 1 to 25 (README.md has the table); 0 unless refused
  *   bits 16 to 47   end: a plan's end, an earliest time, or a file's length; 0 unless done
  *   bits 48 to 63   number of steps of a plan that was written; 0 otherwise
  *
@@ -46,6 +46,9 @@ extern "C" {
 #define RUHKEVOIS_END(answer) ((uint32_t)((uint64_t)(answer) >> 16 & 0xffffffff))
 #define RUHKEVOIS_STEPS(answer) ((unsigned)((uint64_t)(answer) >> 48))
 
+/* The cents, where ruhkevois_price is done. */
+#define RUHKEVOIS_PRICE(answer) ((uint64_t)(answer) >> 8)
+
 /* The most bytes of a job file, of a plan, and the bytes of a step. */
 #define RUHKEVOIS_FILE_BYTES 4096
 #define RUHKEVOIS_PLAN_BYTES 96
@@ -73,6 +76,18 @@ uint64_t ruhkevois_rewrite(const uint8_t *file, size_t file_length, uint8_t *out
  * Done: end is the plan's end. Refused: 1 to 11 for the file, then 12 to 20 for the plan.
  */
 uint64_t ruhkevois_check(const uint8_t *file, size_t file_length, const uint8_t *plan, size_t plan_length);
+
+/*
+ * What a plan for the job of a file costs, in cents. `pool_rates` has a rate for a unit of each of four pools and a
+ * started quarter hour of a step, `store_rates` one for a unit of each of four stores; each is at most 100,000. Rates
+ * beyond the job's pools and stores are ignored, but the arrays have four. `evening` is the percentage, at most 100,
+ * on the pool charges of steps that end after minute 480; it is worked out once for all of them, and rounded to the
+ * cent, halves up.
+ * Done: the cents are in bits 8 to 63, RUHKEVOIS_PRICE(answer). Refused: 1 to 11 for the file, 12 to 20 for the plan,
+ * then 25 for a rate or the percentage, in bits 8 to 15 as in every call.
+ */
+uint64_t ruhkevois_price(const uint8_t *file, size_t file_length, const uint8_t *plan, size_t plan_length,
+                         const uint32_t pool_rates[4], const uint32_t store_rates[4], uint32_t evening);
 
 /*
  * The earliest time of a set of facts (fact n is bit n): no plan for the job of the file has all of them together before

@@ -1,5 +1,6 @@
 //! Random jobs, files and plans, each made from its seed.
 use crate::plain::{self, Action, Job};
+use crate::plain_price::Rates;
 
 /// A generator of numbers, the same for the same seed.
 pub struct Random(u64);
@@ -250,4 +251,52 @@ pub fn damage_plan(r: &mut Random, mut plan: Vec<u8>) -> Vec<u8> {
 
 pub fn copy(job: &Job) -> Job {
     Job { actions: job.actions.clone(), ..*job }
+}
+
+/// The plan with all its steps later, so that one of them ends about minute 480, where the deadline allows it.
+pub fn evening_plan(r: &mut Random, job: &Job, plan: &[u8]) -> Vec<u8> {
+    let steps: Vec<(u16, u8)> = plan.chunks_exact(3).map(|x| (u16::from_le_bytes([x[1], x[2]]), x[0])).collect();
+    let ends: Vec<u64> = steps.iter().map(|s| s.0 as u64 + job.actions[s.1 as usize].duration as u64).collect();
+    let Some(last) = ends.iter().max() else {
+        return vec![];
+    };
+    let wanted = (478 + r.below(6)).saturating_sub(ends[r.below(ends.len() as u64) as usize]);
+    let later = wanted.min((job.deadline as u64).saturating_sub(*last)) as u16;
+    bytes_of(&steps.iter().map(|s| (s.0 + later, s.1)).collect::<Vec<_>>())
+}
+
+/// A rate: small, at the limit, or beyond it.
+fn rate(r: &mut Random) -> u32 {
+    match r.below(40) {
+        0 => 100_001 + r.below(9) as u32,
+        1 => r.next() as u32,
+        2 | 3 => 100_000,
+        n => r.below(if n % 2 == 0 { 100_001 } else { 4 }) as u32,
+    }
+}
+
+/// Rates for a job: those beyond its pools and stores are any numbers.
+pub fn rates(r: &mut Random, job: &Job) -> Rates {
+    let mut rates = Rates { evening: r.below(101) as u32, ..Rates::default() };
+    for k in 0..4 {
+        rates.pools[k] = if k < job.pools { rate(r) } else { r.next() as u32 };
+        rates.stores[k] = if k < job.stores { rate(r) } else { r.next() as u32 };
+    }
+    if r.one_in(8) {
+        rates.evening = [0, 100, 101, 256, r.next() as u32][r.below(5) as usize];
+    }
+    rates
+}
+
+/// The job with as large uses and amounts as there may be, so that prices are large.
+pub fn dear(r: &mut Random, mut job: Job) -> Job {
+    let scale = [1, 1_000, 100_000][r.below(3) as usize];
+    let larger = |xs: &mut [u32; 4]| xs.iter_mut().for_each(|x| *x = (*x * scale).min(1_000_000));
+    larger(&mut job.pool);
+    larger(&mut job.store);
+    for action in &mut job.actions {
+        larger(&mut action.pools);
+        larger(&mut action.stores);
+    }
+    job
 }

@@ -1,18 +1,29 @@
-//! Compares the calls with an independent implementation in plain Rust, on random jobs, files, sets and plans, through
-//! the C interface. A difference prints the seed of its case and ends with status 1.
+//! Compares the calls with an independent implementation in plain Rust, on random jobs, files, sets, plans and rates,
+//! through the C interface. A difference prints the seed of its case and ends with status 1.
 //! Arguments: number of cases, first seed.
 mod cases;
 #[allow(dead_code)]
 #[path = "../bench/plain.rs"]
 mod plain;
+mod plain_price;
 mod simple_planner;
 use cases::Random;
 use plain::Job;
+use plain_price::Rates;
 
 extern "C" {
     fn ruhkevois_read(file: *const u8, length: usize) -> u64;
     fn ruhkevois_rewrite(file: *const u8, length: usize, out: *mut u8, room: usize) -> u64;
     fn ruhkevois_check(file: *const u8, length: usize, plan: *const u8, bytes: usize) -> u64;
+    fn ruhkevois_price(
+        file: *const u8,
+        length: usize,
+        plan: *const u8,
+        bytes: usize,
+        pools: *const u32,
+        stores: *const u32,
+        evening: u32,
+    ) -> u64;
     fn ruhkevois_earliest(file: *const u8, length: usize, set: u64) -> u64;
     fn ruhkevois_plan(file: *const u8, length: usize, out: *mut u8, room: usize) -> u64;
 }
@@ -32,9 +43,10 @@ fn expected(end: Result<u64, u64>) -> u64 {
     end.map_or_else(refused, |end| done(end, 0))
 }
 
-/// What was seen: refusals by number (0: done), accepted plans and planned ones by their number of steps.
+/// What was seen: refusals by number (0: done), prices by their bits, accepted plans and planned ones by their steps.
 struct Seen {
-    refusals: [u64; 25],
+    refusals: [u64; 26],
+    prices: [u64; 65],
     accepted: [u64; 33],
     planned: [u64; 33],
 }
@@ -90,6 +102,29 @@ impl Case<'_> {
         let want = job.as_ref().map_err(|n| *n).and_then(|job| plain::check(job, plan));
         self.same("check", answer, expected(want));
         self.seen.accepted[if answer & 255 == 0 { plan.len() / 3 } else { 0 }] += 1;
+    }
+
+    /// The call is lent rates of any values behind the job's pools and stores.
+    fn price(&mut self, file: &[u8], job: &Result<Job, u64>, plan: &[u8], rates: &Rates) {
+        let (pools, stores) = (rates.pools.as_ptr(), rates.stores.as_ptr());
+        let answer = unsafe {
+            ruhkevois_price(file.as_ptr(), file.len(), plan.as_ptr(), plan.len(), pools, stores, rates.evening)
+        };
+        let price = job.as_ref().map_err(|n| *n).and_then(|job| plain_price::price(job, plan, rates));
+        self.same("price", answer, price.map_or_else(refused, |cents| cents << 8));
+        if let Ok(cents) = price {
+            self.seen.prices[64 - cents.leading_zeros() as usize] += 1;
+        }
+    }
+
+    /// The plan's price, and that of the same plan in the evening.
+    fn prices(&mut self, r: &mut Random, file: &[u8], job: &Result<Job, u64>, plan: &[u8]) {
+        let rates = job.as_ref().map_or(Rates::default(), |job| cases::rates(r, job));
+        self.price(file, job, plan, &rates);
+        if let Some(job_of_plan) = job.as_ref().ok().filter(|job| plain::check(job, plan).is_ok()) {
+            let later = cases::evening_plan(r, job_of_plan, plan);
+            self.price(file, job, &later, &rates);
+        }
     }
 
     fn earliest(&mut self, file: &[u8], job: &Result<Job, u64>, set: u64) {
@@ -153,23 +188,29 @@ fn every_call(case: &mut Case, r: &mut Random, file: &[u8], is_small: bool) {
     case.earliest(file, &job, some_set(r, job.as_ref().map_or(64, |job| job.facts as u64)));
     let plan = job.as_ref().map_or(vec![0; 3], |job| cases::any_plan(r, job));
     case.check(file, &job, &plan);
+    case.prices(r, file, &job, &plan);
     if is_small || job.is_err() {
         let room = if r.one_in(8) { r.below(96) } else { 96 + r.below(20) };
         if let Some(plan) = case.plan(r, file, &job, room as usize) {
+            case.prices(r, file, &job, &plan);
             case.check(file, &job, &cases::damage_plan(r, plan));
         }
     }
 }
 
-/// A plan made step by step, with the facts at its end as the goal: accepted; then damaged.
-fn grown_plans(case: &mut Case, r: &mut Random, mut job: Job) {
+/// A plan made step by step, with the facts at its end as the goal: accepted and priced; then damaged.
+fn grown_plans(case: &mut Case, r: &mut Random, job: Job) {
+    let mut job = if r.one_in(2) { cases::dear(r, job) } else { job };
     let (plan, held) = cases::grown_plan(r, &job);
     job.goal = held & r.next();
     let file = cases::file(&job);
     let job = Ok(job);
     case.check(&file, &job, &plan);
     for _ in 0..4 {
-        case.check(&file, &job, &cases::damage_plan(r, plan.clone()));
+        case.prices(r, &file, &job, &plan);
+        let damaged = cases::damage_plan(r, plan.clone());
+        case.check(&file, &job, &damaged);
+        case.prices(r, &file, &job, &damaged);
     }
 }
 
@@ -214,11 +255,12 @@ fn counts(of: &[u64]) -> String {
 fn main() {
     let argument = |i: usize, other: u64| std::env::args().nth(i).map_or(other, |x| x.parse().expect("a number"));
     let (count, first) = (argument(1, 100_000), argument(2, 1));
-    let mut seen = Seen { refusals: [0; 25], accepted: [0; 33], planned: [0; 33] };
+    let mut seen = Seen { refusals: [0; 26], prices: [0; 65], accepted: [0; 33], planned: [0; 33] };
     for seed in first..first + count {
         one_case(&mut Case { seed, seen: &mut seen });
     }
     println!("refusals, by number: {}", counts(&seen.refusals));
+    println!("prices, by bits: {}", counts(&seen.prices));
     println!("plans accepted, by steps: {}", counts(&seen.accepted));
     println!("plans written, by steps: {}", counts(&seen.planned));
     println!("{count} cases from seed {first}: {} answers, all the same", seen.refusals.iter().sum::<u64>());

@@ -253,7 +253,7 @@ fn step(text: &str) -> Result<(u64, u64), Fault> {
     Ok((count(action, 0)?, count(start, 0)?))
 }
 
-// Steps as ACTION@START, and from one to another as 0@0 to 31@31.
+// Steps as ACTION@START; from one to another as 0@0 to 31@31; of one action again and again as 3@0 to 3@45 by 15.
 fn steps(text: &str) -> Result<Vec<u8>, Fault> {
     let mut plan = vec![];
     let words = words(text);
@@ -262,14 +262,17 @@ fn steps(text: &str) -> Result<Vec<u8>, Fault> {
         let (action, start) = step(&words[at])?;
         let last = if words.get(at + 1).is_some_and(|word| word == "to") { at + 2 } else { at };
         let (last_action, last_start) = step(words.get(last).map_or("", String::as_str))?;
-        if last_action < action || last_action - action != last_start.wrapping_sub(start) {
+        let apart = words.get(last + 1).filter(|word| *word == "by").and(words.get(last + 2));
+        let (next, later) = if let Some(minutes) = apart { (0, count(minutes, 0)?) } else { (1, 1) };
+        let more = last_start.saturating_sub(start) / later.max(1);
+        if last_action != action + next * more || last_start != start + later * more {
             return fault("not a range of steps", text);
         }
-        for k in 0..=last_action - action {
-            plan.extend(bytes_of(action + k, 1));
-            plan.extend(bytes_of(start + k, 2));
+        for k in 0..=more {
+            plan.extend(bytes_of(action + next * k, 1));
+            plan.extend(bytes_of(start + later * k, 2));
         }
-        at = last + 1;
+        at = last + if apart.is_some() { 3 } else { 1 };
     }
     Ok(plan)
 }
@@ -293,6 +296,28 @@ fn plan(record: &mut Record, text: &str) -> Result<(), Fault> {
     Ok(())
 }
 
+// A plan with rates, which go before it: four of pools and four of stores, 0 where fewer are named, and a percentage.
+fn priced(record: &mut Record, text: &str) -> Result<(), Fault> {
+    let mut rates = [vec![], vec![], vec![]];
+    let mut rest = vec![];
+    for part in text.split(';').map(str::trim) {
+        let (word, values) = part.split_once(' ').unwrap_or((part, ""));
+        let values = || words(values).iter().map(|value| count(value, 0)).collect::<Result<Vec<u64>, Fault>>();
+        match word {
+            "rates" => (rates[0], rates[1]) = (values()?.repeat(4), values()?.repeat(4)),
+            "pools" => rates[0] = values()?,
+            "stores" => rates[1] = values()?,
+            "evening" => rates[2] = values()?,
+            _ => rest.push(part),
+        }
+    }
+    plan(record, &rest.join(";"))?;
+    let bytes = rates.iter().zip([4, 4, 1]).flat_map(|(rates, count)| amount_bytes(rates, count));
+    record.input = bytes.chain(record.input.clone()).collect();
+    record.call = b'q';
+    Ok(())
+}
+
 // A row of a table: its call and title, the job, what else the call is given, and the answer.
 fn row(line: &str, names: &Names) -> Result<(Record, String), Fault> {
     let columns: Vec<&str> = line.split('|').map(str::trim).collect();
@@ -300,13 +325,16 @@ fn row(line: &str, names: &Names) -> Result<(Record, String), Fault> {
     let mut record = Record { title: title.trim().to_string(), ..Record::default() };
     let (job, input, answer) = match (call, columns[1..].to_vec().as_slice()) {
         ("read", [job, answer]) => (*job, "", *answer),
-        ("rewrite" | "bytes" | "check" | "earliest" | "plan", [job, input, answer]) => (*job, *input, *answer),
+        ("rewrite" | "bytes" | "check" | "price" | "earliest" | "plan", [job, input, answer]) => {
+            (*job, *input, *answer)
+        }
         _ => return fault("not a row of a table", line),
     };
     record.call = call.as_bytes()[0];
     record.file = job_file(job, names)?;
     match call {
         "check" => plan(&mut record, input)?,
+        "price" => priced(&mut record, input)?,
         "earliest" => record.set = set(input, 0)?,
         "rewrite" | "plan" => record.room = count(input.strip_prefix("slice of ").unwrap_or(input), 0)?,
         "bytes" => {

@@ -12,6 +12,9 @@ use Rattle.jobfile.specs.declared.Reading.{Reading}
 use Rattle.jobfile.specs.declared.Written.{Written}
 use Rattle.jobfile.specs.Answers.{readFile, writeFile, leftByWrite}
 use Rattle.checker.specs.Check.{checkPlan}
+use Rattle.price.specs.declared.Rates.{Rates}
+use Rattle.price.specs.declared.Priced.{Priced}
+use Rattle.price.specs.Price.{pricePlan}
 use Rattle.earliest.specs.declared.EarliestTime.{EarliestTime}
 use Rattle.earliest.specs.Answer.{Answers}
 use Rattle.timeline.specs.declared.Day.{Day}
@@ -19,6 +22,8 @@ use Rattle.planner.specs.Plan.{Plans}
 use Rattle.calls.specs.Answer.{done, refusal, writtenNumber, checkedNumber, timeNumber, plannedNumber}
 use Rattle.calls.specs.Answer.{peaksBy}
 use Rattle.calls.specs.Calls.{jobOf, unlessRefused, keptIfRefused, peaksAfter, peaksByCheck, EarliestBy, PlanBy}
+use Rattle.calls.specs.Answer.{pricedNumber}
+use Rattle.calls.specs.Calls.{priceAnswer}
 use Rattle.calls.specs.Calls.{readAnswer, checkAnswer, rewriteAnswer, leftByRewrite, EarliestAnswers, PlanAnswers}
 
 module _ (file : List ℕ) (reading : Reading) (same : reading ≡ readFile file) where
@@ -62,6 +67,13 @@ module _ (file : List ℕ) (reading : Reading) (same : reading ≡ readFile file
         ap checkedNumber told
         ∙ ap (λ (x : Reading). checkedNumber (checkPlan (jobIn (x .job)) plan)) same
         ∙ file-accepted (checkedNumber (checkPlan (jobOf file) plan))
+
+    pub price-accepted : (plan : List ℕ) (rates : Rates) (answer : Priced)
+        → answer ≡ pricePlan (jobIn (reading .job)) rates plan → pricedNumber answer ≡ priceAnswer file plan rates
+    price-accepted plan rates answer told =
+        ap pricedNumber told
+        ∙ ap (λ (x : Reading). pricedNumber (pricePlan (jobIn (x .job)) rates plan)) same
+        ∙ file-accepted (pricedNumber (pricePlan (jobOf file) rates plan))
 
     pub rewrite-accepted : (slice : List ℕ) (answer : Written) → answer ≡ writeFile (jobIn (reading .job)) slice
         → writtenNumber answer ≡ rewriteAnswer file slice

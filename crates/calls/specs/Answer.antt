@@ -1,6 +1,6 @@
--- An answer as one number, packed the same way for every call.
+-- An answer as one number, packed the same way for every call but a price, which needs more bits.
 -- Assumes nothing.
-use Prim.Native.Nat.{ℕ, _+_, _*_, _≤_}
+use Prim.Native.Nat.{ℕ, _+_, _*_, _≤_, _<_}
 use mathlib.Core.Path.{_≡_}
 use mathlib.Core.List.{List}
 use Rattle.job.specs.Refusal.{number}
@@ -10,6 +10,8 @@ use Rattle.job.specs.declared.refusal.Verdict.the-variants.{Pass, Refused}
 use Rattle.jobfile.specs.declared.Written.{Written}
 use Rattle.jobfile.specs.declared.Written.the-variants as written
 use Rattle.timeline.specs.declared.Day.{Day}
+use Rattle.price.specs.declared.Priced.{Priced}
+use Rattle.price.specs.declared.Priced.the-variants as priced
 use Rattle.earliest.specs.declared.EarliestTime.{EarliestTime}
 use Rattle.earliest.specs.declared.EarliestTime.the-variants as time
 
@@ -52,6 +54,14 @@ abbrev pub peaksBy : Verdict → List ℕ → List ℕ → List ℕ
 peaksBy Pass told before = told
 peaksBy (Refused why) told before = before
 
+-- kind 0 of a price: the cents in bits 8 to 63. A refusal is the same number as in every call
+unfoldable pub cost : ℕ → ℕ
+cost cents = 256 * cents
+
+abbrev pub pricedNumber : Priced → ℕ
+pricedNumber (priced.Cents cents) = cost cents
+pricedNumber (priced.Refused why) = refusal why
+
 -- "a time is a number or 'unreachable'"
 abbrev pub timeNumber : EarliestTime → ℕ
 timeNumber (time.At x) = done x 0
@@ -63,3 +73,7 @@ timeNumber (time.Refused why) = refusal why
 -- a file has at most 4,096 bytes
 abbrev pub ShortFile : Written → Type 0
 ShortFile answer = (n : ℕ) → answer ≡ written.Length n → n ≤ 4096
+
+-- a price has at most 56 bits
+abbrev pub SmallPrice : Priced → Type 0
+SmallPrice answer = (cents : ℕ) → answer ≡ priced.Cents cents → cents < 72057594037927936

@@ -10,12 +10,15 @@ use Rattle.job.specs.declared.refusal.Verdict.{Verdict}
 use Rattle.job.specs.declared.refusal.Verdict.the-variants.{Pass, Refused}
 use Rattle.jobfile.specs.Answers.{readFile, writeFile, leftByWrite}
 use Rattle.checker.specs.Check.{checkPlan}
+use Rattle.price.specs.declared.Rates.{Rates}
+use Rattle.price.specs.Price.{pricePlan}
 use Rattle.earliest.specs.declared.EarliestTime.{EarliestTime}
 use Rattle.earliest.specs.Answer.{Answers}
 use Rattle.timeline.specs.declared.Day.{Day}
 use Rattle.planner.specs.Plan.{Plans}
 use Rattle.calls.specs.Answer.{done, refusal, writtenNumber, checkedNumber, timeNumber, plannedNumber}
 use Rattle.calls.specs.Answer.{peaksBy}
+use Rattle.calls.specs.Answer.{pricedNumber}
 
 -- the job that reading a file gives
 abbrev pub jobOf : List ℕ → Job
@@ -41,6 +44,15 @@ peaksAfter (Refused why) day before = before
 
 abbrev pub peaksByCheck : List ℕ → List ℕ → List ℕ → List ℕ
 peaksByCheck file plan before = peaksAfter (readFile file .verdict) (checkPlan (jobOf file) plan) before
+
+-- what the plan costs at these rates, for the job of the file
+abbrev pub priceAnswer : List ℕ → List ℕ → Rates → ℕ
+priceAnswer file plan rates =
+    unlessRefused (readFile file .verdict) (pricedNumber (pricePlan (jobOf file) rates plan))
+
+-- the rates by the arrays that they are lent in
+abbrev pub ratesIn : List ℕ → List ℕ → ℕ → Rates
+ratesIn pools stores evening = record { pools = pools; stores = stores; evening = evening }
 
 -- the writer's answer to the job of the file and the slice
 abbrev pub rewriteAnswer : List ℕ → List ℕ → ℕ

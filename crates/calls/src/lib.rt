@@ -1,8 +1,12 @@
 // The calls for other languages: a job crosses as the bytes of its file, and each call answers one number, packed the
-// same way: kind, refusal number, end and steps. A file that is refused is answered before anything else is looked at.
+// same way: kind, refusal number, end and steps; a price has the cents behind its kind. A file that is refused is
+// answered before anything else is looked at.
 ghost use mathlib.Core.Path.{_≡_};
+ghost use Prim.Native.Nat.{_<_};
 ghost use Rattle.calls.specs.Answer.{packed, refusal, dayNumber, timeNumber, writtenNumber, ShortFile, peaksBy};
 ghost use Rattle.calls.specs.Calls.{readAnswer, checkAnswer, peaksByCheck, rewriteAnswer, leftByRewrite};
+ghost use Rattle.calls.specs.Answer.{cost, pricedNumber, SmallPrice};
+ghost use Rattle.calls.specs.Calls.{priceAnswer, ratesIn};
 ghost use Rattle.calls.specs.Calls.{EarliestAnswers, PlanAnswers};
 use earliest::EarliestTime;
 use job::Job;
@@ -10,6 +14,8 @@ use job::refusal::Refusal;
 use job::refusal::Verdict;
 use job::refusal::number;
 use jobfile::Written;
+use price::Priced;
+use price::Rates;
 use timeline::Day;
 
 // The kinds of answers.
@@ -73,6 +79,25 @@ fn put_peaks(peaks: &mut [u32; Job::POOLS], day: Day)
     }
 }
 
+// A price: the cents behind the kind, in bits 8 to 63.
+fn pack_price(cents: u64) -> u64
+    requires { ⌜ cents < 72057594037927936 ⌝ }
+    ensures { λ r. ⌜ r ≡ cost cents ⌝ }
+{
+    DONE as u64 + NUMBER * cents
+}
+
+// What a plan costs, or why it has no price.
+fn price_told(answer: Priced) -> u64
+    requires { ⌜ SmallPrice answer ⌝ }
+    ensures { λ r. ⌜ r ≡ pricedNumber answer ⌝ }
+{
+    match answer {
+        Priced::Cents(cents) => pack_price(cents),
+        Priced::Refused(why) => refused(why),
+    }
+}
+
 // An earliest time: the minute, or the kind for unreachable.
 fn told(answer: EarliestTime) -> u64
     ensures { λ r. ⌜ r ≡ timeNumber answer ⌝ }
@@ -129,6 +154,33 @@ pub extern "C" fn ruhkevois_check(file: &[u8], plan: &[u8], peaks: &mut [u32; Jo
     let day = checker::check(reading.job, plan);
     put_peaks(peaks, day);
     day_told(day, 0)
+}
+
+// What a plan for the job of a file costs at these rates for pools and stores and this evening percentage: the cents, or
+// the first refusal of 1 to 20 and 25.
+#[no_mangle]
+pub extern "C" fn ruhkevois_price(
+    file: &[u8],
+    plan: &[u8],
+    pools: &[u32; Job::POOLS],
+    stores: &[u32; Job::STORES],
+    evening: u32,
+) -> u64
+    ensures { λ r. ⌜ r ≡ priceAnswer (now (file .entry)) (now (plan .entry))
+        (ratesIn (now (pools .entry)) (now (stores .entry)) evening) ⌝ }
+{
+    let reading = reader::read(file);
+    let verdict = reading.verdict;
+    if let Verdict::Refused(why) = verdict {
+        return refused(why);
+    }
+    let rates = Rates {
+        pools: *pools,
+        stores: *stores,
+        evening,
+    };
+    let answer = price::price(reading.job, rates, plan);
+    price_told(answer)
 }
 
 // The earliest time of a set of facts in the job of a file: the minute, unreachable, or the first refusal of 1 to 11

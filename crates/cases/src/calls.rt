@@ -2,6 +2,7 @@
 use crate::Record;
 use crate::lent;
 use crate::lent::front;
+use crate::rates;
 use earliest::EarliestTime;
 use job::Job;
 use job::refusal::Refusal;
@@ -11,6 +12,7 @@ use libc::STDOUT_FILENO;
 use made_jobs::parts::same_everywhere;
 use output::number;
 use output::text;
+use price::Priced;
 use timeline::Day;
 use timeline::Plan;
 
@@ -56,11 +58,12 @@ fn answer_for(job: Job, record: Record, file: &[u8], plan: &[u8]) {
     }
 }
 
-// Of the checker and of the earliest time.
+// Of the checker, of the price and of the earliest time.
 fn answer_asked(job: Job, call: u8, set: u64, plan: &[u8]) {
     match call {
         b'c' => print_checked(checker::check(job, plan)),
         b'g' => print_checked(checker::check_for(job, set, plan)),
+        b'q' => print_price(priced(job, plan)),
         b'e' => print_time(earliest::earliest(job, set)),
         _ => text(b"no such call"),
     }
@@ -117,6 +120,23 @@ fn print_checked(day: Day) {
         Verdict::Pass => print_end(day.end),
         Verdict::Refused(why) => refused(why),
     }
+}
+
+// The price of a plan, before which its rates stand.
+fn priced(job: Job, given: &[u8]) -> Priced {
+    price::price(job, rates::rates_in(given), lent::rest(given, rates::BYTES))
+}
+
+fn print_price(price: Priced) {
+    match price {
+        Priced::Cents(cents) => print_cents(cents),
+        Priced::Refused(why) => refused(why),
+    }
+}
+
+fn print_cents(cents: u64) {
+    number(cents);
+    text(b" cents");
 }
 
 fn print_time(time: EarliestTime) {

@@ -1,7 +1,8 @@
 // Runs the records in the file `records`, which tests/records makes from the tables in tests/tables: one call a record.
-// Prints a line for each, its title and the answer, under headings with the sentence of document 01.
+// Prints a line for each, its title and the answer, under headings with the document's sentence.
 mod calls; // the calls and their answers
 mod lent; // a lent slice, and what it holds afterwards
+mod rates; // the rates of a price
 
 use lent::front;
 use lent::rest;
@@ -12,7 +13,7 @@ const HEAD: usize = 16;
 const BODY: usize = 4_800;
 
 // The head of a record: the letter of its call, the lengths of its title, its file and its body, and the numbers that
-// the call is given. The body is the title, the file and, behind them, a plan.
+// the call is given. The body is the title, the file and, behind them, a plan, before which the rates of a price stand.
 pub struct Record {
     pub call: u8,
     pub title: usize,

@@ -8,6 +8,8 @@ use job::refusal::number;
 use job::same::same;
 use made_jobs::parts;
 use output::text;
+use price::Priced;
+use price::Rates;
 use timeline::Day;
 
 // The shortest day of this job is action 0 at 0 and 1 at 3.
@@ -58,6 +60,22 @@ fn planned(job: Job) -> Day {
     planner::plan(job, &mut slice)
 }
 
+// 5 cents for a unit and quarter hour of the pool, 3 for a unit of the store, and rates that 25 refuses beyond.
+fn rates() -> Rates {
+    Rates {
+        pools: [5, 100_001, 100_001, 100_001],
+        stores: [3, 100_001, 100_001, 100_001],
+        evening: 100,
+    }
+}
+
+fn priced(answer: Priced) {
+    match answer {
+        Priced::Cents(cents) => show(b", price ", cents),
+        Priced::Refused(why) => show(b", price refused ", number(why) as u64),
+    }
+}
+
 fn timed(answer: EarliestTime) {
     match answer {
         EarliestTime::At(minute) => show(b", earliest ", minute as u64),
@@ -66,11 +84,12 @@ fn timed(answer: EarliestTime) {
     }
 }
 
-// What is answered to the job, with this plan for the checker and the goal for the earliest time.
+// What is answered to the job, with this plan for the checker and the price, and the goal for the earliest time.
 fn answers(case: &[u8], job: Job, plan: &[u8]) {
     output::name(case);
     show_day(b"check", checker::check(job, plan));
     show_day(b", plan", planned(job));
+    priced(price::price(job, rates(), plan));
     timed(earliest::earliest(job, job.goal));
     text(b"\n");
 }

@@ -5,6 +5,8 @@ use job::refusal::Verdict;
 use job::refusal::number;
 use jobfile::Written;
 use output::text;
+use price::Priced;
+use price::Rates;
 use timeline::Day;
 
 // What a byte of a lent slice holds before, and the bytes of the longest slice.
@@ -33,6 +35,22 @@ fn timed(answer: EarliestTime) -> u8 {
         EarliestTime::At(_) => 0,
         EarliestTime::Unreachable => 0,
         EarliestTime::Refused(why) => number(why),
+    }
+}
+
+fn priced(answer: Priced) -> u8 {
+    match answer {
+        Priced::Cents(_) => 0,
+        Priced::Refused(why) => number(why),
+    }
+}
+
+// Rates that 25 refuses.
+fn rates_over() -> Rates {
+    Rates {
+        pools: [100_001u32; Job::POOLS],
+        stores: [100_001u32; Job::STORES],
+        evening: 101,
     }
 }
 
@@ -85,6 +103,7 @@ pub fn refusals(case: &[u8], job: Job, length: usize, plan: &[u8], set: u64) {
     lent(job, length);
     show(b", check ", of_day(checker::check(job, plan)));
     show(b", check for ", of_day(checker::check_for(job, set, plan)));
+    show(b", price ", priced(price::price(job, rates_over(), plan)));
     show(b", earliest ", timed(earliest::earliest(job, set)));
     text(b"\n");
 }

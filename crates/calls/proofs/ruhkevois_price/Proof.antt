@@ -1,0 +1,51 @@
+-- `ruhkevois_price` meets its contract: the file is refused, or the price is told.
+-- Assumes nothing.
+use mathlib.Core.Path.{_∙_}
+use Rattle.calls.proofs.CallLaws.{file-refused, price-accepted}
+use borrow.Author.Needs.{needs}
+use Rattle.calls.proofs.ruhkevois_price.Statement.{statement}
+use Rattle.calls.proofs.ruhkevois_price.Tie as tie
+
+read-requires : tie.Need-read-requires
+read-requires c κs = search needs
+
+enum-known-verdict : tie.Need-enum-known-verdict
+enum-known-verdict c = search needs
+
+refused-requires : tie.Need-refused-requires
+refused-requires c κs = search needs
+
+returns : tie.Need-returns
+returns c =
+    let c-read = c .before .before .before .before .read in
+    c .refused .ensures ∙ file-refused _ _ (c-read .ensures .answers) _ (c .before .before .verdict .given .1) _
+
+enum-told : tie.Need-enum-told
+enum-told c = search needs
+
+price-requires : tie.Need-price-requires
+price-requires c κs = search needs
+
+price-told-requires : tie.Need-price-told-requires
+price-told-requires c κs = search needs
+
+returns-2 : tie.Need-returns-2
+returns-2 c =
+    let c-read = c .before .before .before .before .before .before .read in
+    let c-enum-told = c .before .before .before .before .enum-told in
+    let read = c-read .ensures .answers in
+    c .price-told .ensures
+    ∙ price-accepted _ _ read (c-enum-told .given .1) _ _ _ (c .before .price .ensures .answers)
+
+pub ruhkevois-price-spec : {M : Type 1} → statement M
+ruhkevois-price-spec =
+    tie.close
+    (tie.spec
+    read-requires
+    enum-known-verdict
+    refused-requires
+    returns
+    enum-told
+    price-requires
+    price-told-requires
+    returns-2)
