@@ -125,6 +125,10 @@ fn validate(j: &Job) -> Result<(), u64> {
     if j.actions.iter().any(|a| a.pools.iter().chain(&a.stores).any(|&x| x > 1_000_000)) {
         return Err(11);
     }
+    let beyond = |used: &[u32; 4], there: &[u32; 4]| used.iter().zip(there).any(|(x, y)| x > y);
+    if j.actions.iter().any(|a| beyond(&a.pools, &j.pool) || beyond(&a.stores, &j.store)) {
+        return Err(26);
+    }
     Ok(())
 }
 

@@ -103,7 +103,8 @@ rules broken d f e u Facts = f
 rules broken d f e u Effects = e
 rules broken d f e u Uses = u
 
-within-limits : (J : Job) → first (limitRows J) ≡ Pass → Passed J
+-- what the limits say of a job; test 26 adds nothing to it
+pub within-limits : (J : Job) → first (limitRows J) ≡ Pass → Passed J
 unfolding limitRows actionRows
 within-limits J h =
     let t3 = first-pass _ _ _ h in

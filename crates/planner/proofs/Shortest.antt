@@ -14,7 +14,7 @@ use Rattle.job.specs.declared.refusal.Verdict.the-variants.{Pass, Refused}
 use Rattle.job.specs.Job.{Job}
 use Rattle.job.specs.Refusal.{Row, _when_, number, first}
 use Rattle.job.specs.Valid.{jobRows, limitRows, actionRows}
-use Rattle.job.proofs.Passed.{Passed, passed}
+use Rattle.job.proofs.Passed.{Passed, passed, within-limits}
 use Rattle.job.proofs.Table.{pass-of-append}
 use Rattle.timeline.specs.declared.Day.{Day}
 use Rattle.timeline.specs.Accepted.{Accepted}
@@ -54,6 +54,13 @@ tests-before-22 : (J : Job) (slice : List ℕ) → Not22 (planRefusals J slice)
 unfolding jobRows limitRows actionRows
 tests-before-22 J slice =
     (refl, (refl, (refl, (refl, (refl, (refl, (refl, (refl, (refl, (refl, (refl, tt)))))))))))
+
+-- "For jobs that still pass, the shortest day is what it was": of every job within its limits, whether or not 26 holds of
+-- it, the makespan is the least end of its accepted plans
+pub shortest-day-without-26 : (J : Job) → first (limitRows J) ≡ Pass → (e : ℕ) → makespan J (J .goal) ≡ endsAt e
+    → LeastEnd J (J .goal) 0 [] e
+shortest-day-without-26 J limits e ends =
+    least-end-of-makespan J (J .goal) 0 [] (within-limits J limits) (nothing-begun J) e ends
 
 module _ (J : Job) (slice : List ℕ) (answer : Day) (after : List ℕ) where
   -- the end told is the least one of all accepted plans; the slice has such a plan, of at most 32 steps

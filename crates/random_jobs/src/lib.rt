@@ -124,7 +124,7 @@ fn start_of(seed: u64, facts: u8, wanted: u64) -> u64
 pub fn random_job(seed: u64) -> Job {
     let kind = kind_of(seed);
     let facts = facts_of(seed, kind);
-    let pools = availabilities(draw::part(seed, 5), 2);
+    let pools = availabilities(draw::part(seed, 5), 3);
     let stores = availabilities(draw::part(seed, 6), 5);
     let mut job = with_actions(seed, kind, facts);
     let action = job.actions[1];
