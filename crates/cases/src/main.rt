@@ -1,7 +1,8 @@
 // Runs the records in the file `records`, which tests/records makes from the tables in tests/tables: one call a record.
-// Prints a line for each, its title and the answer, under headings with the sentence of document 01.
+// Prints a line for each, its title and the answer, under headings with the sentence of the document.
 mod calls; // the calls and their answers
 mod lent; // a lent slice, and what it holds afterwards
+mod peaks; // the peaks of a day
 
 use lent::front;
 use lent::rest;
