@@ -2,6 +2,7 @@
 use crate::Record;
 use crate::lent;
 use crate::lent::front;
+use crate::peaks;
 use crate::rates;
 use earliest::EarliestTime;
 use job::Job;
@@ -61,8 +62,8 @@ fn answer_for(job: Job, record: Record, file: &[u8], plan: &[u8]) {
 // Of the checker, of the price and of the earliest time.
 fn answer_asked(job: Job, call: u8, set: u64, plan: &[u8]) {
     match call {
-        b'c' => print_checked(checker::check(job, plan)),
-        b'g' => print_checked(checker::check_for(job, set, plan)),
+        b'c' => print_checked(job, checker::check(job, plan)),
+        b'g' => print_checked(job, checker::check_for(job, set, plan)),
         b'q' => print_price(priced(job, plan)),
         b'e' => print_time(earliest::earliest(job, set)),
         _ => text(b"no such call"),
@@ -114,11 +115,24 @@ fn print_end(end: u32) {
     number(end as u64);
 }
 
-fn print_checked(day: Day) {
+// A refusal, beside which the peaks are all zero.
+fn print_no_day(why: Refusal, day: Day) {
+    refused(why);
+    choose(
+        peaks::same(day, Day::refused(why)),
+        b"",
+        b", peaks not zero",
+    );
+}
+
+fn print_checked(job: Job, day: Day) {
     let verdict = day.verdict;
     match verdict {
-        Verdict::Pass => print_end(day.end),
-        Verdict::Refused(why) => refused(why),
+        Verdict::Pass => {
+            print_end(day.end);
+            peaks::print(job, day);
+        }
+        Verdict::Refused(why) => print_no_day(why, day),
     }
 }
 
@@ -147,23 +161,23 @@ fn print_time(time: EarliestTime) {
     }
 }
 
-// Whether the checker accepts the plan with this end.
-fn accepted(job: Job, plan: &[u8], end: u32) -> bool {
+// Whether the checker accepts the plan, with the end and the peaks that are told of it.
+fn accepted(job: Job, plan: &[u8], told: Day) -> bool {
     let day = checker::check(job, plan);
     let verdict = day.verdict;
     match verdict {
-        Verdict::Pass => day.end == end,
+        Verdict::Pass => (day.end == told.end) & peaks::same(day, told),
         Verdict::Refused(_) => false,
     }
 }
 
-// Whether the day's steps stand at the front of the slice and are accepted with its end, and the rest is as before.
+// Whether the day's steps stand at the front of the slice and are accepted as told, and the rest is as before.
 fn handed_out(job: Job, slice: &[u8], day: Day) -> bool {
     if Plan::STEPS < day.steps {
         return false;
     }
     let size = day.steps * Plan::STEP;
-    accepted(job, front(slice, size), day.end) & lent::kept(slice, size)
+    accepted(job, front(slice, size), day) & lent::kept(slice, size)
 }
 
 // The planner is lent a slice of so many bytes.
@@ -173,7 +187,10 @@ fn print_plan(job: Job, length: usize) {
     let verdict = day.verdict;
     match verdict {
         Verdict::Pass => print_day(job, &slice, day),
-        Verdict::Refused(why) => print_no_day(why, &slice),
+        Verdict::Refused(why) => {
+            print_no_day(why, day);
+            choose(lent::kept(&slice, 0), b"", b", wrong bytes");
+        }
     }
 }
 
@@ -182,10 +199,6 @@ fn print_day(job: Job, slice: &[u8], day: Day) {
     text(b", ");
     number(day.steps as u64);
     text(b" steps");
+    peaks::print(job, day);
     choose(handed_out(job, slice, day), b"", b", wrong bytes");
-}
-
-fn print_no_day(why: Refusal, slice: &[u8]) {
-    refused(why);
-    choose(lent::kept(slice, 0), b"", b", wrong bytes");
 }

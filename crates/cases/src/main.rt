@@ -2,6 +2,7 @@
 // Prints a line for each, its title and the answer, under headings with the document's sentence.
 mod calls; // the calls and their answers
 mod lent; // a lent slice, and what it holds afterwards
+mod peaks; // the peaks of a day
 mod rates; // the rates of a price
 
 use lent::front;

@@ -9,6 +9,7 @@ use jobfile::Layout;
 use libc::STDERR_FILENO;
 use libc::STDIN_FILENO;
 use libc::STDOUT_FILENO;
+use timeline::Day;
 use timeline::Plan;
 
 // One byte more than the longest file: an input that fills it is too long.
@@ -69,7 +70,28 @@ fn print_steps(job: Job, steps: usize, plan: [u8; Plan::BYTES])
     }
 }
 
-// A shortest plan of the job: its end, its number of steps, then the steps.
+// The peak of a pool behind a space; nothing for a pool that the job lacks.
+fn print_peak(is_pool: bool, peak: u32) {
+    if is_pool {
+        io::write_all(STDOUT_FILENO, b" ");
+        io::print_decimal(STDOUT_FILENO, peak as u64);
+    }
+}
+
+// The peak of each pool of the job, on one line.
+fn print_peaks(job: Job, day: Day) {
+    let counts = job.counts;
+    let pools = counts.pools;
+    let peaks = day.peaks;
+    io::write_all(STDOUT_FILENO, b"peak");
+    print_peak(0 < pools, peaks[0]);
+    print_peak(1 < pools, peaks[1]);
+    print_peak(2 < pools, peaks[2]);
+    print_peak(3 < pools, peaks[3]);
+    io::write_all(STDOUT_FILENO, b"\n");
+}
+
+// A shortest plan of the job: its end, its number of steps, the peak of each pool, then the steps.
 fn print_day(job: Job) {
     let mut plan = [0u8; Plan::BYTES];
     let day = planner::plan(job, &mut plan);
@@ -78,6 +100,7 @@ fn print_day(job: Job) {
         Verdict::Pass => {
             print_line(b"makespan ", day.end as u64);
             print_line(b"steps ", day.steps as u64);
+            print_peaks(job, day);
             print_steps(job, day.steps, plan);
         }
         Verdict::Refused(why) => {

@@ -1,4 +1,4 @@
-// Both planners on one job. The planner's plan is also checked, and so are the bytes that it leaves.
+// Both planners on one job. The planner's plan is also checked, and so are its peaks and the bytes that it leaves.
 use job::Job;
 use job::refusal::Verdict;
 use second::Makespan;
@@ -37,23 +37,30 @@ fn kept(slice: &[u8], from: usize) -> bool {
     true
 }
 
-// Whether the checker accepts the plan with this end.
-fn accepted(job: Job, plan: &[u8], end: u32) -> bool {
+// Whether two days have the same peaks.
+fn same_peaks(a: Day, b: Day) -> bool {
+    let p = a.peaks;
+    let q = b.peaks;
+    (p[0] == q[0]) & (p[1] == q[1]) & (p[2] == q[2]) & (p[3] == q[3])
+}
+
+// Whether the checker accepts the plan, with the end and the peaks that are told of it.
+fn accepted(job: Job, plan: &[u8], told: Day) -> bool {
     let day = checker::check(job, plan);
     let verdict = day.verdict;
     match verdict {
-        Verdict::Pass => day.end == end,
+        Verdict::Pass => (day.end == told.end) & same_peaks(day, told),
         Verdict::Refused(_) => false,
     }
 }
 
-// Whether the day's steps stand at the front of the slice and are accepted with its end, and the rest is as before.
+// Whether the day's steps stand at the front of the slice and are accepted as told, and the rest is as before.
 fn handed_out(job: Job, slice: &[u8], day: Day) -> bool {
     if Plan::STEPS < day.steps {
         return false;
     }
     let size = day.steps * Plan::STEP;
-    accepted(job, front(slice, size), day.end) & kept(slice, size)
+    accepted(job, front(slice, size), day) & kept(slice, size)
 }
 
 // Whether the planner ends at this minute too.
@@ -74,7 +81,9 @@ fn no_plan(job: Job) -> bool {
     let verdict = day.verdict;
     match verdict {
         Verdict::Pass => false,
-        Verdict::Refused(why) => (job::refusal::number(why) == 22) & kept(&slice, 0),
+        Verdict::Refused(why) => {
+            (job::refusal::number(why) == 22) & same_peaks(day, Day::refused(why)) & kept(&slice, 0)
+        }
     }
 }
 

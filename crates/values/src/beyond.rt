@@ -34,6 +34,16 @@ fn day_with(availability: u32, amount: u32) -> Job {
     job
 }
 
+// The day with two pools, and with uses in the places beyond.
+fn day_with_two_pools() -> Job {
+    let mut job = day();
+    job.pools = [2, 2, 0, 0];
+    let mut action = job.actions[1];
+    action.pools = [1, 2, 9, 9];
+    job.actions[1] = action;
+    parts::with_counts(job, 2, 1, 2)
+}
+
 // The day with an action beyond its two, which 8, 9 and 10 would refuse.
 fn day_with_action() -> Job {
     let three = parts::with_action(day(), parts::action(0, 8, 8, 8));
@@ -45,6 +55,19 @@ fn show(word: &[u8], number: u64) {
     output::number(number);
 }
 
+fn show_peak(word: &[u8], peak: u32) {
+    show(word, peak as u64);
+}
+
+// The peaks in all four places.
+fn show_peaks(day: Day) {
+    let peaks = day.peaks;
+    show_peak(b", peaks ", peaks[0]);
+    show_peak(b" ", peaks[1]);
+    show_peak(b" ", peaks[2]);
+    show_peak(b" ", peaks[3]);
+}
+
 // What the checker or the planner answers.
 fn show_day(call: &[u8], day: Day) {
     text(call);
@@ -53,6 +76,7 @@ fn show_day(call: &[u8], day: Day) {
         Verdict::Pass => show(b" ends ", day.end as u64),
         Verdict::Refused(why) => show(b" refused ", number(why) as u64),
     }
+    show_peaks(day);
 }
 
 fn planned(job: Job) -> Day {
@@ -110,6 +134,7 @@ pub fn ignored() {
         day_with_action(),
         &[0, 0, 0, 1, 3, 0, 2, 5, 0],
     );
+    answers(b"two pools, 9 of 0 beyond", day_with_two_pools(), &plan);
 }
 
 // Whether two values hold the same job.

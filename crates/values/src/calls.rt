@@ -30,6 +30,12 @@ fn of_day(day: Day) -> u8 {
     }
 }
 
+// Whether each of a day's peaks is 0.
+fn no_peaks(day: Day) -> bool {
+    let peaks = day.peaks;
+    (peaks[0] == 0) & (peaks[1] == 0) & (peaks[2] == 0) & (peaks[3] == 0)
+}
+
 fn timed(answer: EarliestTime) -> u8 {
     match answer {
         EarliestTime::At(_) => 0,
@@ -69,7 +75,7 @@ fn kept(slice: &[u8]) -> bool {
 // The writer and the planner, lent the same slice.
 fn lend(job: Job, slice: &mut [u8]) {
     show(b"write ", written(writer::write(job, slice)));
-    show(b", plan ", of_day(planner::plan(job, slice)));
+    show_day(b", plan ", planner::plan(job, slice));
 }
 
 // The same with the first bytes of a slice, so many.
@@ -97,12 +103,20 @@ fn show(call: &[u8], number: u8) {
     output::number(number as u64);
 }
 
+// The refusal of a day, beside which the peaks are all zero.
+fn show_day(call: &[u8], day: Day) {
+    show(call, of_day(day));
+    if !no_peaks(day) {
+        text(b" with peaks");
+    }
+}
+
 // The refusal of each call: with a slice of so many bytes, this plan and this set.
 pub fn refusals(case: &[u8], job: Job, length: usize, plan: &[u8], set: u64) {
     output::name(case);
     lent(job, length);
-    show(b", check ", of_day(checker::check(job, plan)));
-    show(b", check for ", of_day(checker::check_for(job, set, plan)));
+    show_day(b", check ", checker::check(job, plan));
+    show_day(b", check for ", checker::check_for(job, set, plan));
     show(b", price ", priced(price::price(job, rates_over(), plan)));
     show(b", earliest ", timed(earliest::earliest(job, set)));
     text(b"\n");

@@ -31,14 +31,17 @@ slice-aggregate-print-line-2 c = search needs
 print-line-requires-2 : tie.Need-print-line-requires-2
 print-line-requires-2 c κs = search needs
 
+print-peaks-requires : tie.Need-print-peaks-requires
+print-peaks-requires c κs = search needs
+
 print-steps-requires : tie.Need-print-steps-requires
 print-steps-requires c κs =
-    let at5 = c .before .before .before .before .before in
-    let at8 = at5 .before .before .before in
-    let c-args = at8 .before .before .args in
-    let c-plan2 = at8 .plan2 in
+    let at6 = c .before .before .before .before .before .before in
+    let at9 = at6 .before .before .before in
+    let c-args = at9 .before .before .args in
+    let c-plan2 = at9 .plan2 in
     plan-is-shortest (jobIn (c-args .job)) (replicate 96 0) (c-plan2 .result) _ (c-plan2 .ensures)
-    (at5 .enum-told .given .1) .few
+    (at6 .enum-told .given .1) .few
 
 enum-known-verdict : tie.Need-enum-known-verdict
 enum-known-verdict c = search needs
@@ -64,6 +67,7 @@ print-day-spec =
     print-line-requires
     slice-aggregate-print-line-2
     print-line-requires-2
+    print-peaks-requires
     print-steps-requires
     enum-known-verdict
     print-refusal-requires
