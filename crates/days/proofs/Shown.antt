@@ -6,12 +6,12 @@ use native.Mathlib.Omega.{arith}
 use Rattle.lists.specs.Lists.{tabulate, any, Each}
 use Rattle.facts.specs.FactSet.{has, union, difference, subset, meets, foreign}
 use Rattle.encoding.specs.Bytes.{fromBytes, toBytes}
-use Rattle.job.specs.Resources.{storeCap}
+use Rattle.job.specs.Resources.{handover, storeAmount, storeCap}
 use Rattle.job.specs.Job.{Job}
 use Rattle.job.specs.Refusal.{first}
 use Rattle.job.specs.Valid.{actionRows, jobRows}
 use Rattle.timeline.specs.Step.{stepsIn}
-use Rattle.timeline.specs.Timeline.{free, storeUse}
+use Rattle.timeline.specs.Timeline.{free}
 use Rattle.timeline.specs.Accepted.{stepRows, planRows}
 use Rattle.times.specs.Time.{at}
 use Rattle.times.specs.Earliest.{Table, rightSide, Solves}
@@ -44,7 +44,7 @@ x and y = (x, y)
 
 pub days-hold : Each Holds days
 unfolding tabulate any has union difference subset meets foreign fromBytes toBytes first actionRows jobRows stepsIn free
-    storeUse storeCap stepRows planRows checkRows checkPlan rightSide makespanFrom
+    handover storeAmount storeCap stepRows planRows checkRows checkPlan rightSide makespanFrom
 days-hold =
     -- 1, 2, 3
     refl and refl and refl and refl
