@@ -1,5 +1,5 @@
-// Small random jobs for tests: the same seed gives the same job, and every job passes tests 3 to 11 and 26. What stands beyond
-// the counts is drawn as well, since it is to be ignored.
+// Small random jobs for tests: the same seed gives the same job, and every job passes tests 3 to 11 and 26. What stands
+// beyond the counts is drawn as well, since it is to be ignored.
 mod actions; // the actions of a job
 mod draw; // random numbers and sets of facts
 
