@@ -1,5 +1,5 @@
-//! Plain Rust versions of the reader, the writer, the checker, the peaks and the earliest times, written for speed and from the
-//! document alone. The benchmarks compare the proved calls with these, and their answers with each other.
+//! Plain Rust versions of the reader, the writer, the checker, the peaks and the earliest times, written for speed and
+//! from the document alone. The benchmarks compare the proved calls with these, and their answers with each other.
 
 #[derive(Clone, Copy, Default)]
 pub struct Action {
