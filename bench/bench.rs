@@ -60,9 +60,14 @@ fn nanos<T, F: FnMut() -> T>(rounds: u32, mut f: F) -> f64 {
     best
 }
 
-/// An answer without steps.
+/// An answer without steps and peaks.
 fn done(end: usize) -> Answer {
-    Answer::Done { end: end as u32, steps: 0 }
+    Answer::Done { end: end as u32, steps: 0, peaks: [0; 4] }
+}
+
+/// The plan's end and its peaks, which the proved call tells together.
+fn plain_check(job: &plain::Job, plan: &[u8]) -> Result<(u64, [u32; 4]), u64> {
+    plain::check(job, plan).map(|end| (end, plain::peaks(job, plan)))
 }
 
 /// The plain answer as the proved call tells it.
@@ -128,7 +133,7 @@ fn search() {
         let job = small_job(&mut r);
         let file = cases::file(&job);
         let answer = ruhkevois::plan(&file, &mut plan);
-        if let Answer::Done { end, steps: 3.. } = answer {
+        if let Answer::Done { end, steps: 3.., .. } = answer {
             assert_eq!(end.to_string(), planner::plan(&file).0);
             jobs.push(file);
         }
@@ -159,9 +164,9 @@ fn main() {
     assert_eq!(ruhkevois::read(&file), done(file.len()));
     assert_eq!(ruhkevois::rewrite(&file, &mut out), done(file.len()));
     assert_eq!(&out[..file.len()], &file[..]);
-    assert_eq!(ruhkevois::check(&file, &plan), done(1440));
     let job = plain::read(&file).ok().unwrap();
-    assert_eq!(plain::check(&job, &plan), Ok(1440));
+    assert_eq!(plain_check(&job, &plan), Ok((1440, [1, 2, 3, 4])));
+    assert_eq!(ruhkevois::check(&file, &plan), Answer::Done { end: 1440, steps: 0, peaks: [1, 2, 3, 4] });
     println!("| call | proved, µs | plain Rust, µs | ratio |");
     println!("|---|---|---|---|");
     let r = nanos(2000, || ruhkevois::read(black_box(&file)));
@@ -171,7 +176,7 @@ fn main() {
     let w0 = nanos(2000, || plain::write(black_box(&job), black_box(&mut out)).unwrap() as u64);
     row("write it", w - r, w0);
     let c = nanos(500, || ruhkevois::check(black_box(&file), black_box(&plan)));
-    let c0 = nanos(500, || plain::check(black_box(&job), black_box(&plan)).unwrap());
+    let c0 = nanos(500, || plain_check(black_box(&job), black_box(&plan)).unwrap());
     row("check a plan of 32 steps over 1,440 minutes", c - r, c0);
     earliest_times();
     search();

@@ -1,5 +1,5 @@
-//! Plain Rust versions of the reader, the writer, the checker and the earliest times, written for speed and from the
-//! document alone. The benchmarks compare the proved calls with these, and their answers with each other.
+//! Plain Rust versions of the reader, the writer, the checker, the peaks and the earliest times, written for speed and
+//! from the document alone. The benchmarks compare the proved calls with these, and their answers with each other.
 
 #[derive(Clone, Copy, Default)]
 pub struct Action {
@@ -231,6 +231,18 @@ pub fn check(j: &Job, plan: &[u8]) -> Result<u64, u64> {
         return Err(20);
     }
     Ok(end as u64)
+}
+
+/// The most of each pool that is in use in any minute, 0 for a pool that the job lacks: of a plan that is accepted.
+pub fn peaks(j: &Job, plan: &[u8]) -> [u32; 4] {
+    let mut minutes = vec![[0; 4]; j.deadline as usize];
+    for step in plan.chunks_exact(3) {
+        let a = &j.actions[step[0] as usize];
+        for in_use in minutes.iter_mut().skip(u16_at(step, 1)).take(a.duration as usize) {
+            (0..j.pools).for_each(|k| in_use[k] += a.pools[k]);
+        }
+    }
+    [0, 1, 2, 3].map(|k| minutes.iter().map(|in_use| in_use[k]).max().unwrap_or(0))
 }
 
 pub const NONE: u32 = u32::MAX;

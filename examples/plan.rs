@@ -11,6 +11,12 @@ fn length_of_action(file: &[u8], action: u8) -> u16 {
     file[actions + (25 + 4 * pools + 4 * stores) * action as usize] as u16
 }
 
+/// The line of the peaks: a number for each pool of the job.
+fn print_peaks(file: &[u8], peaks: [u32; ruhkevois::POOLS]) {
+    let peaks: String = peaks.iter().take(file[6] as usize / 4).map(|peak| format!(" {peak}")).collect();
+    println!("peak{peaks}");
+}
+
 fn main() -> ExitCode {
     let Some(Ok(file)) = std::env::args().nth(1).map(std::fs::read) else {
         eprintln!("usage: plan FILE, a job file that can be read");
@@ -18,8 +24,9 @@ fn main() -> ExitCode {
     };
     let mut plan = [0; 96];
     let steps = match ruhkevois::plan(&file, &mut plan) {
-        Answer::Done { end, steps } => {
+        Answer::Done { end, steps, peaks } => {
             println!("makespan {end}\nsteps {steps}");
+            print_peaks(&file, peaks);
             &plan[..3 * steps as usize]
         }
         Answer::Refused(number) => {

@@ -17,7 +17,8 @@ int main(int argc, char **argv) {
     size_t length = fread(file, 1, sizeof file, input);
     fclose(input);
 
-    uint64_t answer = ruhkevois_plan(file, length, plan, sizeof plan);
+    uint32_t peaks[RUHKEVOIS_POOLS];
+    uint64_t answer = ruhkevois_plan(file, length, plan, sizeof plan, peaks);
     if (RUHKEVOIS_KIND(answer) == RUHKEVOIS_DONE) {
         size_t bytes = RUHKEVOIS_STEP_BYTES * RUHKEVOIS_STEPS(answer);
         answer = ruhkevois_price(file, length, plan, bytes, pool_rates, store_rates, 50);

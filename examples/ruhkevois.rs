@@ -5,7 +5,7 @@ mod exported {
     extern "C" {
         pub fn ruhkevois_read(file: *const u8, length: usize) -> u64;
         pub fn ruhkevois_rewrite(file: *const u8, length: usize, out: *mut u8, room: usize) -> u64;
-        pub fn ruhkevois_check(file: *const u8, length: usize, plan: *const u8, bytes: usize) -> u64;
+        pub fn ruhkevois_check(file: *const u8, length: usize, plan: *const u8, bytes: usize, peaks: *mut u32) -> u64;
         pub fn ruhkevois_price(
             file: *const u8,
             length: usize,
@@ -16,16 +16,20 @@ mod exported {
             evening: u32,
         ) -> u64;
         pub fn ruhkevois_earliest(file: *const u8, length: usize, set: u64) -> u64;
-        pub fn ruhkevois_plan(file: *const u8, length: usize, out: *mut u8, room: usize) -> u64;
+        pub fn ruhkevois_plan(file: *const u8, length: usize, out: *mut u8, room: usize, peaks: *mut u32) -> u64;
     }
 }
+
+/// The most pools of a job.
+pub const POOLS: usize = 4;
 
 /// An answer, taken apart.
 #[derive(Clone, Copy, Debug, PartialEq, Eq)]
 pub enum Answer {
-    /// A plan's end, an earliest time or a file's length; the number of steps of a plan that was written, else 0.
-    Done { end: u32, steps: u16 },
-    /// A refusal by its number, 1 to 25.
+    /// A plan's end, an earliest time or a file's length; the number of steps of a plan that was written, else 0; for
+    /// each pool the most that a checked or written plan uses together, else 0.
+    Done { end: u32, steps: u16, peaks: [u32; POOLS] },
+    /// A refusal by its number, 1 to 26.
     Refused(u8),
     /// A set of facts that no plan ever has together.
     Unreachable,
@@ -35,7 +39,7 @@ pub enum Answer {
 /// at most 100,000; the evening's percentage, at most 100. Rates beyond the job's pools and stores are ignored.
 #[derive(Clone, Copy, Debug, Default, PartialEq, Eq)]
 pub struct Rates {
-    pub pools: [u32; 4],
+    pub pools: [u32; POOLS],
     pub stores: [u32; 4],
     pub evening: u32,
 }
@@ -44,13 +48,13 @@ pub struct Rates {
 #[derive(Clone, Copy, Debug, PartialEq, Eq)]
 pub enum Price {
     Cents(u64),
-    /// A refusal by its number, 1 to 25.
+    /// A refusal by its number, 1 to 26.
     Refused(u8),
 }
 
-fn unpack(answer: u64) -> Answer {
+fn unpack(answer: u64, peaks: [u32; POOLS]) -> Answer {
     match answer as u8 {
-        0 => Answer::Done { end: (answer >> 16) as u32, steps: (answer >> 48) as u16 },
+        0 => Answer::Done { end: (answer >> 16) as u32, steps: (answer >> 48) as u16, peaks },
         1 => Answer::Refused((answer >> 8) as u8),
         _ => Answer::Unreachable,
     }
@@ -58,18 +62,22 @@ fn unpack(answer: u64) -> Answer {
 
 /// Whether a job file is accepted.
 pub fn read(file: &[u8]) -> Answer {
-    // SAFETY: the pointer and the length are those of a slice that lives until the call returns; so in each call below.
-    unpack(unsafe { exported::ruhkevois_read(file.as_ptr(), file.len()) })
+    // SAFETY: the pointer and the length are those of a slice that lives until the call returns; so in each call below,
+    // where the peaks are an array of four numbers that lives as long.
+    unpack(unsafe { exported::ruhkevois_read(file.as_ptr(), file.len()) }, [0; POOLS])
 }
 
 /// Reads a job file and writes its job again, at the front of `out`.
 pub fn rewrite(file: &[u8], out: &mut [u8]) -> Answer {
-    unpack(unsafe { exported::ruhkevois_rewrite(file.as_ptr(), file.len(), out.as_mut_ptr(), out.len()) })
+    unpack(unsafe { exported::ruhkevois_rewrite(file.as_ptr(), file.len(), out.as_mut_ptr(), out.len()) }, [0; POOLS])
 }
 
 /// Whether a plan is accepted for the job of a file.
 pub fn check(file: &[u8], plan: &[u8]) -> Answer {
-    unpack(unsafe { exported::ruhkevois_check(file.as_ptr(), file.len(), plan.as_ptr(), plan.len()) })
+    let mut peaks = [0; POOLS];
+    let lent = peaks.as_mut_ptr();
+    let answer = unsafe { exported::ruhkevois_check(file.as_ptr(), file.len(), plan.as_ptr(), plan.len(), lent) };
+    unpack(answer, peaks)
 }
 
 /// What a plan for the job of a file costs at these rates.
@@ -82,10 +90,13 @@ pub fn price(file: &[u8], plan: &[u8], rates: &Rates) -> Price {
 
 /// The earliest time of a set of facts in the job of a file.
 pub fn earliest(file: &[u8], set: u64) -> Answer {
-    unpack(unsafe { exported::ruhkevois_earliest(file.as_ptr(), file.len(), set) })
+    unpack(unsafe { exported::ruhkevois_earliest(file.as_ptr(), file.len(), set) }, [0; POOLS])
 }
 
 /// Writes a shortest plan for the job of a file to the front of `out`, which has room for 96 bytes.
 pub fn plan(file: &[u8], out: &mut [u8]) -> Answer {
-    unpack(unsafe { exported::ruhkevois_plan(file.as_ptr(), file.len(), out.as_mut_ptr(), out.len()) })
+    let mut peaks = [0; POOLS];
+    let lent = peaks.as_mut_ptr();
+    let answer = unsafe { exported::ruhkevois_plan(file.as_ptr(), file.len(), out.as_mut_ptr(), out.len(), lent) };
+    unpack(answer, peaks)
 }

@@ -1,5 +1,5 @@
 /*
- * Ruhkevois 0.1.0: shortest field days, with a machine-checked proof. The calls for C.
+ * Ruhkevois 0.2.0: shortest field days, with a machine-checked proof. The calls for C.
  *
  * Link libcalls.a (`rt staticlib calls` writes target/staticlib/libcalls.a, for x86-64 Linux). No call allocates, keeps
  * a pointer, reads or writes a file, or has any state: all are safe from several threads at once.
@@ -21,7 +21,11 @@
  *
  * Of the refusals that hold, the one with the place first in the table is told. The file is looked at first: where
  * both the file and the plan, set or slice are bad, the file's refusal (1 to 11) is the answer. A refusal changes no
- * byte of any slice.
+ * byte of any slice, and no number of `peaks`.
+ *
+ * Peaks. A call that checks a day or hands one out also borrows an array of four numbers. It puts into it for each pool
+ * the most that is in use in any minute, and 0 for a pool that the job lacks. The array is never null and overlaps no
+ * slice of the same call.
  */
 #ifndef RUHKEVOIS_H
 #define RUHKEVOIS_H
@@ -33,7 +37,7 @@
 extern "C" {
 #endif
 
-#define RUHKEVOIS_VERSION "0.1.0"
+#define RUHKEVOIS_VERSION "0.2.0"
 
 /* The kinds of answers. */
 #define RUHKEVOIS_DONE 0
@@ -54,6 +58,9 @@ extern "C" {
 #define RUHKEVOIS_PLAN_BYTES 96
 #define RUHKEVOIS_STEP_BYTES 3
 
+/* The most pools of a job: the numbers in an array of peaks. */
+#define RUHKEVOIS_POOLS 4
+
 /* The action and the start minute of step i of a plan's bytes. */
 #define RUHKEVOIS_ACTION(plan, i) ((unsigned)(plan)[3 * (i)])
 #define RUHKEVOIS_START(plan, i) ((unsigned)(plan)[3 * (i) + 1] | (unsigned)(plan)[3 * (i) + 2] << 8)
@@ -73,9 +80,11 @@ uint64_t ruhkevois_rewrite(const uint8_t *file, size_t file_length, uint8_t *out
 
 /*
  * Whether a plan is accepted for the job of a file and its goal.
- * Done: end is the plan's end. Refused: 1 to 11 for the file, then 12 to 20 for the plan.
+ * Done: end is the plan's end, and `peaks` has the peak of each pool.
+ * Refused: 1 to 11 for the file, then 12 to 20 for the plan; `peaks` is kept as it was.
  */
-uint64_t ruhkevois_check(const uint8_t *file, size_t file_length, const uint8_t *plan, size_t plan_length);
+uint64_t ruhkevois_check(const uint8_t *file, size_t file_length, const uint8_t *plan, size_t plan_length,
+    uint32_t peaks[RUHKEVOIS_POOLS]);
 
 /*
  * What a plan for the job of a file costs, in cents. `pool_rates` has a rate for a unit of each of four pools and a
@@ -90,8 +99,8 @@ uint64_t ruhkevois_price(const uint8_t *file, size_t file_length, const uint8_t 
                          const uint32_t pool_rates[4], const uint32_t store_rates[4], uint32_t evening);
 
 /*
- * The earliest time of a set of facts (fact n is bit n): no plan for the job of the file has all of them together before
- * that minute.
+ * The earliest time of a set of facts (fact n is bit n): no plan for the job of the file has all of them together
+ * before that minute.
  * Done: end is the minute, at most 530,400. Unreachable: no plan ever has all of them. Refused: 1 to 11, then 24.
  */
 uint64_t ruhkevois_earliest(const uint8_t *file, size_t file_length, uint64_t set);
@@ -99,11 +108,13 @@ uint64_t ruhkevois_earliest(const uint8_t *file, size_t file_length, uint64_t se
 /*
  * Writes a shortest plan for the job of a file to the front of `out`, which has room for 96 bytes.
  * Done: end is the plan's end, and no accepted plan ends earlier; steps is its number of steps, three bytes each; the
- * bytes of `out` behind them are kept.
- * Refused: 1 to 11 for the file; 21 where `out` has under 96 bytes; 22 where the job has no plan.
+ * bytes of `out` behind them are kept. `peaks` has the peak of each pool in that plan.
+ * Refused: 1 to 11 for the file; 21 where `out` has under 96 bytes; 22 where the job has no plan; `out` and `peaks` are
+ * kept as they were.
  * The search takes as long as the job demands: README.md says how to bound it.
  */
-uint64_t ruhkevois_plan(const uint8_t *file, size_t file_length, uint8_t *out, size_t out_length);
+uint64_t ruhkevois_plan(const uint8_t *file, size_t file_length, uint8_t *out, size_t out_length,
+    uint32_t peaks[RUHKEVOIS_POOLS]);
 
 #ifdef __cplusplus
 }

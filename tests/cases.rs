@@ -93,7 +93,20 @@ pub fn job(r: &mut Random, size: &Size) -> Job {
     };
     let count = if r.one_in(20) { 0 } else { 1 + r.below(size.actions) };
     job.actions = (0..count).map(|_| action(r, &job, size)).collect();
+    if !r.one_in(8) {
+        within_available(&mut job);
+    }
     job
+}
+
+/// No action uses more of a pool or store than there is, so that the job is not refused by 26.
+fn within_available(job: &mut Job) {
+    for a in &mut job.actions {
+        for k in 0..4 {
+            a.pools[k] = a.pools[k].min(job.pool[k]);
+            a.stores[k] = a.stores[k].min(job.store[k]);
+        }
+    }
 }
 
 /// The file of a job, within the limits or not.

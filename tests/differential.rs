@@ -14,7 +14,7 @@ use plain_price::Rates;
 extern "C" {
     fn ruhkevois_read(file: *const u8, length: usize) -> u64;
     fn ruhkevois_rewrite(file: *const u8, length: usize, out: *mut u8, room: usize) -> u64;
-    fn ruhkevois_check(file: *const u8, length: usize, plan: *const u8, bytes: usize) -> u64;
+    fn ruhkevois_check(file: *const u8, length: usize, plan: *const u8, bytes: usize, peaks: *mut u32) -> u64;
     fn ruhkevois_price(
         file: *const u8,
         length: usize,
@@ -25,10 +25,13 @@ extern "C" {
         evening: u32,
     ) -> u64;
     fn ruhkevois_earliest(file: *const u8, length: usize, set: u64) -> u64;
-    fn ruhkevois_plan(file: *const u8, length: usize, out: *mut u8, room: usize) -> u64;
+    fn ruhkevois_plan(file: *const u8, length: usize, out: *mut u8, room: usize, peaks: *mut u32) -> u64;
 }
 
 const UNREACHABLE: u64 = 2;
+
+/// What stands before a call in the array that is lent for the peaks, and around it.
+const BEFORE: [u32; 6] = [0xa1b2_c3d4, 1, 0xffff_ffff, 0x8000_0000, 77, 0xa1b2_c3d4];
 
 fn done(end: u64, steps: u64) -> u64 {
     end << 16 | steps << 48
@@ -43,12 +46,15 @@ fn expected(end: Result<u64, u64>) -> u64 {
     end.map_or_else(refused, |end| done(end, 0))
 }
 
-/// What was seen: refusals by number (0: done), prices by their bits, accepted plans and planned ones by their steps.
+/// What was seen: refusals by number (0: done), prices by their bits, accepted plans and planned ones by their steps, days
+/// by the number of pools that are in use at some minute, and days with a pool of which all is in use.
 struct Seen {
-    refusals: [u64; 26],
+    refusals: [u64; 27],
     prices: [u64; 65],
     accepted: [u64; 33],
     planned: [u64; 33],
+    pools: [u64; 5],
+    full: u64,
 }
 
 /// One case: its seed, and what was seen in all cases.
@@ -77,6 +83,20 @@ impl Case<'_> {
         }
     }
 
+    /// The array lent for the peaks: those of the plan for this job, or what it held before where there is no day.
+    fn same_peaks(&mut self, what: &str, got: [u32; 6], job: Option<&Job>, plan: &[u8]) {
+        let mut want = BEFORE;
+        if let Some(job) = job {
+            let peaks = plain::peaks(job, plan);
+            want[1..5].copy_from_slice(&peaks);
+            self.seen.pools[peaks.iter().filter(|&&peak| peak > 0).count()] += 1;
+            self.seen.full += (0..4).any(|k| 0 < peaks[k] && peaks[k] == job.pool[k]) as u64;
+        }
+        if got != want {
+            self.differs(what, format!("got {got:?}, expected {want:?}"));
+        }
+    }
+
     fn read(&mut self, file: &[u8], job: &Result<Job, u64>) {
         let answer = unsafe { ruhkevois_read(file.as_ptr(), file.len()) };
         let want = job.as_ref().map(|_| file.len() as u64).map_err(|n| *n);
@@ -98,9 +118,12 @@ impl Case<'_> {
     }
 
     fn check(&mut self, file: &[u8], job: &Result<Job, u64>, plan: &[u8]) {
-        let answer = unsafe { ruhkevois_check(file.as_ptr(), file.len(), plan.as_ptr(), plan.len()) };
+        let mut peaks = BEFORE;
+        let lent = peaks[1..5].as_mut_ptr();
+        let answer = unsafe { ruhkevois_check(file.as_ptr(), file.len(), plan.as_ptr(), plan.len(), lent) };
         let want = job.as_ref().map_err(|n| *n).and_then(|job| plain::check(job, plan));
         self.same("check", answer, expected(want));
+        self.same_peaks("peaks of check", peaks, job.as_ref().ok().filter(|_| want.is_ok()), plan);
         self.seen.accepted[if answer & 255 == 0 { plan.len() / 3 } else { 0 }] += 1;
     }
 
@@ -143,7 +166,9 @@ impl Case<'_> {
         let mut around = r.bytes(room + 32);
         let before = around.clone();
         let out = &mut around[16..16 + room];
-        let answer = unsafe { ruhkevois_plan(file.as_ptr(), file.len(), out.as_mut_ptr(), room) };
+        let mut peaks = BEFORE;
+        let lent = peaks[1..5].as_mut_ptr();
+        let answer = unsafe { ruhkevois_plan(file.as_ptr(), file.len(), out.as_mut_ptr(), room, lent) };
         let steps = (answer >> 48) as usize;
         let want = match job {
             Err(number) => refused(*number),
@@ -155,7 +180,9 @@ impl Case<'_> {
         self.same_bytes("slice before the plan", &around[..16], &before[..16]);
         self.same_bytes("slice behind the plan", &around[16 + written..], &before[16 + written..]);
         let plan = around[16..16 + written].to_vec();
-        let job = job.as_ref().ok().filter(|_| answer & 255 == 0)?;
+        let job = job.as_ref().ok().filter(|_| answer & 255 == 0);
+        self.same_peaks("peaks of plan", peaks, job, &plan);
+        let job = job?;
         self.same("end of the plan", expected(plain::check(job, &plan)), expected(Ok(answer >> 16 & 0xffff_ffff)));
         self.seen.planned[steps] += 1;
         Some(plan)
@@ -192,6 +219,7 @@ fn every_call(case: &mut Case, r: &mut Random, file: &[u8], is_small: bool) {
     if is_small || job.is_err() {
         let room = if r.one_in(8) { r.below(96) } else { 96 + r.below(20) };
         if let Some(plan) = case.plan(r, file, &job, room as usize) {
+            case.check(file, &job, &plan);
             case.prices(r, file, &job, &plan);
             case.check(file, &job, &cases::damage_plan(r, plan));
         }
@@ -204,7 +232,7 @@ fn grown_plans(case: &mut Case, r: &mut Random, job: Job) {
     let (plan, held) = cases::grown_plan(r, &job);
     job.goal = held & r.next();
     let file = cases::file(&job);
-    let job = Ok(job);
+    let job = plain::read(&file);
     case.check(&file, &job, &plan);
     for _ in 0..4 {
         case.prices(r, &file, &job, &plan);
@@ -255,7 +283,8 @@ fn counts(of: &[u64]) -> String {
 fn main() {
     let argument = |i: usize, other: u64| std::env::args().nth(i).map_or(other, |x| x.parse().expect("a number"));
     let (count, first) = (argument(1, 100_000), argument(2, 1));
-    let mut seen = Seen { refusals: [0; 26], prices: [0; 65], accepted: [0; 33], planned: [0; 33] };
+    let mut seen =
+        Seen { refusals: [0; 27], prices: [0; 65], accepted: [0; 33], planned: [0; 33], pools: [0; 5], full: 0 };
     for seed in first..first + count {
         one_case(&mut Case { seed, seen: &mut seen });
     }
@@ -263,5 +292,6 @@ fn main() {
     println!("prices, by bits: {}", counts(&seen.prices));
     println!("plans accepted, by steps: {}", counts(&seen.accepted));
     println!("plans written, by steps: {}", counts(&seen.planned));
+    println!("days, by pools in use: {}; all of a pool x {}", counts(&seen.pools), seen.full);
     println!("{count} cases from seed {first}: {} answers, all the same", seen.refusals.iter().sum::<u64>());
 }
