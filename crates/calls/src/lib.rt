@@ -138,8 +138,8 @@ pub extern "C" fn ruhkevois_rewrite(file: &[u8], out: &mut [u8]) -> u64
     written(answer)
 }
 
-// Whether a plan is accepted for the job of a file: its end, with the peak of each pool in the array, or the first refusal
-// of 1 to 20, which leaves the array as it was.
+// Whether a plan is accepted for the job of a file: its end, with the peak of each pool in the array, or the first
+// refusal of 1 to 20, which leaves the array as it was.
 #[no_mangle]
 pub extern "C" fn ruhkevois_check(file: &[u8], plan: &[u8], peaks: &mut [u32; Job::POOLS]) -> u64
     ensures { λ r. ⌜ r ≡ checkAnswer (now (file .entry)) (now (plan .entry)) ⌝ }
@@ -198,9 +198,9 @@ pub extern "C" fn ruhkevois_earliest(file: &[u8], set: u64) -> u64
     told(answer)
 }
 
-// Writes a shortest plan for the job of a file to the front of the slice: its end and its number of steps, with the peak
-// of each pool in the array, or the first refusal of 1 to 11, 21 and 22. The bytes behind the plan are kept; a refusal
-// changes nothing.
+// Writes a shortest plan for the job of a file to the front of the slice: its end and its number of steps, with the
+// peak of each pool in the array, or the first refusal of 1 to 11, 21 and 22. The bytes behind the plan are kept; a
+// refusal changes nothing.
 #[no_mangle]
 pub extern "C" fn ruhkevois_plan(file: &[u8], out: &mut [u8], peaks: &mut [u32; Job::POOLS]) -> u64
     ensures { λ r. ⌜ PlanAnswers (now (file .entry)) (now (out .entry)) (now (peaks .entry)) r (now (out .exit))

@@ -49,7 +49,8 @@ module _ (job : held.Job) (goal : ℕ) (bytes : List ℕ) (r : CheckedPlan) wher
   pub checks-decoded : (plan : Plan) → Decodes job bytes plan
       → first (planRows (jobIn job) goal bytes) ≡ first (stepRows (jobIn job) goal (stepsIn (jobIn job) bytes))
       → (c : Checked) → c ≡ checkedOf (first (stepRows (jobIn job) goal (stepsOf plan))) (stepsOf plan)
-      → r .day ≡ dayBy c (plan .length) (peaks (jobIn job) (stepsOf plan)) → (r .day .verdict ≡ Pass → r .plan ≡ plan) → ChecksPlan job goal bytes r
+      → r .day ≡ dayBy c (plan .length) (peaks (jobIn job) (stepsOf plan))
+      → (r .day .verdict ≡ Pass → r .plan ≡ plan) → ChecksPlan job goal bytes r
   checks-decoded plan decodes rows c checked day same =
       let J = jobIn job in
       let count = length-tabulate (plan .length) (stepAt plan) in

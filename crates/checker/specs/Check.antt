@@ -26,7 +26,7 @@ use Rattle.checker.specs.declared.CheckedPlan.{CheckedPlan}
 unfoldable pub checkRows : Job → List ℕ → List Row
 checkRows J bytes = jobRows J ++ planRows J (J .goal) bytes
 
--- "the checker returns the end", and the number of steps
+-- "the checker returns the end", the number of steps and "the largest such amount for each of four pools"
 unfoldable pub checkPlan : Job → List ℕ → Day
 checkPlan J bytes = dayOf (first (checkRows J bytes)) J (stepsIn J bytes)
 

@@ -30,8 +30,8 @@ pub record RefusedWith (why : Refusal) (slice : List ℕ) (answer : Day) (after 
   pub replies : dayReply answer ≡ refused (number why)
   pub keeps : after ≡ slice
 
--- "returns the end and number of steps", and the peaks of its pools, "and writes those steps at the front of the slice, the rest kept"; which of the
--- plans that end at e is left open
+-- "returns the end and number of steps and writes those steps at the front of the slice, the rest kept"; also "the
+-- largest such amount for each of four pools"; which of the plans that end at e is left open
 pub record HandsOut (J : Job) (slice : List ℕ) (e : ℕ) (answer : Day) (after : List ℕ) : Type 0 where
   pub bytes : List ℕ
   pub accepted : Accepted J (J .goal) bytes

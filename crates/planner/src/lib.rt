@@ -29,8 +29,8 @@ fn copy_plan(out: &mut [u8], answer: Answer)
     }
 }
 
-// Writes a shortest plan to the front of the slice, and returns its end and its number of steps. A refusal changes no
-// byte.
+// Writes a shortest plan to the front of the slice, and returns its end, its number of steps and its peaks. A refusal
+// changes no byte.
 pub fn plan(job: Job, out: &mut [u8]) -> Day
     ensures { λ r. ⌜ Plans (jobIn job) (now (out .entry)) r (now (out .exit)) ⌝ }
 {

@@ -1,5 +1,5 @@
--- The peak of a pool is its largest use where a step starts; the pool is exceeded exactly if its peak is more than there
--- is.
+-- The peak of a pool is its largest use where a step starts; the pool is exceeded exactly if its peak is more than
+-- there is.
 -- Assumes nothing.
 use Prim.Native.Nat.{ℕ, zero, suc, _<_, _≤_}
 use mathlib.Core.Path.{_≡_}

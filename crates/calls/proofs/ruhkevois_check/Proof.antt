@@ -42,7 +42,8 @@ returns-2 c =
     let c-check = c .before .before .before .check in (
       c .day-told .ensures
           ∙ check-accepted _ _ (c-read .ensures .answers) (c-enum-told .given .1) _ _ (c-check .ensures .answers),
-      peaks-told _ _ (c-read .ensures .answers) (c-enum-told .given .1) _ _ _ _ (c-check .ensures .answers) (c .before .put-peaks .ensures),
+      peaks-told _ _ (c-read .ensures .answers) (c-enum-told .given .1) _ _ _ _ (c-check .ensures .answers)
+          (c .before .put-peaks .ensures),
     )
 
 pub ruhkevois-check-spec : {M : Type 1} → statement M

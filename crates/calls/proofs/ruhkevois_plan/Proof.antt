@@ -37,7 +37,8 @@ cast-day-told c =
     let c-args = at8 .before .before .before .before .args in
     let c-read = at8 .before .read in
     let c-plan = c .before .before .before .before .before .plan in
-    let few = planned-steps-are-few (jobIn (c-read .result .job)) (c-args .out .now) (c-plan .result) _ (c-plan .ensures) in
+    let few = planned-steps-are-few (jobIn (c-read .result .job)) (c-args .out .now) (c-plan .result) _
+    (c-plan .ensures) in
     record { fits = omega arith }
 
 day-told-requires : tie.Need-day-told-requires

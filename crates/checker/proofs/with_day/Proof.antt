@@ -29,7 +29,8 @@ returns : tie.Need-returns
 returns c =
     let c-args = c .before .before .before .before .args in
     let most = peaks (jobIn (c-args .job)) (stepsOf (c-args .plan)) in (
-      c .refused-plan .ensures ∙ sym (ap (λ (x : Checked). dayBy x (c-args .plan .length) most) (c .before .before .checked .given .1)),
+      c .refused-plan .ensures
+          ∙ sym (ap (λ (x : Checked). dayBy x (c-args .plan .length) most) (c .before .before .checked .given .1)),
       λ p. absurd (not-passed _ _ (c .refused-plan .ensures) p),
     )
 
@@ -37,7 +38,8 @@ returns-2 : tie.Need-returns-2
 returns-2 c =
     let c-args = c .before .before .before .before .args in
     let most = peaks (jobIn (c-args .job)) (stepsOf (c-args .plan)) in (
-      rw (c .peaks .ensures) (sym (ap (λ (x : Checked). dayBy x (c-args .plan .length) most) (c .before .before .checked2 .given .1))),
+      rw (c .peaks .ensures)
+          (sym (ap (λ (x : Checked). dayBy x (c-args .plan .length) most) (c .before .before .checked2 .given .1))),
       λ p. refl,
     )
 
