@@ -20,6 +20,7 @@ pub struct Landmarks {
     marks: [u64; 64],       // its landmarks
     stores: [[u64; 64]; 4], // for each store, what it takes at least, in parts
     pools: [[u64; 64]; 4],  // for each pool, what it takes at least over its minutes, in parts
+    steps: [u64; 64],       // what it takes of the steps at least, in parts
     opens: [u32; 4],        // before which minute no plan uses the pool
     apart: [u64; 64],       // the facts whose adders never overlap its own
     least: [u32; 64],       // the least minutes of an adder; 0 where no fact is apart from it
@@ -32,6 +33,7 @@ impl Landmarks {
             marks: find_marks(rows, job.start),
             stores: std::array::from_fn(|k| find_shares(rows, job.start, |row| row.stores[k])),
             pools: std::array::from_fn(|k| find_shares(rows, job.start, |row| row.pools[k] * row.duration as u64)),
+            steps: find_shares(rows, job.start, |_| 1),
             opens: std::array::from_fn(|k| find_opening(rows, times, k)),
             apart,
             least: std::array::from_fn(|q| find_least(rows, apart[q], q)),
@@ -51,6 +53,11 @@ impl Landmarks {
     /// What the facts of a set take of a pool at least, each minute for itself, in parts.
     pub fn of_pool(&self, pool: usize, set: u64) -> u64 {
         members(set).map(|p| self.pools[pool][p]).sum()
+    }
+
+    /// What the facts of a set take of the steps at least, in parts.
+    pub fn of_steps(&self, set: u64) -> u64 {
+        members(set).map(|p| self.steps[p]).sum()
     }
 
     /// The minute before which no plan uses a pool.

@@ -277,11 +277,12 @@ impl Search<'_> {
         used <= SCALE * self.job.pool[k] as u64 * st.minute.saturating_sub(from) as u64
     }
 
-    /// Whether stores, pools and minutes suffice for what is missing: the landmarks of what must hold at the state's
+    /// Whether steps, stores, pools and minutes suffice for what is missing: the landmarks of what must hold at the state's
     /// minute, without what the kept steps add.
     fn suffices(&self, st: &State) -> bool {
         let missing = self.landmarks.of(st.wanted | st.at.across) & !self.given;
-        (0..self.job.stores).all(|k| self.store_suffices(st, missing, k))
+        self.landmarks.of_steps(missing) + SCALE * st.steps().len() as u64 <= SCALE * 32
+            && (0..self.job.stores).all(|k| self.store_suffices(st, missing, k))
             && (0..self.job.pools).all(|k| self.pool_suffices(st, missing, k))
             && self.landmarks.minutes(missing) <= st.minute - self.begun.first
     }

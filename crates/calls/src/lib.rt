@@ -25,7 +25,8 @@ const REFUSED: u8 = 1;
 
 const UNREACHABLE: u8 = 2;
 
-// What the parts behind the kind are multiplied by: the refusal's number begins at bit 8, the end at 16, the steps at 48.
+// What the parts behind the kind are multiplied by: the refusal's number begins at bit 8, the end at bit 16, the steps
+// at bit 48.
 const NUMBER: u64 = 256;
 
 const END: u64 = 65_536;
@@ -109,7 +110,7 @@ fn told(answer: EarliestTime) -> u64
     }
 }
 
-// Whether a job file is accepted: its length, or the first refusal of 1 to 11.
+// Whether a job file is accepted: its length, or the first refusal of 1 to 11 and 26.
 #[no_mangle]
 pub extern "C" fn ruhkevois_read(file: &[u8]) -> u64
     ensures { λ r. ⌜ r ≡ readAnswer (now (file .entry)) ⌝ }
@@ -122,7 +123,7 @@ pub extern "C" fn ruhkevois_read(file: &[u8]) -> u64
     pack(DONE, 0, file.len() as u32, 0)
 }
 
-// Reads a job file and writes it again to the front of the slice: its length, or the first refusal of 1 to 11 and 23.
+// Reads a job file and writes it again to the front of the slice: its length, or the first refusal of 1 to 11, 26, 23.
 // The bytes behind the file are kept; a refusal changes no byte.
 #[no_mangle]
 pub extern "C" fn ruhkevois_rewrite(file: &[u8], out: &mut [u8]) -> u64
@@ -156,8 +157,8 @@ pub extern "C" fn ruhkevois_check(file: &[u8], plan: &[u8], peaks: &mut [u32; Jo
     day_told(day, 0)
 }
 
-// What a plan for the job of a file costs at these rates for pools and stores and this evening percentage: the cents, or
-// the first refusal of 1 to 20 and 25.
+// What a plan for the job of a file costs at these rates for pools and stores and this evening percentage: the cents,
+// or the first refusal of 1 to 20, 26 and 25.
 #[no_mangle]
 pub extern "C" fn ruhkevois_price(
     file: &[u8],
@@ -183,8 +184,8 @@ pub extern "C" fn ruhkevois_price(
     price_told(answer)
 }
 
-// The earliest time of a set of facts in the job of a file: the minute, unreachable, or the first refusal of 1 to 11
-// and 24.
+// The earliest time of a set of facts in the job of a file: the minute, unreachable, or the first refusal of 1 to
+// 11, 26 and 24.
 #[no_mangle]
 pub extern "C" fn ruhkevois_earliest(file: &[u8], set: u64) -> u64
     ensures { λ r. ⌜ EarliestAnswers (now (file .entry)) set r ⌝ }
@@ -199,7 +200,7 @@ pub extern "C" fn ruhkevois_earliest(file: &[u8], set: u64) -> u64
 }
 
 // Writes a shortest plan for the job of a file to the front of the slice: its end and its number of steps, with the
-// peak of each pool in the array, or the first refusal of 1 to 11, 21 and 22. The bytes behind the plan are kept; a
+// peak of each pool in the array, or the first refusal of 1 to 11, 26, 21, 22. The bytes behind the plan are kept; a
 // refusal changes nothing.
 #[no_mangle]
 pub extern "C" fn ruhkevois_plan(file: &[u8], out: &mut [u8], peaks: &mut [u32; Job::POOLS]) -> u64

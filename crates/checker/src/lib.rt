@@ -102,7 +102,7 @@ fn with_day(job: Job, plan: Plan, checked: Checked) -> CheckedPlan
     }
 }
 
-// Tests 12 to 20 with a goal, of a job that passes 3 to 11.
+// Tests 12 to 20 with a goal, of a job that passes its own tests.
 pub fn checked_plan(job: Job, goal: u64, bytes: &[u8]) -> CheckedPlan
     requires { ⌜ Valid job ⌝ }
     ensures { λ r. ⌜ ChecksPlan job goal (now (bytes .entry)) r ⌝ }
@@ -129,7 +129,7 @@ pub fn check(job: Job, plan: &[u8]) -> Day
     checked.day
 }
 
-// Whether the plan is accepted for another goal: as above, with 24 for a foreign fact after 3 to 11.
+// Whether the plan is accepted for another goal: as above, with 24 for a foreign fact after the job's tests.
 pub fn check_for(job: Job, goal: u64, plan: &[u8]) -> Day
     ensures { λ r. ⌜ r ≡ checkFor (jobIn job) goal (now (plan .entry)) ⌝ }
 {

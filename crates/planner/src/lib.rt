@@ -1,5 +1,5 @@
 // The planner: a job and a lent slice in; a shortest plan at the front of the slice, or the first refusal of 3 to 11,
-// 21 and 22.
+// 26, 21 and 22.
 ghost use mathlib.Core.Path.{_≡_};
 ghost use Prim.Native.Nat.{_*_, _≤_};
 ghost use lib.ListN.{length};

@@ -1,4 +1,4 @@
-// The reader: any bytes in; the job in them, or the first refusal of 1 to 11, out. One pass over the bytes.
+// The reader: any bytes in; the job in them, or the first refusal of 1 to 11 and 26, out. One pass over the bytes.
 mod action; // one action of a body, taken apart
 mod decode; // the four bodies of a file to a job
 mod view; // the actions body, as a view of the lent file
@@ -84,7 +84,7 @@ fn refused(why: Refusal) -> Reading
     }
 }
 
-// The job in a file, or the first refusal of 1 to 11 with a job of zeros.
+// The job in a file, or the first refusal of 1 to 11 and 26 with a job of zeros.
 pub fn read(file: &[u8]) -> Reading
     ensures { λ r. ⌜ Reads (now (file .entry)) r ⌝ }
 {

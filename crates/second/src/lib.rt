@@ -91,7 +91,7 @@ fn least_horizon(day: Day, state: State, deadline: u16) -> Makespan
     Makespan::NoPlan
 }
 
-// The least end of the accepted plans of a job that passes tests 3 to 11. A job with over 8 actions, a deadline over 60
+// The least end of the accepted plans of a job that passes its tests. A job with over 8 actions, a deadline over 60
 // or too many plans is too large.
 pub fn shortest(job: Job) -> Makespan {
     let counts = job.counts;

@@ -7,14 +7,14 @@ use std::num::wrapping_add_u64;
 
 // What is counted over many jobs. No sum comes near 64 bits.
 struct Totals {
-    invalid: u64, // jobs that fail one of tests 3 to 11
+    invalid: u64, // jobs that fail one of their tests
     plans: u64,
     no_plan: u64,
     too_large: u64,
     ends: u64, // the sum of the least ends
 }
 
-// 0 for a job that passes tests 3 to 11, otherwise 1.
+// 0 for a job that passes its tests, otherwise 1.
 fn invalid(job: Job) -> u64 {
     match validate(job) {
         Verdict::Pass => 0,

@@ -1,5 +1,5 @@
-// Job values that no file holds, handed to the calls without the reader: values that 3 to 11 refuse, other numbers
-// beyond the counts, and whether two values hold the same job. Prints a line for each. What a file can hold stands in
+// Job values that no file holds, handed to the calls without the reader: values that 3 to 11 and 26 refuse, other
+// numbers beyond the counts, and whether two values hold the same job. Prints a line for each. What a file can hold stands in
 // tests/tables.
 mod refused; // the cases
 mod beyond;

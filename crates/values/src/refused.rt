@@ -1,4 +1,4 @@
-// Jobs that every call refuses by 3 to 11.
+// Jobs that every call refuses by 3 to 11 or 26.
 use crate::calls::ROOM;
 use crate::calls::refusals;
 use crate::jobs;
@@ -62,7 +62,7 @@ fn with_last(case: &[u8], action: Action) {
     alone(case, jobs::with_action(jobs::base(), 1, action));
 }
 
-// 8 to 11.
+// 8 to 11, then 26.
 pub fn actions() {
     with_last(b"8, length 0", action(0, 2, 1, 0, 3, 7));
     with_last(b"9, 2 facts, needs {2}", action(1, 4, 1, 0, 3, 7));
@@ -71,6 +71,14 @@ pub fn actions() {
     with_last(b"10, adds {0}, deletes {0}", action(1, 2, 1, 1, 3, 7));
     with_last(b"11, pool use 1,000,001", action(1, 2, 1, 0, 1_000_001, 7));
     with_last(b"11, store use 1,000,001", action(1, 2, 1, 0, 3, 1_000_001));
+    alone(
+        b"26, pool of 999,999",
+        jobs::with_first_pool(jobs::base(), 999_999),
+    );
+    alone(
+        b"26, store of 999,999",
+        jobs::with_first_store(jobs::base(), 999_999),
+    );
 }
 
 // With no byte to write to, a plan of one byte and a set of every bit: 23, 21, 12 and 24 hold too.
