@@ -47,7 +47,7 @@ pub fn any(r: &mut Random) -> Job {
             needs: r.set(facts, rare),
             adds,
             deletes: r.set(facts, rare) & !adds,
-            pools: [r.below(3) as u32, r.below(3) as u32, 0, 0],
+            pools: [(r.below(3) as u32).min(j.pool[0]), (r.below(3) as u32).min(j.pool[1]), 0, 0],
             stores: [0; 4],
         });
         if j.pools < 2 {
