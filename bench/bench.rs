@@ -10,6 +10,9 @@ mod rows;
 #[path = "../tests/cases.rs"]
 mod cases;
 #[allow(dead_code)]
+#[path = "../tests/plain_price.rs"]
+mod plain_price;
+#[allow(dead_code)]
 #[path = "../examples/ruhkevois.rs"]
 mod ruhkevois;
 use ruhkevois::Answer;
