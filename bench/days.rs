@@ -33,13 +33,15 @@ fn job(facts: u8, start: u64, goal: u64, actions: Vec<Action>) -> Job {
     Job { facts, deadline: 1440, start, goal, pools: 0, stores: 0, pool: [0; 4], store: [0; 4], actions }
 }
 
-/// A small job with any sets, pools that forbid some choices, and lengths that often agree.
+/// A small job with any sets, pools that forbid some choices, and lengths that often agree. No action uses more of a pool
+/// than there is, so that the job is not refused by 26.
 pub fn any(r: &mut Random) -> Job {
     let facts = r.below(9);
     let rare = 2 + r.below(3);
     let mut j = job(facts as u8, r.set(facts, 3), 0, Vec::new());
     j.pools = r.below(3) as usize;
-    j.pool = [r.below(4) as u32, r.below(4) as u32, 0, 0];
+    let available = [r.below(4) as u32, r.below(4) as u32];
+    j.pool[..j.pools].copy_from_slice(&available[..j.pools]);
     for _ in 0..r.below(9) {
         let adds = r.set(facts, rare);
         j.actions.push(Action {
@@ -50,15 +52,6 @@ pub fn any(r: &mut Random) -> Job {
             pools: [(r.below(3) as u32).min(j.pool[0]), (r.below(3) as u32).min(j.pool[1]), 0, 0],
             stores: [0; 4],
         });
-        if j.pools < 2 {
-            j.actions.last_mut().unwrap().pools[1] = 0;
-        }
-        if j.pools < 1 {
-            j.actions.last_mut().unwrap().pools[0] = 0;
-        }
-    }
-    for k in j.pools..4 {
-        j.pool[k] = 0;
     }
     j
 }

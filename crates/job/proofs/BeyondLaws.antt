@@ -1,14 +1,15 @@
 -- Test 26 of a job value, by its own arrays.
 -- Assumes nothing.
-use Prim.Native.Nat.{ℕ}
+use Prim.Native.Nat.{ℕ, _≤_}
 use mathlib.Core.Path.{_≡_, sym, ap, ap₂, _∙_}
 use mathlib.Core.Bool.{Bool, _||_}
 use mathlib.Core.List.{List}
 use lib.Dec.{ltb}
-use lib.ListN.{length, getD}
-use Rattle.lists.specs.Lists.{anyBelow}
+use native.Mathlib.Omega.{arith}
+use lib.ListN.{length, getD, replicate, getD-replicate}
+use Rattle.lists.specs.Lists.{firsts, any, anyBelow}
 use Rattle.lists.proofs.Tabulate.{getD-tabulate, length-tabulate}
-use Rattle.lists.proofs.Below.{below-same}
+use Rattle.lists.proofs.Below.{below-same, any-below}
 use Rattle.job.specs.declared.Action as act
 use Rattle.job.specs.declared.Job as held
 use Rattle.job.specs.Job.{Action, Job, actionIn, jobIn}
@@ -19,6 +20,14 @@ use Rattle.job.proofs.ResourceLaws.{charged-is, allowed-is}
 -- one of the first n amounts is over its own limit
 abbrev pub anyAbove : ℕ → List ℕ → List ℕ → Bool
 anyAbove n limits amounts = anyBelow n (λ k. over (getD limits k 0) (getD amounts k 0))
+
+-- one limit for all
+pub above-one-limit : (limit n : ℕ) (amounts : List ℕ) → n ≤ 4
+    → anyAbove n (replicate 4 limit) amounts ≡ any (over limit) (firsts n 0 amounts)
+above-one-limit limit n amounts l =
+    below-same n _ _
+    (λ k h. ap (λ (x : ℕ). over x (getD amounts k 0)) (getD-replicate 4 k limit 0 (omega arith)))
+    ∙ sym (any-below (over limit) n (λ k. getD amounts k 0))
 
 module _ (job : held.Job) (a : act.Action) where
   abbrev J : Job

@@ -8,3 +8,4 @@ mod Agree
 mod SameParts
 pub mod ResourceLaws
 mod BeyondLaws
+mod BrokenLaws

@@ -13,12 +13,11 @@ use Rattle.lists.proofs.Bools.{or-left, or-right}
 use Rattle.lists.proofs.Tabulate.{each-map}
 use Rattle.facts.specs.FactSet.{meets, foreign}
 use Rattle.facts.proofs.Membership.{within-word}
-use Rattle.job.specs.declared.validate.ActionRule.{ActionRule}
-use Rattle.job.specs.declared.validate.ActionRule.the-variants.{Duration, Facts, Effects, Uses}
 use Rattle.job.specs.declared.refusal.Verdict.the-variants.{Pass}
 use Rattle.job.specs.Job.{Action, Job, jobValue}
 use Rattle.job.specs.Refusal.{first}
-use Rattle.job.specs.Valid.{over, breaks, actionRows, limitRows, jobRows}
+use Rattle.job.specs.Valid.{ActionRule, Duration, Facts, Effects, Uses, over, breaks}
+use Rattle.job.specs.Valid.{actionRows, limitRows, jobRows}
 use Rattle.job.proofs.Table.{first-pass}
 use Rattle.job.proofs.Rows.{fits-of-counts, limits-of-pass}
 

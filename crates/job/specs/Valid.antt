@@ -10,8 +10,7 @@ use Rattle.facts.specs.FactSet.{meets, foreign}
 use Rattle.job.specs.declared.refusal.Refusal.the-variants.{BodySizes, FactCount, Deadline, ForeignFact}
 use Rattle.job.specs.declared.refusal.Refusal.the-variants.{Availability, ZeroDuration, ForeignActionFact}
 use Rattle.job.specs.declared.refusal.Refusal.the-variants.{AddedAndDeleted, ActionUse, UseBeyond}
-use Rattle.job.specs.declared.validate.ActionRule.{ActionRule}
-use Rattle.job.specs.declared.validate.ActionRule.the-variants.{Duration, Facts, Effects, Uses}
+use Rattle.job.specs.declared.validate.Broken.{Broken}
 use Rattle.job.specs.Job.{Action, Job}
 use Rattle.job.specs.Resources.{storeAmount, storeCap}
 use Rattle.job.specs.Refusal.{Row, _when_}
@@ -20,12 +19,34 @@ use Rattle.job.specs.Refusal.{Row, _when_}
 abbrev pub over : ℕ → ℕ → Bool
 over limit x = ltb limit x
 
+-- a rule for every action: tests 8, 9, 10 and 11
+pub data ActionRule : Type 0 where
+  Duration : ActionRule
+  Facts : ActionRule
+  Effects : ActionRule
+  Uses : ActionRule
+
 -- "length 0"; "set bit at or above the number of facts"; "a fact both added and deleted"; "use over 1,000,000"
 abbrev pub breaks : ActionRule → ℕ → Action → Bool
 breaks Duration facts a = eqb (a .duration) 0
 breaks Facts facts a = foreign facts (a .needs) || foreign facts (a .adds) || foreign facts (a .deletes)
 breaks Effects facts a = meets (a .adds) (a .deletes)
 breaks Uses facts a = any (over 1000000) (a .pools ++ a .stores)
+
+-- the rules where a test holds, as the program tells them
+abbrev pub brokenWhere : (ActionRule → Bool) → Broken
+brokenWhere test =
+    record { duration = test Duration; facts = test Facts; effects = test Effects; uses = test Uses }
+
+-- those of one or the other
+abbrev pub eitherBroken : Broken → Broken → Broken
+eitherBroken x y =
+    record {
+      duration = x .duration || y .duration;
+      facts = x .facts || y .facts;
+      effects = x .effects || y .effects;
+      uses = x .uses || y .uses;
+    }
 
 -- tests 8 to 11: each over all actions
 unfoldable pub actionRows : Job → List Row

@@ -9,19 +9,19 @@ use crate::Action;
 use crate::Job;
 use crate::resources;
 
-// Whether one of the first n amounts is over its own limit.
-fn any_above(limits: [u32; Job::POOLS], amounts: [u32; Job::POOLS], n: usize) -> bool
+// Whether one of the first n amounts is over its own limit. All places are compared, and nothing leaves the loop: that
+// compiles to one comparison of four.
+pub fn any_above(limits: [u32; Job::POOLS], amounts: [u32; Job::POOLS], n: usize) -> bool
     requires { ⌜ n ≤ 4 ⌝ }
     ensures { λ r. ⌜ r ≡ anyBelow n (λ k. over (getD limits k 0) (getD amounts k 0)) ⌝ }
 {
-    let mut i = 0;
-    while i < n {
-        if limits[i] < amounts[i] {
-            return true;
-        }
-        i += 1;
+    let mut found = false;
+    let mut k = 0;
+    while k < Job::POOLS {
+        found = found | ((k < n) & (limits[k] < amounts[k]));
+        k += 1;
     }
-    false
+    found
 }
 
 // Whether the action uses more of a pool or store than is available.
@@ -37,19 +37,18 @@ fn uses_beyond(job: Job, action: Action) -> bool
     any_above(available, uses, counts.pools) | any_above(allowed, charged, counts.stores)
 }
 
-// Whether some action of the job does.
+// Whether some action of the job does. Nothing leaves this loop either.
 pub fn any_beyond(job: Job) -> bool
     requires { ⌜ Fits (job .counts) ⌝ }
     ensures { λ r. ⌜ r ≡ any (usesBeyond (jobIn job)) (jobIn job .actions) ⌝ }
 {
     let counts = job.counts;
+    let mut found = false;
     let mut i = 0;
     while i < counts.actions {
         let action = job.actions[i];
-        if uses_beyond(job, action) {
-            return true;
-        }
+        found = found | uses_beyond(job, action);
         i += 1;
     }
-    false
+    found
 }

@@ -4,7 +4,7 @@ ghost use Prim.Native.Nat.{_≤_};
 ghost use Rattle.lists.specs.Lists.{firsts, any};
 ghost use Rattle.job.specs.Job.{actionIn, jobIn, Fits};
 ghost use Rattle.job.specs.Refusal.{first};
-ghost use Rattle.job.specs.Valid.{over, breaks, actionRows, limitRows, jobRows};
+ghost use Rattle.job.specs.Valid.{over, breaks, brokenWhere, eitherBroken, actionRows, limitRows, jobRows};
 use crate::Action;
 use crate::Counts;
 use crate::Job;
@@ -12,12 +12,26 @@ use crate::beyond;
 use crate::refusal::Refusal;
 use crate::refusal::Verdict;
 
-// A rule for every action: tests 8, 9, 10 and 11.
-pub enum ActionRule {
-    Duration,
-    Facts,
-    Effects,
-    Uses,
+// Which of tests 8, 9, 10 and 11 fail: true for each that does.
+pub struct Broken {
+    pub duration: bool,
+    pub facts: bool,
+    pub effects: bool,
+    pub uses: bool,
+}
+
+impl Broken {
+    // Those that one of two fails.
+    fn either(self, other: Broken) -> Broken
+        ensures { λ r. ⌜ r ≡ eitherBroken self other ⌝ }
+    {
+        Broken {
+            duration: self.duration | other.duration,
+            facts: self.facts | other.facts,
+            effects: self.effects | other.effects,
+            uses: self.uses | other.uses,
+        }
+    }
 }
 
 // Whether one of the first n amounts is over the limit.
@@ -25,53 +39,47 @@ pub fn any_over(limit: u32, amounts: [u32; Job::POOLS], n: usize) -> bool
     requires { ⌜ n ≤ 4 ⌝ }
     ensures { λ r. ⌜ r ≡ any (over limit) (firsts n 0 amounts) ⌝ }
 {
-    let mut i = 0;
-    while i < n {
-        if limit < amounts[i] {
-            return true;
-        }
-        i += 1;
-    }
-    false
+    let limits = [limit; Job::POOLS];
+    beyond::any_above(limits, amounts, n)
 }
 
-// Whether the action breaks the rule in a job with so many facts, pools and stores.
-fn breaks(rule: ActionRule, facts: u8, counts: Counts, action: Action) -> bool
+// Those that an action fails in a job with so many facts, pools and stores.
+fn broken_by(action: Action, facts: u8, counts: Counts) -> Broken
     requires { ⌜ Fits counts ⌝ }
-    ensures { λ r. ⌜ r ≡ breaks rule facts (actionIn counts action) ⌝ }
+    ensures { λ r. ⌜ r ≡ brokenWhere (λ rule. breaks rule facts (actionIn counts action)) ⌝ }
 {
-    match rule {
-        ActionRule::Duration => action.duration == 0,
-        ActionRule::Facts => {
-            facts::foreign(facts, action.needs)
-                | facts::foreign(facts, action.adds)
-                | facts::foreign(facts, action.deletes)
-        }
-        ActionRule::Effects => facts::meets(action.adds, action.deletes),
-        ActionRule::Uses => {
-            let pools = action.pools;
-            let stores = action.stores;
-            any_over(Action::USE, pools, counts.pools)
-                | any_over(Action::USE, stores, counts.stores)
-        }
+    let pools = action.pools;
+    let stores = action.stores;
+    Broken {
+        duration: action.duration == 0,
+        facts: facts::foreign(facts, action.needs)
+            | facts::foreign(facts, action.adds)
+            | facts::foreign(facts, action.deletes),
+        effects: facts::meets(action.adds, action.deletes),
+        uses: any_over(Action::USE, pools, counts.pools)
+            | any_over(Action::USE, stores, counts.stores),
     }
 }
 
-// Whether some action of the job breaks the rule.
-fn any_breaks(rule: ActionRule, job: Job) -> bool
+// Those that some action of the job fails: all in one pass, since each pass over a job by value copies it.
+fn any_broken(job: Job) -> Broken
     requires { ⌜ Fits (job .counts) ⌝ }
-    ensures { λ r. ⌜ r ≡ any (breaks rule (job .facts)) (jobIn job .actions) ⌝ }
+    ensures { λ r. ⌜ r ≡ brokenWhere (λ rule. any (breaks rule (job .facts)) (jobIn job .actions)) ⌝ }
 {
     let counts = job.counts;
+    let mut broken = Broken {
+        duration: false,
+        facts: false,
+        effects: false,
+        uses: false,
+    };
     let mut i = 0;
     while i < counts.actions {
         let action = job.actions[i];
-        if breaks(rule, job.facts, counts, action) {
-            return true;
-        }
+        broken = broken.either(broken_by(action, job.facts, counts));
         i += 1;
     }
-    false
+    broken
 }
 
 // The first of tests 8 to 11 that fails.
@@ -79,16 +87,17 @@ fn validate_actions(job: Job) -> Verdict
     requires { ⌜ Fits (job .counts) ⌝ }
     ensures { λ r. ⌜ r ≡ first (actionRows (jobIn job)) ⌝ }
 {
-    if any_breaks(ActionRule::Duration, job) {
+    let broken = any_broken(job);
+    if broken.duration {
         return Verdict::Refused(Refusal::ZeroDuration);
     }
-    if any_breaks(ActionRule::Facts, job) {
+    if broken.facts {
         return Verdict::Refused(Refusal::ForeignActionFact);
     }
-    if any_breaks(ActionRule::Effects, job) {
+    if broken.effects {
         return Verdict::Refused(Refusal::AddedAndDeleted);
     }
-    if any_breaks(ActionRule::Uses, job) {
+    if broken.uses {
         return Verdict::Refused(Refusal::ActionUse);
     }
     Verdict::Pass

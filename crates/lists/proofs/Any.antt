@@ -1,8 +1,8 @@
 -- Laws of `any`: a loop that looks for an element that passes a test.
 -- Assumes nothing.
 use Prim.Native.Nat.{ℕ, zero, suc, _+_, _<_}
-use mathlib.Core.Path.{_≡_, refl, _∙_}
-use mathlib.Core.Bool.{Bool, true, false, _||_}
+use mathlib.Core.Path.{_≡_, refl, ap, _∙_}
+use mathlib.Core.Bool.{Bool, true, false, _||_, or-false}
 use mathlib.Core.List.{List, [], _∷_, _++_}
 use native.Mathlib.Decide.{decLt}
 use native.Mathlib.Omega.{arith}
@@ -30,15 +30,21 @@ module _ {A : Type 0} (test : A → Bool) where
   none-any [] e = refl
   none-any (x ∷ xs) e = rw (e .0) (none-any xs (e .1))
 
-  -- a loop over places 0, 1, .. : not found so far, and not at place i
+  -- a loop over places 0, 1, .. : found so far, or at place i
   pub any-start : (f : ℕ → A) → any test (tabulate 0 f) ≡ false
   unfolding any tabulate
   any-start f = refl
 
+  pub any-next : (f : ℕ → A) (i : ℕ) → any test (tabulate (i + 1) f) ≡ (any test (tabulate i f) || test (f i))
+  unfolding any
+  any-next f i =
+      rw (tabulate-snoc i f) (any-append (tabulate i f) (f i ∷ []))
+      ∙ ap (λ (b : Bool). any test (tabulate i f) || b) (or-false (test (f i)))
+
+  -- not found so far, and not at place i
   pub any-more : (f : ℕ → A) (i : ℕ) → any test (tabulate i f) ≡ false → test (f i) ≡ false
       → any test (tabulate (i + 1) f) ≡ false
-  unfolding any
-  any-more f i h e = rw (tabulate-snoc i f, any-append (tabulate i f) (f i ∷ []), h, e)
+  any-more f i h e = rw (any-next f i, h, e)
 
   pub any-found : (f : ℕ → A) (i n : ℕ) → i < n → test (f i) ≡ true → any test (tabulate n f) ≡ true
   unfolding any tabulate

@@ -1,12 +1,15 @@
 -- A test of the numbers below n.
 -- Assumes nothing.
-use Prim.Native.Nat.{ℕ, zero, suc, _+_, _<_}
-use mathlib.Core.Path.{_≡_, refl, ap, ap₂}
-use mathlib.Core.Bool.{Bool, true, false, _||_}
+use Prim.Native.Nat.{ℕ, zero, suc, _+_, _≤_, _<_}
+use mathlib.Core.Path.{_≡_, refl, ap, ap₂, _∙_}
+use mathlib.Core.Bool.{Bool, true, false, _&&_, _||_, or-comm}
 use mathlib.Core.Logic.{⊎-elim}
 use native.Mathlib.Nat.{eq-or-lt-of-le}
 use native.Mathlib.Omega.{arith}
-use Rattle.lists.specs.Lists.{anyBelow}
+use lib.Dec.{ltb}
+use borrow.Author.Tests.{lt-ltb, le-ltb}
+use Rattle.lists.specs.Lists.{tabulate, any, anyBelow}
+use Rattle.lists.proofs.Any.{any-next}
 use Rattle.lists.proofs.Bools.{absurd, or-left, or-right, or-true}
 
 pub below-none : (n : ℕ) (test : ℕ → Bool) → anyBelow n test ≡ false → (k : ℕ) → k < n → test k ≡ false
@@ -44,3 +47,23 @@ below-more n test = let e : n + 1 ≡ suc n = omega arith in ap (λ m. anyBelow 
 pub below-same : (n : ℕ) (f g : ℕ → Bool) → ((k : ℕ) → k < n → f k ≡ g k) → anyBelow n f ≡ anyBelow n g
 below-same zero f g h = refl
 below-same (suc n) f g h = ap₂ _||_ (h n (omega arith)) (below-same n f g (λ k l. h k (omega arith)))
+
+-- a loop over more numbers that leaves those from n on
+pub below-cut : (n m : ℕ) (test : ℕ → Bool) → n ≤ m → anyBelow m (λ k. ltb k n && test k) ≡ anyBelow n test
+below-cut n zero test l = let e : n ≡ 0 = omega arith in rw e
+below-cut n (suc m) test l =
+    ⊎-elim (λ e. rw e (below-same (suc m) _ test (λ k h. ap (λ (b : Bool). b && test k) (lt-ltb k (suc m) h))))
+    (λ e. rw (le-ltb m n (omega arith)) (below-cut n m test (omega arith)))
+    (eq-or-lt-of-le l)
+
+-- the same of the elements of a list by places
+pub any-below : {A : Type 0} (test : A → Bool) (n : ℕ) (f : ℕ → A)
+    → any test (tabulate n f) ≡ anyBelow n (λ k. test (f k))
+unfolding any tabulate
+any-below test zero f = refl
+any-below test (suc n) f =
+    let e : suc n ≡ n + 1 = omega arith in
+    ap (λ (m : ℕ). any test (tabulate m f)) e
+    ∙ any-next test f n
+    ∙ or-comm (any test (tabulate n f)) (test (f n))
+    ∙ ap (λ (b : Bool). test (f n) || b) (any-below test n f)

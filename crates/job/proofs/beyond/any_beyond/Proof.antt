@@ -1,10 +1,10 @@
--- `any_beyond` meets its contract: no action before place i uses more than is available.
+-- `any_beyond` meets its contract: found among the first i actions.
 -- Assumes nothing.
 use Prim.Native.Nat.{_-_, _≤_}
-use mathlib.Core.Path.{_≡_, sym, _∙_}
-use mathlib.Core.Bool.{false}
+use mathlib.Core.Path.{_≡_, sym, ap₂, _∙_}
+use mathlib.Core.Bool.{_||_}
 use Rattle.lists.specs.Lists.{tabulate, any}
-use Rattle.lists.proofs.Any.{any-start, any-more, any-found}
+use Rattle.lists.proofs.Any.{any-start, any-next}
 use Rattle.job.specs.Job.{jobIn, actionAt}
 use Rattle.job.specs.Valid.{usesBeyond}
 use native.Mathlib.Omega.{arith}
@@ -13,15 +13,16 @@ use Rattle.job.proofs.beyond.any_beyond.Statement.{statement}
 use Rattle.job.proofs.beyond.any_beyond.Tie as tie
 
 abbrev Inv-loop : tie.InvT-loop
-Inv-loop job counts i₀ i =
-    (i ≤ job .counts .actions) × (any (usesBeyond (jobIn job)) (tabulate i (actionAt job)) ≡ false)
+Inv-loop job counts found₀ i₀ found i =
+    (i ≤ job .counts .actions) × (found ≡ any (usesBeyond (jobIn job)) (tabulate i (actionAt job)))
 
 abbrev μ-loop : tie.MeasureT-loop
-μ-loop job counts i₀ i = job .counts .actions - i
+μ-loop job counts found₀ i₀ found i = job .counts .actions - i
 
 loop-holds : tie.Need-loop-holds Inv-loop μ-loop
 loop-holds c =
-    (omega arith, any-start (usesBeyond (jobIn (c .before .args .t1))) (actionAt (c .before .args .t1)))
+    let j = c .before .args .t1 in
+    (omega arith, sym (any-start (usesBeyond (jobIn j)) (actionAt j)))
 
 mul-action : tie.Need-mul-action Inv-loop μ-loop
 mul-action c = omega arith
@@ -32,14 +33,6 @@ element-copy-out-action c = omega arith
 uses-beyond-requires : tie.Need-uses-beyond-requires Inv-loop μ-loop
 uses-beyond-requires c κs = search needs
 
-returns : tie.Need-returns Inv-loop μ-loop
-returns c =
-    let c-args = c .before .before .before .before .before .before .before .args in
-    let c-loop = c .before .before .before .before .before .loop in
-    let j = c-args .t1 in
-    sym (any-found (usesBeyond (jobIn j)) (actionAt j) (c-loop .i) (j .counts .actions) (omega arith)
-    (sym (c .before .uses-beyond .ensures) ∙ c .if2 .taken))
-
 add-i : tie.Need-add-i Inv-loop μ-loop
 add-i c = omega arith
 
@@ -48,18 +41,17 @@ loop-less c = omega arith
 
 loop-again : tie.Need-loop-again Inv-loop μ-loop
 loop-again c =
-    let c-args = c .before .before .before .before .before .before .before .args in
-    let c-loop = c .before .before .before .before .before .loop in
-    let j = c-args .t1 in (
+    let j = c .before .before .before .before .before .before .args .t1 in
+    let l = c .before .before .before .before .loop in (
       omega arith,
-      any-more (usesBeyond (jobIn j)) (actionAt j) (c-loop .i) (c-loop .inv .1) (sym (c .before .uses-beyond .ensures) ∙ c .if2 .left),
+      ap₂ _||_ (l .inv .1) (c .uses-beyond .ensures) ∙ sym (any-next (usesBeyond (jobIn j)) (actionAt j) (l .i)),
     )
 
-returns-2 : tie.Need-returns-2 Inv-loop μ-loop
-returns-2 c =
-    let c-args = c .before .before .before .before .args in
-    let c-loop = c .before .before .loop in
-    let e : c-loop .i ≡ c-args .t1 .counts .actions = omega arith in sym (rw e at (c-loop .inv .1))
+returns : tie.Need-returns Inv-loop μ-loop
+returns c =
+    let l = c .before .before .loop in
+    let e : l .i ≡ c .before .before .before .before .args .t1 .counts .actions = omega arith in
+    rw e at (l .inv .1)
 
 pub any-beyond-spec : {M : Type 1} → statement M
 any-beyond-spec =
@@ -71,8 +63,7 @@ any-beyond-spec =
     mul-action
     element-copy-out-action
     uses-beyond-requires
-    returns
     add-i
     loop-less
     loop-again
-    returns-2)
+    returns)
