@@ -277,8 +277,8 @@ impl Search<'_> {
         used <= SCALE * self.job.pool[k] as u64 * st.minute.saturating_sub(from) as u64
     }
 
-    /// Whether steps, stores, pools and minutes suffice for what is missing: the landmarks of what must hold at the state's
-    /// minute, without what the kept steps add.
+    /// Whether steps, stores, pools and minutes suffice for what is missing: the landmarks of what must hold at the
+    /// state's minute, without what the kept steps add.
     fn suffices(&self, st: &State) -> bool {
         let missing = self.landmarks.of(st.wanted | st.at.across) & !self.given;
         self.landmarks.of_steps(missing) + SCALE * st.steps().len() as u64 <= SCALE * 32

@@ -46,8 +46,8 @@ fn expected(end: Result<u64, u64>) -> u64 {
     end.map_or_else(refused, |end| done(end, 0))
 }
 
-/// What was seen: refusals by number (0: done), prices by their bits, accepted plans and planned ones by their steps, days
-/// by the number of pools that are in use at some minute, and days with a pool of which all is in use.
+/// What was seen: refusals by number (0: done), prices by their bits, accepted plans and planned ones by their steps,
+/// days by the number of pools that are in use at some minute, and days with a pool of which all is in use.
 struct Seen {
     refusals: [u64; 27],
     prices: [u64; 65],

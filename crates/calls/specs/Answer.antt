@@ -58,6 +58,7 @@ peaksBy (Refused why) told before = before
 unfoldable pub cost : ℕ → ℕ
 cost cents = 256 * cents
 
+-- a price, or why there is none
 abbrev pub pricedNumber : Priced → ℕ
 pricedNumber (priced.Cents cents) = cost cents
 pricedNumber (priced.Refused why) = refusal why

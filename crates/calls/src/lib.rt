@@ -140,7 +140,7 @@ pub extern "C" fn ruhkevois_rewrite(file: &[u8], out: &mut [u8]) -> u64
 }
 
 // Whether a plan is accepted for the job of a file: its end, with the peak of each pool in the array, or the first
-// refusal of 1 to 20, which leaves the array as it was.
+// refusal of 1 to 11, 26 and 12 to 20, which leaves the array as it was.
 #[no_mangle]
 pub extern "C" fn ruhkevois_check(file: &[u8], plan: &[u8], peaks: &mut [u32; Job::POOLS]) -> u64
     ensures { λ r. ⌜ r ≡ checkAnswer (now (file .entry)) (now (plan .entry)) ⌝ }
@@ -158,7 +158,7 @@ pub extern "C" fn ruhkevois_check(file: &[u8], plan: &[u8], peaks: &mut [u32; Jo
 }
 
 // What a plan for the job of a file costs at these rates for pools and stores and this evening percentage: the cents,
-// or the first refusal of 1 to 20, 26 and 25.
+// or the first refusal of 1 to 11, 26, 12 to 20 and 25.
 #[no_mangle]
 pub extern "C" fn ruhkevois_price(
     file: &[u8],

@@ -37,7 +37,7 @@ pub enum Refusal {
     ForeignAskedFact,
     // the price
     RateOver,
-    // its actions, after all else
+    // the job's actions, after its limits
     UseBeyond,
 }
 

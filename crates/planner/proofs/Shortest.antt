@@ -55,8 +55,8 @@ unfolding jobRows limitRows actionRows
 tests-before-22 J slice =
     (refl, (refl, (refl, (refl, (refl, (refl, (refl, (refl, (refl, (refl, (refl, tt)))))))))))
 
--- "For jobs that still pass, the shortest day is what it was": of every job within its limits, whether or not 26 holds of
--- it, the makespan is the least end of its accepted plans
+-- "For jobs that still pass, the shortest day is what it was": of every job within its limits, whether or not 26 holds
+-- of it, a makespan that is a minute is the least end of its accepted plans
 pub shortest-day-without-26 : (J : Job) → first (limitRows J) ≡ Pass → (e : ℕ) → makespan J (J .goal) ≡ endsAt e
     → LeastEnd J (J .goal) 0 [] e
 shortest-day-without-26 J limits e ends =
@@ -124,7 +124,7 @@ module _ (J : Job) (slice : List ℕ) (answer : Day) (after : List ℕ) where
   shortest-when-accepted within noPlan q p bytes accepted =
       absurd (none-accepted-when-no-plan J (J .goal) 0 [] within q bytes accepted (every-plan-counts J bytes))
 
-  -- where none of 3 to 11 and 21 holds and some plan is accepted, a shortest plan is handed out
+  -- where none of 3 to 11, 26 and 21 holds and some plan is accepted, a shortest plan is handed out
   pub plan-when-accepted : Plans J slice answer after → first (planRefusals J slice) ≡ Pass
       → (bytes : List ℕ) → Accepted J (J .goal) bytes → (answer .verdict ≡ Pass) × Shortest
   plan-when-accepted h pass bytes accepted =

@@ -20,7 +20,7 @@ use Rattle.timeline.specs.Day.{toldOf, noDay, tells, dayReply}
 use Rattle.timeline.specs.declared.Day.{Day}
 use Rattle.makespan.specs.Makespan.{Makespan, endsAt, noPlan, makespan}
 
--- tests 3 to 11 of the job; then 21: "plan slice under 96 bytes"
+-- tests 3 to 11 and 26 of the job; then 21: "plan slice under 96 bytes"
 abbrev pub planRefusals : Job → List ℕ → List Row
 planRefusals J slice = jobRows J ++ (PlanSlice when ltb (length slice) 96 ∷ [])
 

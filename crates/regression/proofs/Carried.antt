@@ -29,7 +29,8 @@ use Rattle.regression.proofs.BlockedSteps.{not-blocked-when-untouched}
 use Rattle.regression.proofs.Tail.{tail-wants}
 use Rattle.regression.proofs.DeadEnds.{Bounds}
 
--- s is an event minute before t: no step of the tail touches a minute between them, nor would an action that may still stop at t
+-- s is an event minute before t: no step of the tail touches a minute between them, nor would an action that may still
+-- stop at t
 pub record EventBefore (J : Job) (t s : ℕ) (done : ℕ → Bool) (L : List Step) : Type 0 where
   pub earlier : s < t
   pub noEvent : (m : ℕ) → s < m → m < t → EachStep (λ x. Touches J m x → ⊥) L

@@ -9,8 +9,8 @@ abbrev pub allSets : ℕ
 allSets = 2 ^ 64
 
 -- The minutes left come first: one fewer outweighs every set of undecided actions. That is the way back from `choose`
--- to `regress`. In one minute the set falls, as a number, by each action that `choose` hands to `attempt`. With the same
--- set `attempt` goes on to `choose`, the only call for which it matters which of the functions is called.
+-- to `regress`. In one minute the set falls, as a number, by each action that `choose` hands to `attempt`. With the
+-- same set `attempt` goes on to `choose`, the only call for which it matters which of the functions is called.
 abbrev pub measure : ℕ → ℕ → ℕ → ℕ
 measure minute undecided function = minute * (4 * allSets) + (2 * undecided + function)
 

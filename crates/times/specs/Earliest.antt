@@ -17,7 +17,8 @@ use Rattle.times.specs.Time.{Time, at, earlier, later, after, choice, de
 abbrev pub Table : Type 0
 Table = ℕ → ℕ → Time
 
--- "the largest over all its subsets of one or two"
+-- "the largest over all its subsets of one or two". Of one or two facts themselves that is their own entry in a table
+-- that solves the equations (`time-of-pair`, proofs/Pairs.antt)
 abbrev pub timeOf : Job → Table → ℕ → Time
 timeOf J T set = greatest (J .facts) (λ q. greatest (suc q) (λ p. demand (has set p && has set q) (T p q)))
 

@@ -1,6 +1,6 @@
 // Job values that no file holds, handed to the calls without the reader: values that 3 to 11 and 26 refuse, other
-// numbers beyond the counts, and whether two values hold the same job. Prints a line for each. What a file can hold stands in
-// tests/tables.
+// numbers beyond the counts, and whether two values hold the same job. Prints a line for each. What a file can hold
+// stands in tests/tables.
 mod refused; // the cases
 mod beyond;
 mod trips;
