@@ -39,6 +39,8 @@ pub enum Refusal {
     RateOver,
     // the job's actions, after its limits
     UseBeyond,
+    // the replanner
+    NoPlanWithKept,
 }
 
 // What a test of a whole table answers: the first refusal that holds, or none.
@@ -78,5 +80,6 @@ pub fn number(refusal: Refusal) -> u8
         Refusal::ForeignAskedFact => 24,
         Refusal::RateOver => 25,
         Refusal::UseBeyond => 26,
+        Refusal::NoPlanWithKept => 35,
     }
 }

@@ -1,5 +1,5 @@
 mod Exchanges
 mod Writing
 pub mod InOrder
-mod Checks
+pub mod Checks
 mod Finishing

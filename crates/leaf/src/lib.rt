@@ -35,8 +35,8 @@ pub fn nothing() -> Answer
     }
 }
 
-// The steps as a plan, where the checker accepts it for the goal and it ends by the horizon.
-fn as_plan(job: Job, goal: u64, horizon: u16, steps: Steps) -> Answer
+// The steps, which stand in order, as a plan, where the checker accepts it for the goal and it ends by the horizon.
+pub fn as_plan(job: Job, goal: u64, horizon: u16, steps: Steps) -> Answer
     requires { ⌜ steps .count ≤ 32 ⌝ }
     ensures { λ r. ⌜ Answers (jobIn job) goal horizon steps r ⌝ }
 {

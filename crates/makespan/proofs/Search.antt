@@ -51,7 +51,7 @@ either-passed : (x y : Bool) → _≡_ {A = Bool} (elim x [ true ↦ true | fals
 either-passed true y h = inl refl
 either-passed false y h = inr h
 
-pass-of-test : (v : Verdict) → isPass v ≡ true → v ≡ Pass
+pub pass-of-test : (v : Verdict) → isPass v ≡ true → v ≡ Pass
 pass-of-test Pass h = refl
 pass-of-test (Refused why) h = not-both h refl
 

@@ -1,3 +1,4 @@
 mod Copying
+pub mod HandingOut
 mod Solving
 pub mod Shortest

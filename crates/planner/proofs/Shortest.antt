@@ -16,13 +16,14 @@ use Rattle.job.specs.Refusal.{Row, _when_, number, first}
 use Rattle.job.specs.Valid.{jobRows, limitRows, actionRows}
 use Rattle.job.proofs.Passed.{Passed, passed, within-limits}
 use Rattle.job.proofs.Table.{pass-of-append}
+use Rattle.timeline.specs.Step.{Step}
 use Rattle.timeline.specs.declared.Day.{Day}
 use Rattle.timeline.specs.Accepted.{Accepted}
 use Rattle.timeline.specs.Day.{Told, noDay, tells}
 use Rattle.timeline.proofs.Tests.{not-both}
 use Rattle.timeline.proofs.PlanBytes.{few-steps-of-accepted}
-use Rattle.makespan.specs.Makespan.{Makespan, endsAt, noPlan, LeastEnd, makespan}
-use Rattle.makespan.proofs.LeastEnds.{least-end-of-makespan, none-accepted-when-no-plan}
+use Rattle.makespan.specs.Makespan.{Makespan, endsAt, noPlan, Counts, LeastEnd, makespan, makespanFrom}
+use Rattle.makespan.proofs.LeastEnds.{BegunSteps, least-end-of-makespan, none-accepted-when-no-plan}
 use Rattle.makespan.proofs.LeastEnds.{every-plan-counts, nothing-begun}
 use Rattle.planner.specs.Plan.{planRefusals, HandsOut, PlansFor, PlansBy, Plans}
 
@@ -55,59 +56,77 @@ unfolding jobRows limitRows actionRows
 tests-before-22 J slice =
     (refl, (refl, (refl, (refl, (refl, (refl, (refl, (refl, (refl, (refl, (refl, tt)))))))))))
 
--- "For jobs that still pass, the shortest day is what it was": of every job within its limits, whether or not 26 holds
--- of it, a makespan that is a minute is the least end of its accepted plans
+-- "For jobs that still pass, the shortest day is what it was": of every job within its limits, whether or not 26 holds of
+-- it, the makespan is the least end of its accepted plans
 pub shortest-day-without-26 : (J : Job) → first (limitRows J) ≡ Pass → (e : ℕ) → makespan J (J .goal) ≡ endsAt e
     → LeastEnd J (J .goal) 0 [] e
 shortest-day-without-26 J limits e ends =
     least-end-of-makespan J (J .goal) 0 [] (within-limits J limits) (nothing-begun J) e ends
 
-module _ (J : Job) (slice : List ℕ) (answer : Day) (after : List ℕ) where
-  -- the end told is the least one of all accepted plans; the slice has such a plan, of at most 32 steps
+-- ---- what is handed out for a goal, with the begun steps K and the others from a minute on
+module _ (J : Job) (goal minute : ℕ) (K : List Step) (slice : List ℕ) (answer : Day) (after : List ℕ) where
+  -- the end told is the least one of all accepted plans that count; the slice has such a plan, of at most 32 steps
   pub record Shortest : Type 0 where
-    pub least : LeastEnd J (J .goal) 0 [] (answer .end)
+    pub least : LeastEnd J goal minute K (answer .end)
     pub few : answer .steps ≤ 32
-    pub handsOut : HandsOut J slice (answer .end) answer after
+    pub handsOut : HandsOut J goal minute K slice (answer .end) answer after
 
-  shortest-handed-out : Passed J → (e : ℕ) → makespan J (J .goal) ≡ endsAt e → HandsOut J slice e answer after → Shortest
-  shortest-handed-out within e q p =
+  pub shortest-handed-out : (e : ℕ) → LeastEnd J goal minute K e → HandsOut J goal minute K slice e answer after
+      → Shortest
+  shortest-handed-out e least p =
       let told : answer .end ≡ e = ap (λ (d : Day). d .end) (p .answers) ∙ p .end in
       let count = ap (λ (d : Day). d .steps) (p .answers) in
-      let most = few-steps-of-accepted J (J .goal) (p .bytes) (p .accepted) in
+      let most = few-steps-of-accepted J goal (p .bytes) (p .accepted) in
       record {
-        least =
-            least-end-of-makespan J (J .goal) 0 [] within (nothing-begun J) (answer .end) (q ∙ ap endsAt (sym told));
+        least = subst (LeastEnd J goal minute K) (sym told) least;
         few = omega arith;
-        handsOut = subst (λ (k : ℕ). HandsOut J slice k answer after) (sym told) p;
+        handsOut = subst (λ (k : ℕ). HandsOut J goal minute K slice k answer after) (sym told) p;
       }
 
-  shortest-by-makespan : answer .verdict ≡ Pass → Passed J → (m : Makespan) → makespan J (J .goal) ≡ m
-      → PlansFor m J slice answer after → Shortest
-  shortest-by-makespan pass within (endsAt e) q p = shortest-handed-out within e q p
-  shortest-by-makespan pass within noPlan q p = absurd (refused-not-passed answer NoPlan (p .answers) pass)
+  module _ (within : Passed J) (none : Refusal) where
+    pub shortest-by-makespan : BegunSteps J minute K → answer .verdict ≡ Pass → (m : Makespan)
+        → makespanFrom J goal minute K ≡ m → PlansFor m none J goal minute K slice answer after → Shortest
+    shortest-by-makespan kept pass (endsAt e) q p =
+        shortest-handed-out e (least-end-of-makespan J goal minute K within kept e q) p
+    shortest-by-makespan kept pass noPlan q p = absurd (refused-not-passed answer none (p .answers) pass)
 
+    pub none-by-makespan : (m : Makespan) → makespanFrom J goal minute K ≡ m
+        → PlansFor m none J goal minute K slice answer after → answer .verdict ≡ Refused none
+        → (bytes : List ℕ) → Accepted J goal bytes → Counts J minute K bytes → ⊥
+    none-by-makespan (endsAt e) q p refused bytes accepted counts =
+        told-not-refused answer _ none (p .answers) refused
+    none-by-makespan noPlan q p refused bytes accepted counts =
+        none-accepted-when-no-plan J goal minute K within q bytes accepted counts
+
+    pub shortest-when-accepted : BegunSteps J minute K → (m : Makespan) → makespanFrom J goal minute K ≡ m
+        → PlansFor m none J goal minute K slice answer after → (bytes : List ℕ) → Accepted J goal bytes
+        → Counts J minute K bytes → (answer .verdict ≡ Pass) × Shortest
+    shortest-when-accepted kept (endsAt e) q p bytes accepted counts = (
+      ap (λ (d : Day). d .verdict) (p .answers),
+      shortest-handed-out e (least-end-of-makespan J goal minute K within kept e q) p,
+    )
+    shortest-when-accepted kept noPlan q p bytes accepted counts =
+        absurd (none-accepted-when-no-plan J goal minute K within q bytes accepted counts)
+
+-- ---- the planner's answer
+module _ (J : Job) (slice : List ℕ) (answer : Day) (after : List ℕ) where
   shortest-by-verdict : answer .verdict ≡ Pass → (v : Verdict) → first (planRefusals J slice) ≡ v
-      → PlansBy v J slice answer after → Shortest
+      → PlansBy v J slice answer after → Shortest J (J .goal) 0 [] slice answer after
   shortest-by-verdict pass Pass q p =
-      shortest-by-makespan pass (passed J (pass-of-append (jobRows J) _ q .0)) (makespan J (J .goal)) refl p
+      shortest-by-makespan J (J .goal) 0 [] slice answer after (passed J (pass-of-append (jobRows J) _ q .0)) NoPlan
+      (nothing-begun J) pass (makespan J (J .goal)) refl p
   shortest-by-verdict pass (Refused why) q p = absurd (refused-not-passed answer why (p .answers) pass)
 
   -- a plan that is handed out is a shortest one
-  pub plan-is-shortest : Plans J slice answer after → answer .verdict ≡ Pass → Shortest
+  pub plan-is-shortest : Plans J slice answer after → answer .verdict ≡ Pass
+      → Shortest J (J .goal) 0 [] slice answer after
   plan-is-shortest h pass = shortest-by-verdict pass (first (planRefusals J slice)) refl h
-
-  none-by-makespan : Passed J → (m : Makespan) → makespan J (J .goal) ≡ m → PlansFor m J slice answer after
-      → answer .verdict ≡ Refused NoPlan → (bytes : List ℕ) → Accepted J (J .goal) bytes → ⊥
-  none-by-makespan within (endsAt e) q p refused bytes accepted =
-      told-not-refused answer _ NoPlan (p .answers) refused
-  none-by-makespan within noPlan q p refused bytes accepted =
-      none-accepted-when-no-plan J (J .goal) 0 [] within q bytes accepted (every-plan-counts J bytes)
 
   none-by-verdict : (v : Verdict) → first (planRefusals J slice) ≡ v → PlansBy v J slice answer after
       → answer .verdict ≡ Refused NoPlan → (bytes : List ℕ) → Accepted J (J .goal) bytes → ⊥
   none-by-verdict Pass q p refused bytes accepted =
-      none-by-makespan (passed J (pass-of-append (jobRows J) _ q .0)) (makespan J (J .goal)) refl p refused bytes
-      accepted
+      none-by-makespan J (J .goal) 0 [] slice answer after (passed J (pass-of-append (jobRows J) _ q .0)) NoPlan
+      (makespan J (J .goal)) refl p refused bytes accepted (every-plan-counts J bytes)
   none-by-verdict (Refused why) q p refused bytes accepted =
       not-22 (planRefusals J slice) (tests-before-22 J slice)
       (q ∙ ap Refused (refusals-same answer why NoPlan (p .answers) refused))
@@ -117,16 +136,11 @@ module _ (J : Job) (slice : List ℕ) (answer : Day) (after : List ℕ) where
       → (bytes : List ℕ) → Accepted J (J .goal) bytes → ⊥
   no-plan-when-refused h = none-by-verdict (first (planRefusals J slice)) refl h
 
-  shortest-when-accepted : Passed J → (m : Makespan) → makespan J (J .goal) ≡ m → PlansFor m J slice answer after
-      → (bytes : List ℕ) → Accepted J (J .goal) bytes → (answer .verdict ≡ Pass) × Shortest
-  shortest-when-accepted within (endsAt e) q p bytes accepted =
-      (ap (λ (d : Day). d .verdict) (p .answers), shortest-handed-out within e q p)
-  shortest-when-accepted within noPlan q p bytes accepted =
-      absurd (none-accepted-when-no-plan J (J .goal) 0 [] within q bytes accepted (every-plan-counts J bytes))
-
   -- where none of 3 to 11, 26 and 21 holds and some plan is accepted, a shortest plan is handed out
   pub plan-when-accepted : Plans J slice answer after → first (planRefusals J slice) ≡ Pass
-      → (bytes : List ℕ) → Accepted J (J .goal) bytes → (answer .verdict ≡ Pass) × Shortest
+      → (bytes : List ℕ) → Accepted J (J .goal) bytes
+      → (answer .verdict ≡ Pass) × Shortest J (J .goal) 0 [] slice answer after
   plan-when-accepted h pass bytes accepted =
-      shortest-when-accepted (passed J (pass-of-append (jobRows J) _ pass .0)) (makespan J (J .goal)) refl
-      (subst (λ (v : Verdict). PlansBy v J slice answer after) pass h) bytes accepted
+      shortest-when-accepted J (J .goal) 0 [] slice answer after (passed J (pass-of-append (jobRows J) _ pass .0))
+      NoPlan (nothing-begun J) (makespan J (J .goal)) refl
+      (subst (λ (v : Verdict). PlansBy v J slice answer after) pass h) bytes accepted (every-plan-counts J bytes)

@@ -1,4 +1,4 @@
 mod FileLaws
 pub mod Solving
 mod TaskLaws
-pub mod WholeDay
+pub mod TaskDays

@@ -21,9 +21,14 @@ use Rattle.leaf.specs.Answer.{Found, bytesIn}
 use Rattle.leaf.specs.Order.{inOrder}
 use Rattle.solver.specs.declared.Task.{Task}
 
+-- "Its begun steps are those that start before the given minute": a day of the job for a goal
+abbrev pub begunDay : held.Job → ℕ → ℕ → Steps → Task
+begunDay job goal minute kept =
+    record { start = job .start; stocks = job .stores; goal = goal; first = minute; kept = kept }
+
 -- "Every plan counts, except where a day has begun": the whole day of a job, for its goal
 abbrev pub wholeDay : held.Job → Task
-wholeDay job = record { start = job .start; stocks = job .stores; goal = job .goal; first = 0; kept = noSteps }
+wholeDay job = begunDay job (job .goal) 0 noSteps
 
 -- the job whose day it is: it starts with the task's facts, and its stores have the task's stocks
 abbrev pub dayOf : held.Job → Task → Job

@@ -8,7 +8,7 @@ ghost use Rattle.job.specs.Valid.{jobRows};
 ghost use Rattle.job.specs.declared.refusal.Verdict.the-variants.{Pass};
 ghost use Rattle.tables.specs.Tables.{Known};
 ghost use Rattle.leaf.specs.Order.{inOrder};
-ghost use Rattle.solver.specs.Task.{wholeDay, dayOf, TaskFits, GivenBy, Solved};
+ghost use Rattle.solver.specs.Task.{begunDay, wholeDay, dayOf, TaskFits, GivenBy, Solved};
 use earliest::set_time;
 use job::Job;
 use job::resumed;
@@ -33,19 +33,25 @@ pub struct Task {
 }
 
 impl Task {
+    // A day of the job for a goal, begun with the kept steps.
+    pub fn begun(job: Job, goal: u64, first: u16, kept: Steps) -> Task
+        ensures { λ r. ⌜ r ≡ begunDay job goal first kept ⌝ }
+    {
+        let stocks = job.stores;
+        Task {
+            start: job.start,
+            stocks,
+            goal,
+            first,
+            kept,
+        }
+    }
+
     // The whole day of a job, for its goal.
     pub fn whole_day(job: Job) -> Task
         ensures { λ r. ⌜ r ≡ wholeDay job ⌝ }
     {
-        let stocks = job.stores;
-        let kept = Steps::none();
-        Task {
-            start: job.start,
-            stocks: stocks,
-            goal: job.goal,
-            first: 0,
-            kept: kept,
-        }
+        Task::begun(job, job.goal, 0, Steps::none())
     }
 }
 

@@ -1,10 +1,11 @@
--- `plan` meets its contract: four ways out.
+-- `plan` meets its contract: two refusals, and the answer of the search handed out.
 -- Assumes nothing.
 use mathlib.Core.Path.{sym, _∙_}
-use borrow.Author.Tests.{not-true, not-false}
+use mathlib.Core.List.{[]}
 use Rattle.job.specs.Job.{jobIn}
-use Rattle.solver.proofs.WholeDay.{whole-day-fits, whole-day-solved}
-use Rattle.planner.proofs.Solving.{plans-refused, plans-short, plans-none, plans-found}
+use Rattle.solver.proofs.TaskDays.{whole-day-fits, whole-day-solved}
+use Rattle.planner.proofs.HandingOut.{whole-when-solved}
+use Rattle.planner.proofs.Solving.{plans-refused, plans-short, plans-answered}
 use borrow.Author.Needs.{needs}
 use Rattle.planner.proofs.plan.Statement.{statement}
 use Rattle.planner.proofs.plan.Tie as tie
@@ -22,8 +23,7 @@ returns : tie.Need-returns
 returns c =
     let c-args = c .before .before .before .before .before .before .args in
     let c-validate = c .before .before .before .before .validate in
-    plans-refused (jobIn (c-args .job)) (c-args .out .now) _ _ (c .refused .ensures)
-    (sym (c-validate .ensures) ∙ c .before .before .verdict .given .1)
+    plans-refused (jobIn (c-args .job)) (c-args .out .now) _ _ (c .refused .ensures) (sym (c-validate .ensures) ∙ c .before .before .verdict .given .1)
 
 enum-told : tie.Need-enum-told
 enum-told c = search needs
@@ -48,48 +48,29 @@ solve-requires c κs =
     let pass = sym (c-validate .ensures) ∙ c .before .before .enum-told .given .1 in
     (pass, whole-day-fits (c-args .job) _ (c .whole-day .ensures) pass)
 
-refused-requires-3 : tie.Need-refused-requires-3
-refused-requires-3 c κs = search needs
-
-returns-3 : tie.Need-returns-3
-returns-3 c =
-    let at8 = c .before .before .before .before .before .before .before .before in
-    let c-args = at8 .before .args in
-    let c-validate = c .before .before .before .before .before .before .before .validate in
-    let c-enum-told = c .before .before .before .before .before .enum-told in
-    let c-if1 = c .before .before .before .before .if1 in
-    let c-whole-day = c .before .before .before .whole-day in
-    let c-solve = c .before .before .solve in
-    let pass = sym (c-validate .ensures) ∙ c-enum-told .given .1 in
-    let solved = whole-day-solved (c-args .job) _ (c-whole-day .ensures) (c-solve .result) (c-solve .ensures) in
-    plans-none (jobIn (c-args .job)) (c-args .out .now) pass (c-if1 .left) (c-solve .result) solved _
-    (c .refused3 .ensures) (not-true (c-solve .result .found) (c .before .if2 .taken))
-
-copy-plan-requires : tie.Need-copy-plan-requires
-copy-plan-requires c κs =
-    let c-if1 = c .before .before .before .before .if1 in
-    let c-solve = c .before .before .solve in
-    let found = c-solve .ensures .found (not-false (c-solve .result .found) (c .before .if2 .left)) in
-    (found .0 .few, found .0 .whole, c-if1 .left)
+hand-out-requires : tie.Need-hand-out-requires
+hand-out-requires c κs =
+    let c-args = c .before .before .before .before .before .before .before .before .args in
+    let c-if1 = c .before .before .before .if1 in
+    let c-solve = c .before .solve in
+    let solved = whole-day-solved (c-args .job) _ (c .before .before .whole-day .ensures) (c-solve .result) (c-solve .ensures) in
+    (whole-when-solved (jobIn (c-args .job)) (c-args .job .goal) 0 [] (c-solve .result) solved, c-if1 .left)
 
 same-length : tie.Need-same-length
 same-length c = search needs
 
-returns-4 : tie.Need-returns-4
-returns-4 c =
+returns-3 : tie.Need-returns-3
+returns-3 c =
     let at8 = c .before .before .before .before .before .before .before .before in
-    let c-args = at8 .before .before .before .before .before .args in
-    let c-validate = at8 .before .before .before .validate in
-    let c-enum-told = at8 .before .enum-told in
-    let c-if1 = c .before .before .before .before .before .before .before .before .if1 in
-    let c-whole-day = c .before .before .before .before .before .before .before .whole-day in
-    let c-solve = c .before .before .before .before .before .before .solve in
-    let c-if2 = c .before .before .before .before .before .if2 in
-    let c-copy-plan = c .before .before .before .copy-plan in
+    let c-args = at8 .before .before .before .args in
+    let c-validate = at8 .before .validate in
+    let c-enum-told = c .before .before .before .before .before .before .before .enum-told in
+    let c-if1 = c .before .before .before .before .before .before .if1 in
+    let c-whole-day = c .before .before .before .before .before .whole-day in
+    let c-solve = c .before .before .before .before .solve in
     let pass = sym (c-validate .ensures) ∙ c-enum-told .given .1 in
     let solved = whole-day-solved (c-args .job) _ (c-whole-day .ensures) (c-solve .result) (c-solve .ensures) in
-    plans-found (jobIn (c-args .job)) (c-args .out .now) pass (c-if1 .left) (c-solve .result) solved
-    (not-false (c-solve .result .found) (c-if2 .left)) _ (c-copy-plan .ensures)
+    plans-answered (jobIn (c-args .job)) (c-args .out .now) pass (c-if1 .left) (c-solve .result) solved _ _ (c .before .before .hand-out .ensures)
 
 pub plan-spec : {M : Type 1} → statement M
 plan-spec =
@@ -104,8 +85,6 @@ plan-spec =
     returns-2
     whole-day-requires
     solve-requires
-    refused-requires-3
-    returns-3
-    copy-plan-requires
+    hand-out-requires
     same-length
-    returns-4)
+    returns-3)

@@ -6,8 +6,8 @@ use lib.ListN.{length, take, length-set}
 use Rattle.encoding.specs.Bytes.{overwrite}
 use Rattle.planner.proofs.Copying.{Copied, copied-none, copied-more, long-enough}
 use native.Mathlib.Omega.{arith}
-use Rattle.planner.proofs.copy_plan.Statement.{statement}
-use Rattle.planner.proofs.copy_plan.Tie as tie
+use Rattle.planner.proofs.hand_out.copy_plan.Statement.{statement}
+use Rattle.planner.proofs.hand_out.copy_plan.Tie as tie
 
 abbrev Inv-loop : tie.InvT-loop
 Inv-loop out₀ answer size i₀ out i = (i ≤ size) × (length out ≡ length out₀) × Copied (answer .plan) out₀ out i

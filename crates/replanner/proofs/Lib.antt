@@ -1,0 +1,3 @@
+mod KeptSteps
+mod Alone
+mod Replanning

@@ -1,0 +1,2 @@
+pub mod Replan
+pub mod Kept
