@@ -1,6 +1,7 @@
 // Both planners on one job. The planner's plan is also checked, and so are its peaks and the bytes that it leaves.
 use job::Job;
 use job::refusal::Verdict;
+use job::refusal::number;
 use second::Makespan;
 use timeline::Day;
 use timeline::Plan;
@@ -12,6 +13,7 @@ const FILL: u8 = 170;
 pub enum Outcome {
     Ends(u32),
     NoPlan,
+    UseBeyond,
     TooLarge, // for the second planner
     Differs,
 }
@@ -74,15 +76,15 @@ fn same_end(job: Job, end: u32) -> bool {
     }
 }
 
-// Whether the planner finds no plan either.
-fn no_plan(job: Job) -> bool {
+// Whether the planner refuses by this number too.
+fn refused(job: Job, by: u8) -> bool {
     let mut slice = [FILL; Plan::BYTES];
     let day = planner::plan(job, &mut slice);
     let verdict = day.verdict;
     match verdict {
         Verdict::Pass => false,
         Verdict::Refused(why) => {
-            (job::refusal::number(why) == 22) & same_peaks(day, Day::refused(why)) & kept(&slice, 0)
+            (number(why) == by) & same_peaks(day, Day::refused(why)) & kept(&slice, 0)
         }
     }
 }
@@ -94,7 +96,8 @@ fn unless_differs(same: bool, outcome: Outcome) -> Outcome {
 pub fn compare(job: Job) -> Outcome {
     match second::shortest(job) {
         Makespan::Ends(end) => unless_differs(same_end(job, end), Outcome::Ends(end)),
-        Makespan::NoPlan => unless_differs(no_plan(job), Outcome::NoPlan),
+        Makespan::NoPlan => unless_differs(refused(job, 22), Outcome::NoPlan),
+        Makespan::UseBeyond => unless_differs(refused(job, 26), Outcome::UseBeyond),
         Makespan::TooLarge => Outcome::TooLarge,
     }
 }

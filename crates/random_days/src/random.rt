@@ -1,4 +1,5 @@
-// Random small jobs: how many have a plan, the sum of their least ends, and how often the planners differ.
+// Random small jobs: how many have a plan, the sum of their least ends, how many are refused by 26, and how often the
+// planners differ.
 use crate::compare;
 use crate::compare::Outcome;
 use std::num::wrapping_add_u64;
@@ -8,6 +9,7 @@ struct Totals {
     jobs: u64,
     plans: u64,
     no_plan: u64,
+    beyond: u64, // jobs refused by 26
     too_large: u64,
     differences: u64,
     ends: u64, // the sum of the least ends
@@ -23,6 +25,9 @@ fn counted(mut totals: Totals, seed: u64) -> Totals {
         }
         Outcome::NoPlan => {
             totals.no_plan = wrapping_add_u64(totals.no_plan, 1);
+        }
+        Outcome::UseBeyond => {
+            totals.beyond = wrapping_add_u64(totals.beyond, 1);
         }
         Outcome::TooLarge => {
             totals.too_large = wrapping_add_u64(totals.too_large, 1);
@@ -41,6 +46,7 @@ fn run(seeds: u64) -> Totals {
         jobs: 0,
         plans: 0,
         no_plan: 0,
+        beyond: 0,
         too_large: 0,
         differences: 0,
         ends: 0,
@@ -55,12 +61,13 @@ fn run(seeds: u64) -> Totals {
 
 pub fn days() {
     output::heading(
-        b"Random small jobs, by the planner and by the second planner: seeds 0 to 1,999.",
+        b"Random small jobs, by the planner and by the second planner: seeds 0 to 2,999.",
     );
-    let totals = run(2_000);
+    let totals = run(3_000);
     output::total(b"jobs", totals.jobs);
     output::total(b"with a plan", totals.plans);
     output::total(b"no plan", totals.no_plan);
+    output::total(b"refused by 26", totals.beyond);
     output::total(b"too large", totals.too_large);
     output::total(b"differences", totals.differences);
     output::total(b"sum of the ends", totals.ends);

@@ -1,11 +1,17 @@
-// Small random jobs for tests: the same seed gives the same job, and every job passes tests 3 to 11 and 26. What stands
-// beyond the counts is drawn as well, since it is to be ignored.
+// Small random jobs for tests: the same seed gives the same job, and every job passes tests 3 to 11. In some an action
+// uses more of a pool or store than there is (26). What stands beyond the counts is drawn as well, since it is to be
+// ignored.
 mod actions; // the actions of a job
 mod draw; // random numbers and sets of facts
 
 ghost use Prim.Native.Nat.{_≤_, _<_};
 use job::Counts;
 use job::Job;
+
+// The largest availabilities. An action uses up to 3 of a pool or store.
+const MOST_OF_A_POOL: u8 = 6;
+
+const MOST_OF_A_STORE: u8 = 8;
 
 // What is peculiar to a job.
 pub enum Kind {
@@ -57,13 +63,13 @@ fn counts_of(seed: u64, kind: Kind) -> Counts {
     }
 }
 
-// Three availabilities from `least` on, and one of 0.
-fn availabilities(seed: u64, least: u8) -> [u32; Job::POOLS]
-    requires { ⌜ least < 100 ⌝ }
+// Three availabilities of 1 to `most`, and one of 0.
+fn availabilities(seed: u64, most: u8) -> [u32; Job::POOLS]
+    requires { ⌜ 0 < most ⌝ }
 {
-    let first = (least + draw::number(seed, 0, 4)) as u32;
-    let second = (least + draw::number(seed, 1, 4)) as u32;
-    let third = (least + draw::number(seed, 2, 4)) as u32;
+    let first = 1 + draw::number(seed, 0, most) as u32;
+    let second = 1 + draw::number(seed, 1, most) as u32;
+    let third = 1 + draw::number(seed, 2, most) as u32;
     [first, second, third, 0]
 }
 
@@ -124,8 +130,8 @@ fn start_of(seed: u64, facts: u8, wanted: u64) -> u64
 pub fn random_job(seed: u64) -> Job {
     let kind = kind_of(seed);
     let facts = facts_of(seed, kind);
-    let pools = availabilities(draw::part(seed, 5), 3);
-    let stores = availabilities(draw::part(seed, 6), 5);
+    let pools = availabilities(draw::part(seed, 5), MOST_OF_A_POOL);
+    let stores = availabilities(draw::part(seed, 6), MOST_OF_A_STORE);
     let mut job = with_actions(seed, kind, facts);
     let action = job.actions[1];
     let other = job.actions[draw::number(seed, 9, 2) as usize * 2];

@@ -106,6 +106,21 @@ fn exceeds_stores(day: Day, state: State, action: Action) -> bool {
     false
 }
 
+// Whether an action uses more of some pool or store than there is (26). The state is that before any step.
+pub fn any_beyond(day: Day, state: State) -> bool {
+    let counts = day.counts;
+    let mut i = 0;
+    while i < Day::ACTIONS {
+        let action = day.actions[i];
+        let beyond = exceeds_pools(day, state, action) | exceeds_stores(day, state, action);
+        if (i < counts.actions) & beyond {
+            return true;
+        }
+        i += 1;
+    }
+    false
+}
+
 // Whether a step of the action may start now and stop by the horizon, which is `left` minutes away.
 pub fn may_start(day: Day, state: State, number: usize, left: u32) -> bool
     requires { ⌜ number < 8 ⌝ }

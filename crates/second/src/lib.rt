@@ -14,10 +14,11 @@ const DEADLINE: u16 = 60;
 // The most decisions whether to start an action, over all horizons.
 const DECISIONS: u32 = 1_000_000;
 
-// The least end of the accepted plans, that there is none, or that there is too much to try.
+// The least end of the accepted plans, that there is none, that the job is refused, or that there is too much to try.
 pub enum Makespan {
     Ends(u32),
     NoPlan,
+    UseBeyond, // an action uses more of a pool or store than there is (26)
     TooLarge,
 }
 
@@ -91,7 +92,7 @@ fn least_horizon(day: Day, state: State, deadline: u16) -> Makespan
     Makespan::NoPlan
 }
 
-// The least end of the accepted plans of a job that passes its tests. A job with over 8 actions, a deadline over 60
+// The least end of the accepted plans of a job that passes tests 3 to 11. A job with over 8 actions, a deadline over 60
 // or too many plans is too large.
 pub fn shortest(job: Job) -> Makespan {
     let counts = job.counts;
@@ -115,5 +116,8 @@ pub fn shortest(job: Job) -> Makespan {
         stores,
         steps: Day::STEPS,
     };
+    if day::any_beyond(day, state) {
+        return Makespan::UseBeyond;
+    }
     least_horizon(day, state, job.deadline)
 }

@@ -19,6 +19,14 @@ pub fn starred() {
     show::no_plan(b"case 13, deadline 9", days::case_13(9));
 }
 
+// Each action of case 4 uses 1 of the pool, each of case 7 uses 2 of the store.
+pub fn use_beyond() {
+    output::heading(b"An action uses more of a pool or store than there is.");
+    show::use_beyond(b"case 4, pool of 0", days::case_4(4, 0));
+    show::use_beyond(b"case 7, store of 1", days::case_7(1));
+    show::no_plan(b"case 7, store of 2", days::case_7(2));
+}
+
 // So many equal actions of length 1 with these needs. Fact 1, which is wanted, never holds.
 fn equal_actions(actions: usize, deadline: u16, needs: u64) -> Job {
     let mut job = parts::empty(2, deadline, 0b00, 0b10);

@@ -5,6 +5,7 @@ mod show; // the lines of the output
 
 fn main() {
     days::starred();
+    days::use_beyond();
     days::too_large();
     random::jobs();
 }

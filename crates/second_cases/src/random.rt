@@ -1,5 +1,6 @@
-// Random small jobs: how many have a plan, and the sum of their least ends.
+// Random small jobs: how many have a plan, the sum of their least ends, and how many are refused by 26.
 use job::Job;
+use job::refusal::Refusal;
 use job::refusal::Verdict;
 use job::validate::validate;
 use second::Makespan;
@@ -7,18 +8,22 @@ use std::num::wrapping_add_u64;
 
 // What is counted over many jobs. No sum comes near 64 bits.
 struct Totals {
-    invalid: u64, // jobs that fail one of their tests
+    invalid: u64, // jobs that fail one of tests 3 to 11
     plans: u64,
     no_plan: u64,
+    beyond: u64, // jobs refused by 26
     too_large: u64,
     ends: u64, // the sum of the least ends
 }
 
-// 0 for a job that passes its tests, otherwise 1.
+// 0 for a job that passes tests 3 to 11, otherwise 1.
 fn invalid(job: Job) -> u64 {
     match validate(job) {
         Verdict::Pass => 0,
-        Verdict::Refused(_) => 1,
+        Verdict::Refused(why) => match why {
+            Refusal::UseBeyond => 0,
+            _ => 1,
+        },
     }
 }
 
@@ -33,6 +38,9 @@ fn counted(mut totals: Totals, job: Job) -> Totals {
         Makespan::NoPlan => {
             totals.no_plan = wrapping_add_u64(totals.no_plan, 1);
         }
+        Makespan::UseBeyond => {
+            totals.beyond = wrapping_add_u64(totals.beyond, 1);
+        }
         Makespan::TooLarge => {
             totals.too_large = wrapping_add_u64(totals.too_large, 1);
         }
@@ -46,6 +54,7 @@ fn run(seeds: u64) -> Totals {
         invalid: 0,
         plans: 0,
         no_plan: 0,
+        beyond: 0,
         too_large: 0,
         ends: 0,
     };
@@ -63,6 +72,7 @@ pub fn jobs() {
     output::total(b"invalid", totals.invalid);
     output::total(b"with a plan", totals.plans);
     output::total(b"no plan", totals.no_plan);
+    output::total(b"refused by 26", totals.beyond);
     output::total(b"too large", totals.too_large);
     output::total(b"sum of the ends", totals.ends);
 }

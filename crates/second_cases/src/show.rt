@@ -11,6 +11,7 @@ fn print(answer: Makespan) {
             output::number(end as u64);
         }
         Makespan::NoPlan => text(b"no plan"),
+        Makespan::UseBeyond => text(b"refused by 26"),
         Makespan::TooLarge => text(b"too large"),
     }
 }
@@ -18,8 +19,9 @@ fn print(answer: Makespan) {
 // An answer as one number.
 fn code(answer: Makespan) -> u64 {
     match answer {
-        Makespan::Ends(end) => 2 + end as u64,
-        Makespan::NoPlan => 1,
+        Makespan::Ends(end) => 3 + end as u64,
+        Makespan::NoPlan => 2,
+        Makespan::UseBeyond => 1,
         Makespan::TooLarge => 0,
     }
 }
@@ -41,6 +43,10 @@ pub fn ends(case: &[u8], job: Job, end: u32) {
 
 pub fn no_plan(case: &[u8], job: Job) {
     line(case, job, Makespan::NoPlan);
+}
+
+pub fn use_beyond(case: &[u8], job: Job) {
+    line(case, job, Makespan::UseBeyond);
 }
 
 pub fn too_large(case: &[u8], job: Job) {
