@@ -14,7 +14,8 @@ use Rattle.job.specs.declared.refusal.Verdict.the-variants.{Pass, Refused}
 use Rattle.job.specs.Job.{Job}
 use Rattle.job.specs.Refusal.{Row, _when_, number, first}
 use Rattle.job.specs.Valid.{jobRows, limitRows, actionRows}
-use Rattle.job.proofs.Passed.{Passed, passed, within-limits}
+use Rattle.job.specs.Passed.{Passed}
+use Rattle.job.proofs.Passed.{passed, within-limits}
 use Rattle.job.proofs.Table.{pass-of-append}
 use Rattle.timeline.specs.declared.Day.{Day}
 use Rattle.timeline.specs.Accepted.{Accepted}

@@ -9,7 +9,7 @@ use native.Mathlib.Omega.{arith}
 use Rattle.facts.specs.FactSet.{has}
 use Rattle.facts.proofs.Membership.{has-zero}
 use Rattle.job.specs.Job.{Job}
-use Rattle.job.proofs.Passed.{Passed}
+use Rattle.job.specs.Passed.{Passed}
 use Rattle.timeline.specs.Step.{stepsIn}
 use Rattle.timeline.specs.Timeline.{end}
 use Rattle.timeline.proofs.Tests.{le-or-lt}

@@ -19,7 +19,8 @@ use Rattle.job.specs.Job.{Job, jobIn, jobValue}
 use Rattle.job.specs.Refusal.{first}
 use Rattle.job.specs.Resumed.{resumed}
 use Rattle.job.specs.Valid.{jobRows}
-use Rattle.job.proofs.Passed.{Passed, passed}
+use Rattle.job.specs.Passed.{Passed}
+use Rattle.job.proofs.Passed.{passed}
 use Rattle.job.proofs.Table.{first-next, first-append-pass, first-none}
 use Rattle.job.proofs.Values.{Shape, job-in-shape, value-holds-job}
 use Rattle.jobfile.specs.declared.Written.{Written}

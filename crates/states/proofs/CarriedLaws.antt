@@ -13,9 +13,9 @@ use Rattle.facts.specs.FactSet.{has, union, difference}
 use Rattle.facts.proofs.SetLaws.{in-union-left, in-union-right, in-union-cases, in-difference-parts}
 use Rattle.job.specs.Job.{Job}
 use Rattle.timeline.specs.Step.{Step, stepOf}
+use Rattle.timeline.specs.Places.{Place, EachStep}
 use Rattle.regression.specs.Wanted.{addedBetween}
 use Rattle.timeline.proofs.Tests.{not-both, false-unless, and-both, le-or-lt}
-use Rattle.timeline.proofs.Places.{Place, EachStep}
 use Rattle.regression.proofs.Gathered.{in-cond, in-cond-parts, in-unionOf, in-unionOf-from}
 use Rattle.regression.proofs.Carried.{EventBefore, NeededBefore, Carried}
 use Rattle.tables.specs.Tables.{Describes, chosen, keptOf, KeepsKept}

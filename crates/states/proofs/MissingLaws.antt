@@ -12,7 +12,7 @@ use Rattle.job.specs.Job.{Job}
 use Rattle.timeline.specs.Step.{Step, total}
 use Rattle.timeline.specs.From.{IsNew}
 use Rattle.timeline.specs.Timeline.{usedUp}
-use Rattle.timeline.proofs.Places.{EachStep}
+use Rattle.timeline.specs.Places.{EachStep}
 use Rattle.regression.specs.Tests.{mustHold}
 use Rattle.regression.specs.DeadEnd.{Until}
 use Rattle.tables.specs.Tables.{Describes, chosen, keptOf, fromOf, KeepsKept}

@@ -15,10 +15,10 @@ use Rattle.facts.proofs.SetLaws.{not-in-both, no-common-member}
 use Rattle.job.specs.Job.{Job}
 use Rattle.timeline.specs.Step.{Step, unionOf}
 use Rattle.timeline.specs.Timeline.{held}
+use Rattle.timeline.specs.Places.{Member}
+use Rattle.timeline.specs.Keeps.{PlanOf}
 use Rattle.timeline.proofs.Tests.{and-both, decided}
-use Rattle.timeline.proofs.Places.{Member}
 use Rattle.timeline.proofs.NewSteps.{new-both-from-minute}
-use Rattle.times.proofs.PlanSteps.{PlanOf}
 use Rattle.earliest.specs.Numbers.{setNumber}
 use Rattle.landmarks.specs.Bounds.{TimesBound}
 use Rattle.regression.specs.Wanted.{wantedAt}

@@ -10,7 +10,7 @@ use Rattle.facts.specs.FactSet.{has, union, single, meets, Subset}
 use Rattle.job.specs.Job.{Job}
 use Rattle.timeline.specs.Step.{Step, stepOf}
 use Rattle.timeline.specs.From.{IsNew, FitsFrom}
-use Rattle.timeline.proofs.Places.{Member}
+use Rattle.timeline.specs.Places.{Member}
 use Rattle.times.specs.Earliest.{actionOf}
 use Rattle.regression.specs.Wanted.{wantedAt}
 use Rattle.regression.specs.DeadEnd.{Until, Open, Dead, stepStopping}
