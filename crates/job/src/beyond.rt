@@ -10,7 +10,7 @@ use crate::Job;
 use crate::resources;
 
 // Whether one of the first n amounts is over its own limit.
-fn any_above(limits: [u32; Job::POOLS], amounts: [u32; Job::POOLS], n: usize) -> bool
+fn any_above(limits: [u32; Job::AMOUNTS], amounts: [u32; Job::AMOUNTS], n: usize) -> bool
     requires { ⌜ n ≤ 4 ⌝ }
     ensures { λ r. ⌜ r ≡ anyBelow n (λ k. over (getD limits k 0) (getD amounts k 0)) ⌝ }
 {

@@ -67,10 +67,13 @@ impl Job {
     // The latest deadline, in minutes.
     pub const DEADLINE: u16 = 1_440;
 
-    // The most pools, stores and actions.
-    pub const POOLS: usize = 4;
+    // The places of an array of amounts, one for each pool or one for each store.
+    pub const AMOUNTS: usize = 4;
 
-    pub const STORES: usize = 4;
+    // The most pools, stores and actions.
+    pub const POOLS: usize = Job::AMOUNTS;
+
+    pub const STORES: usize = Job::AMOUNTS;
 
     pub const ACTIONS: usize = 64;
 

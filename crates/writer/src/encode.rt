@@ -74,7 +74,7 @@ pub fn head(out: &mut [u8], job: Job)
 }
 
 // The first n amounts, from place `at` on.
-pub fn amounts(out: &mut [u8], at: usize, xs: [u32; Job::POOLS], n: usize)
+pub fn amounts(out: &mut [u8], at: usize, xs: [u32; Job::AMOUNTS], n: usize)
     requires { ⌜ (n ≤ 4) × (at + 4 * n ≤ length (now out)) ⌝ }
     ensures { λ r. ⌜ now (out .exit) ≡ overwrite (now (out .entry)) at (amountBytes (firsts n 0 xs)) ⌝ }
 {
