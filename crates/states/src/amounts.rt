@@ -18,7 +18,7 @@ pub struct Uses {
 }
 
 // An amount of 32 bits as a number of 64, where it counts.
-pub fn amount(counts: bool, number: u32) -> u64
+fn amount(counts: bool, number: u32) -> u64
     ensures { λ r. ⌜ (r ≡ cond counts number 0) × (r < 2 ^ 32) ⌝ }
 {
     if counts {
@@ -110,7 +110,7 @@ pub fn exceeds(
 {
     let mut k = 0;
     while k < count {
-        if amount(true, limits[k]) < sums[k] + amount(true, numbers[at + k]) {
+        if job::wide(limits[k]) < sums[k] + job::wide(numbers[at + k]) {
             return true;
         }
         k += 1;

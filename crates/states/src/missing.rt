@@ -43,7 +43,7 @@ fn stores_suffice(numbers: &[u32], frame: Frame, st: State, missing: u64) -> boo
     let stocks = frame.stocks;
     let mut k = 0;
     while k < frame.stores {
-        let stock = shares::wide(stocks[k]);
+        let stock = job::wide(stocks[k]);
         if !fits(numbers, k, missing, spent[k], stock) {
             return false;
         }
@@ -61,7 +61,7 @@ fn pools_suffice(numbers: &[u32], frame: Frame, st: State, missing: u64) -> bool
 {
     let steps = st.steps;
     let available = frame.available;
-    let t = shares::wide(minute::wide(st.minute));
+    let t = job::wide(minute::wide(st.minute));
     let mut k = 0;
     while k < frame.pools {
         let from = pool_minutes::opening(numbers, k, frame.origin);
@@ -92,7 +92,7 @@ fn minutes_suffice(sets: &[u64], numbers: &[u32], frame: Frame, st: State, missi
         → DeadUnlessSuffices (now (sets .entry)) (now (numbers .entry)) frame st r) ⌝ }
 {
     let minutes = cliques::minutes(sets, numbers, missing);
-    minutes <= shares::wide(minute::wide(st.minute) - minute::wide(frame.first))
+    minutes <= job::wide(minute::wide(st.minute) - minute::wide(frame.first))
 }
 
 // Whether steps, stores, pools and minutes suffice for what is missing.

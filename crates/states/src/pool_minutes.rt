@@ -7,7 +7,6 @@ ghost use Rattle.tables.specs.Tables.{Numbers, Known, durationAt, poolUseAt};
 ghost use Rattle.landmarks.specs.Openings.{openAt};
 ghost use Rattle.states.specs.Missing.{UsedBefore};
 use crate::minute;
-use landmarks::shares;
 use tables::Steps;
 use tables::layout::NumberTable;
 
@@ -16,7 +15,7 @@ pub fn opening(numbers: &[u32], pool: usize, origin: u16) -> u64
     requires { ⌜ (length (now numbers) ≡ 1220) × (pool < 4) ⌝ }
     ensures { λ r. ⌜ r ≡ openAt (now (numbers .entry)) pool + origin ⌝ }
 {
-    shares::wide(numbers[NumberTable::OPENINGS + pool]) + shares::wide(minute::wide(origin))
+    job::wide(numbers[NumberTable::OPENINGS + pool]) + job::wide(minute::wide(origin))
 }
 
 // The minutes from one minute up to another, none where that is earlier.
@@ -34,7 +33,7 @@ pub fn supply(amount: u32, from: u64, t: u64) -> u64
     requires { ⌜ t < 65536 ⌝ }
     ensures { λ r. ⌜ (r ≡ amount * (t - from)) × (r ≤ 2 ^ 48) ⌝ }
 {
-    shares::wide(amount) * between(from, t)
+    job::wide(amount) * between(from, t)
 }
 
 // The later of two minutes.
@@ -64,10 +63,10 @@ fn used_by(numbers: &[u32], i: u8, start: u16, pool: usize, from: u64, t: u64) -
     ensures { λ r. ⌜ (r ≡ poolUseAt (now (numbers .entry)) i pool
         * (min (start + durationAt (now (numbers .entry)) i) t - max start from)) × (r ≤ 2 ^ 40) ⌝ }
 {
-    let begin = shares::wide(minute::wide(start));
-    let stop = shares::wide(minute::stop(numbers, i, start));
+    let begin = job::wide(minute::wide(start));
+    let stop = job::wide(minute::stop(numbers, i, start));
     let minutes = minutes_in(from, t, begin, stop);
-    shares::wide(numbers[i as usize * NumberTable::ROW + NumberTable::POOLS + pool]) * minutes
+    job::wide(numbers[i as usize * NumberTable::ROW + NumberTable::POOLS + pool]) * minutes
 }
 
 // What the chosen steps use of the pool from a minute on and before t.
