@@ -29,7 +29,7 @@ use Rattle.states.specs.declared.amounts.Uses.{Uses}
 use Rattle.states.specs.Minutes.{LooksAt}
 use Rattle.states.specs.Amounts.{LooksUses}
 use Rattle.states.specs.States.{Stands, DeadFor}
-use Rattle.states.specs.Missing.{Fresh}
+use Rattle.pruning.specs.Missing.{Fresh}
 use Rattle.search.specs.Search.{Ready, Answered, NoneFrom}
 use Rattle.search.specs.Horizons.{Whole, Solves, NoneBy}
 use Rattle.search.proofs.Counted.{split-of-counted, found-when-finished}

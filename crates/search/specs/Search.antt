@@ -17,7 +17,7 @@ use Rattle.leaf.specs.declared.Answer.{Answer}
 use Rattle.leaf.specs.Answer.{FileOf, Found, bytesIn}
 use Rattle.leaf.specs.Order.{inOrder}
 use Rattle.states.specs.declared.state.State.{State}
-use Rattle.states.specs.Missing.{Marked}
+use Rattle.pruning.specs.Missing.{Marked}
 use Rattle.states.specs.States.{Stands, Safe, DeadFor}
 
 -- the steps of a plan before a place
