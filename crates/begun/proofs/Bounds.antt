@@ -9,11 +9,11 @@ use Rattle.job.specs.Job.{Job}
 use Rattle.timeline.specs.Step.{Step}
 use Rattle.timeline.specs.From.{From, IsNew}
 use Rattle.timeline.specs.Timeline.{held}
-use Rattle.timeline.proofs.Places.{EachStep}
+use Rattle.timeline.specs.Places.{EachStep}
+use Rattle.timeline.specs.Keeps.{PlanOf}
 use Rattle.timeline.proofs.NewSteps.{new-both-from-minute}
 use Rattle.times.specs.Earliest.{Table, timeOf, Solves}
-use Rattle.times.proofs.Times.{By}
-use Rattle.times.proofs.PlanSteps.{PlanOf}
+use Rattle.times.specs.Choices.{By}
 use Rattle.times.proofs.Admissible.{held-set-not-before-its-time}
 use Rattle.regression.specs.DeadEnd.{NormalPlan}
 use Rattle.regression.proofs.DeadEnds.{Bounds}

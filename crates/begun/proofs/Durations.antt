@@ -12,9 +12,9 @@ use Rattle.lists.specs.Lists.{Each}
 use Rattle.lists.proofs.Tabulate.{each-at}
 use Rattle.job.specs.Job.{Action, Job}
 use Rattle.timeline.specs.Step.{Step, noAction}
+use Rattle.timeline.specs.Places.{EachStep}
+use Rattle.timeline.specs.Keeps.{OfJob}
 use Rattle.timeline.proofs.Tests.{le-or-lt}
-use Rattle.timeline.proofs.Places.{EachStep}
-use Rattle.timeline.proofs.JobSteps.{OfJob}
 use Rattle.times.specs.Earliest.{actionOf}
 use Rattle.times.proofs.Monotone.{PositiveDurations}
 use Rattle.times.proofs.Finite.{LongestDuration}

@@ -12,8 +12,9 @@ use Rattle.facts.proofs.SetLaws.{union-zero-left}
 use Rattle.job.specs.Job.{Action, Job}
 use Rattle.timeline.specs.Step.{Step, unionOf}
 use Rattle.timeline.specs.Timeline.{ifStops, held}
+use Rattle.timeline.specs.Places.{here, EachStep}
 use Rattle.timeline.proofs.Tests.{same-test}
-use Rattle.timeline.proofs.Places.{here, EachStep, each-rest}
+use Rattle.timeline.proofs.Places.{each-rest}
 use Rattle.begun.specs.RestOfDay.{withDuration}
 use Rattle.begun.proofs.Rests.{Rest, rest-union}
 

@@ -10,11 +10,10 @@ use Rattle.facts.specs.FactSet.{Subset}
 use Rattle.job.specs.Job.{Job}
 use Rattle.timeline.specs.Step.{Step}
 use Rattle.timeline.specs.Timeline.{held}
-use Rattle.timeline.proofs.Places.{EachStep, place-append}
-use Rattle.timeline.proofs.JobSteps.{OfJob}
-use Rattle.timeline.proofs.Keeps.{Keeps}
+use Rattle.timeline.specs.Places.{EachStep}
+use Rattle.timeline.specs.Keeps.{OfJob, Keeps, PlanOf}
+use Rattle.timeline.proofs.Places.{place-append}
 use Rattle.timeline.proofs.Persist.{keeps-needs-hold}
-use Rattle.times.proofs.PlanSteps.{PlanOf}
 use Rattle.begun.specs.RestOfDay.{restOfJob, restOfPlan}
 use Rattle.begun.proofs.Rests.{Rest, each-of-rest}
 use Rattle.begun.proofs.WhatIsLeft.{numberBefore, rest-of-plan}

@@ -9,8 +9,8 @@ use Rattle.facts.specs.FactSet.{union}
 use Rattle.facts.proofs.SetLaws.{union-zero-left}
 use Rattle.job.specs.Job.{Job}
 use Rattle.timeline.specs.Step.{Step, total, unionOf}
-use Rattle.timeline.proofs.Places.{Place, here, there, EachStep}
-use Rattle.timeline.proofs.JobSteps.{OfJob}
+use Rattle.timeline.specs.Places.{Place, here, there, EachStep}
+use Rattle.timeline.specs.Keeps.{OfJob}
 use Rattle.begun.specs.RestOfDay.{restStep}
 
 -- x runs on after M, and what is left of it is a step of the job J with number n and length d; `was` gives the number

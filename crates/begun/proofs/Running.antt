@@ -8,7 +8,8 @@ use native.Mathlib.Omega.{arith}
 use borrow.Author.Tests.{ltb-true, lt-ltb}
 use Rattle.lists.specs.Lists.{Each}
 use Rattle.timeline.specs.Step.{Step}
-use Rattle.timeline.proofs.Places.{Place, here, there, Member, EachStep, each-rest}
+use Rattle.timeline.specs.Places.{Place, here, there, Member, EachStep}
+use Rattle.timeline.proofs.Places.{each-rest}
 use Rattle.begun.specs.RestOfDay.{runsIn, running}
 
 pub member-of-running : (M : ℕ) {x : Step} {Q K : List Step} → Place x Q K → M < x .stop → Member x (running M K)

@@ -11,10 +11,11 @@ use lib.Seq.{getD-append-add}
 use borrow.Author.Tests.{ltb-true, ltb-false, lt-ltb, le-ltb}
 use Rattle.job.specs.Job.{Action, Job}
 use Rattle.timeline.specs.Step.{Step, noAction}
-use Rattle.timeline.proofs.Places.{Place, here, EachStep, each-rest, place-append}
-use Rattle.timeline.proofs.JobSteps.{OfJob}
+use Rattle.timeline.specs.Places.{Place, here, EachStep}
+use Rattle.timeline.specs.Keeps.{OfJob, PlanOf}
+use Rattle.timeline.proofs.Places.{each-rest, place-append}
 use Rattle.times.specs.Earliest.{actionOf}
-use Rattle.times.proofs.PlanSteps.{PlanOf, own-action, own-stop}
+use Rattle.times.proofs.PlanSteps.{own-action, own-stop}
 use Rattle.begun.specs.RestOfDay.{runsIn, running, restAction, restOfJob}
 use Rattle.begun.specs.RestOfDay.{restStep, newSteps, restSteps, restOfPlan}
 use Rattle.begun.proofs.Rests.{LeftAs, Rest, none, done, left}

@@ -8,10 +8,11 @@ use lib.ListN.{length}
 use borrow.Author.Tests.{leb-false}
 use Rattle.lists.specs.Lists.{any, Each}
 use Rattle.job.specs.Job.{Job}
-use Rattle.job.proofs.Passed.{Passed}
+use Rattle.job.specs.Passed.{Passed}
 use Rattle.timeline.specs.Step.{Step, stepsIn}
 use Rattle.timeline.specs.Accepted.{unknown}
-use Rattle.timeline.proofs.Places.{EachStep, each-here, each-rest, none-of-any}
+use Rattle.timeline.specs.Places.{EachStep}
+use Rattle.timeline.proofs.Places.{each-here, each-rest, none-of-any}
 use Rattle.timeline.proofs.JobSteps.{lasting-of-known, steps-in-bytes}
 
 pub each-of-steps : (F : Step → Type 0) (P : List Step) → EachStep F P → Each F P

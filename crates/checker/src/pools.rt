@@ -12,7 +12,6 @@ ghost use Rattle.timeline.specs.Accepted.{exceedsPool};
 ghost use Rattle.timeline.specs.Value.{stepsOf};
 ghost use Rattle.checker.specs.Check.{SmallPeaks};
 ghost use Rattle.checker.specs.Leaf.{Share, InUse, PeakOf};
-use crate::rules::wide;
 use job::Job;
 use job::refusal::Refusal;
 use job::refusal::Verdict;
@@ -31,7 +30,7 @@ fn share(step: Step, pool: usize, minute: u32) -> u64
     if step.stop <= minute {
         return 0;
     }
-    wide(action.pools[pool])
+    job::wide(action.pools[pool])
 }
 
 // How much of the pool is in use in the minute.
@@ -83,7 +82,7 @@ pub fn within(plan: Plan, job: Job) -> Verdict
     let counts = job.counts;
     let mut k = 0;
     while k < counts.pools {
-        if wide(job.pools[k]) < peak(plan, k) {
+        if job::wide(job.pools[k]) < peak(plan, k) {
             return Verdict::Refused(Refusal::PoolExceeded);
         }
         k += 1;

@@ -2,7 +2,7 @@
 ghost use mathlib.Core.Path.{_≡_};
 ghost use mathlib.Core.Bool.{not};
 ghost use mathlib.Core.List.{[], _∷_};
-ghost use Prim.Native.Nat.{max, _≤_, _<_};
+ghost use Prim.Native.Nat.{_≤_, _<_};
 ghost use lib.ListN.{length};
 ghost use Rattle.lists.specs.Lists.{any, tabulate, anyBelow};
 ghost use Rattle.job.specs.Job.{jobIn, Fits};
@@ -22,23 +22,6 @@ use job::refusal::Refusal;
 use job::refusal::Verdict;
 use timeline::Plan;
 use timeline::Step;
-
-// A number of 32 bits as one of 64.
-pub fn wide(x: u32) -> u64
-    ensures { λ r. ⌜ (r ≡ x) × (r < 4294967296) ⌝ }
-{
-    x as u64
-}
-
-// The later of two minutes.
-fn later(a: u32, b: u32) -> u32
-    ensures { λ r. ⌜ r ≡ max a b ⌝ }
-{
-    if a < b {
-        return b;
-    }
-    a
-}
 
 // Whether x stands before y: by start, then by action.
 fn precedes(x: Step, y: Step) -> bool
@@ -132,7 +115,7 @@ fn used_up(plan: Plan, store: usize) -> u64
     while i < plan.length {
         let step = plan.steps[i];
         let action = step.action;
-        sum += wide(action.stores[store]);
+        sum += job::wide(action.stores[store]);
         i += 1;
     }
     sum
@@ -147,7 +130,7 @@ pub fn stores(plan: Plan, job: Job) -> Verdict
     let counts = job.counts;
     let mut k = 0;
     while k < counts.stores {
-        if wide(job.stores[k]) < used_up(plan, k) {
+        if job::wide(job.stores[k]) < used_up(plan, k) {
             return Verdict::Refused(Refusal::StoreExceeded);
         }
         k += 1;
@@ -164,7 +147,7 @@ pub fn end(plan: Plan) -> u32
     let mut i = 0;
     while i < plan.length {
         let step = plan.steps[i];
-        latest = later(latest, step.stop);
+        latest = timeline::later(latest, step.stop);
         i += 1;
     }
     latest

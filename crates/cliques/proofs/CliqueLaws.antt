@@ -15,11 +15,13 @@ use Rattle.job.specs.Job.{Job}
 use Rattle.timeline.specs.Step.{Step, total}
 use Rattle.timeline.specs.From.{From, IsNew}
 use Rattle.timeline.specs.Timeline.{held}
+use Rattle.timeline.specs.Places.{Place, EachStep}
+use Rattle.timeline.specs.Keeps.{PlanOf}
 use Rattle.timeline.proofs.Tests.{not-both, or-neither, le-or-lt}
-use Rattle.timeline.proofs.Places.{Place, EachStep, split-place, place-append, each-cons, length-place, total-zero}
+use Rattle.timeline.proofs.Places.{split-place, place-append, each-cons, length-place, total-zero}
 use Rattle.timeline.proofs.NewSteps.{new-from-minute, new-both-from-minute}
 use Rattle.times.specs.Earliest.{actionOf}
-use Rattle.times.proofs.PlanSteps.{PlanOf, Paired, own-action, own-stop, needs-at}
+use Rattle.times.proofs.PlanSteps.{Paired, own-action, own-stop, needs-at}
 use Rattle.times.proofs.PlanSteps.{paired-when-shared}
 use Rattle.regression.specs.Tests.{mustHold}
 use Rattle.regression.specs.DeadEnd.{Until, Dead}

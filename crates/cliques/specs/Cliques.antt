@@ -10,9 +10,9 @@ use Rattle.facts.specs.FactSet.{has, union, Subset}
 use Rattle.job.specs.Job.{Job}
 use Rattle.timeline.specs.Step.{Step}
 use Rattle.timeline.specs.Timeline.{held}
-use Rattle.timeline.proofs.Places.{EachStep}
+use Rattle.timeline.specs.Places.{EachStep}
+use Rattle.timeline.specs.Keeps.{PlanOf}
 use Rattle.times.specs.Earliest.{actionOf}
-use Rattle.times.proofs.PlanSteps.{PlanOf}
 use Rattle.earliest.specs.Numbers.{setNumber}
 use Rattle.tables.specs.declared.Frame.{Frame}
 use Rattle.tables.specs.Tables.{clashes, needsAt, addsAt, clashesAt, durationAt, poolUseAt}

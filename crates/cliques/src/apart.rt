@@ -7,7 +7,6 @@ ghost use Rattle.landmarks.specs.Tables.{KeptBefore};
 ghost use Rattle.landmarks.specs.Marked.{WithinLimits};
 ghost use Rattle.cliques.specs.Cliques.{Exceeded, Unreached, Exclude, Outside, Lessened, ApartTo};
 use earliest::set_time;
-use landmarks::shares;
 use tables::Frame;
 use tables::layout::NumberTable;
 use tables::layout::SetTable;
@@ -20,9 +19,9 @@ fn exceed(numbers: &[u32], frame: Frame, i: usize, j: usize) -> bool
     let available = frame.available;
     let mut pool = 0;
     while pool < frame.pools {
-        let first = shares::wide(numbers[i * NumberTable::ROW + NumberTable::POOLS + pool]);
-        let second = shares::wide(numbers[j * NumberTable::ROW + NumberTable::POOLS + pool]);
-        if shares::wide(available[pool]) < first + second {
+        let first = job::wide(numbers[i * NumberTable::ROW + NumberTable::POOLS + pool]);
+        let second = job::wide(numbers[j * NumberTable::ROW + NumberTable::POOLS + pool]);
+        if job::wide(available[pool]) < first + second {
             return true;
         }
         pool += 1;

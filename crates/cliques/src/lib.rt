@@ -14,7 +14,6 @@ ghost use Rattle.landmarks.specs.Marked.{WithinLimits};
 ghost use Rattle.cliques.specs.Cliques.{Remaining, CliqueMinutes};
 ghost use Rattle.cliques.specs.Marked.{MarkedTables};
 use job::Job;
-use landmarks::shares;
 use tables::Frame;
 use tables::layout::NumberTable;
 use tables::layout::SetTable;
@@ -89,7 +88,7 @@ pub fn minutes(sets: &[u64], numbers: &[u32], set: u64) -> u64
     let mut allowed = set;
     let mut q = pick(numbers, allowed, sum);
     while q < facts::BITS {
-        sum = shares::wide(numbers[NumberTable::LEAST + q as usize]) + sum;
+        sum = job::wide(numbers[NumberTable::LEAST + q as usize]) + sum;
         allowed = remaining(sets, allowed, q);
         q = pick(numbers, allowed, sum);
     }

@@ -18,9 +18,8 @@ use Rattle.job.specs.Valid.{over}
 use Rattle.timeline.specs.Timeline.{hinders}
 use Rattle.times.specs.Earliest.{timeOf, actionOf, fitsAlone, fitTogether}
 use Rattle.times.specs.Numbers.{none, tableIn}
-use Rattle.times.proofs.Times.{By}
-use Rattle.times.proofs.Choices.{Alone, Together, both, other, each}
-use Rattle.times.proofs.Kept.{finiteIn}
+use Rattle.times.specs.Choices.{By, Alone, Together, both, other, each}
+use Rattle.times.specs.Entries.{finiteIn}
 use Rattle.earliest.specs.Numbers.{setNumber}
 use Rattle.earliest.specs.Lowering.{Lowerable, RowOffered, AllOffered}
 use Rattle.earliest.specs.Sweep.{endNumber, bothEndNumber, isLonger, mayJoin}

@@ -16,8 +16,8 @@ use Rattle.job.specs.Job.{Action, Job}
 use Rattle.job.specs.Valid.{over}
 use Rattle.timeline.proofs.Tests.{or-cases, le-or-lt}
 use Rattle.times.specs.Earliest.{Table, actionOf, fitTogether}
+use Rattle.times.specs.Choices.{Together}
 use Rattle.times.proofs.Times.{timeOf-part}
-use Rattle.times.proofs.Choices.{Together}
 use Rattle.earliest.specs.Sweep.{isLonger}
 
 module _ (d e i j : ℕ) where

@@ -10,7 +10,7 @@ use lib.ListN.{length}
 use Rattle.facts.specs.FactSet.{has, NextFact}
 use Rattle.job.specs.Job.{Job}
 use Rattle.timeline.proofs.Tests.{le-or-lt}
-use Rattle.times.proofs.Kept.{Kept}
+use Rattle.times.specs.Entries.{Kept}
 use Rattle.earliest.specs.Lowering.{Lowering}
 use Rattle.earliest.proofs.LoweringLaws.{lowering-none, lowering-then, lowering-weaker}
 

@@ -15,13 +15,15 @@ use Rattle.pairs.specs.Pairs.{entryOf}
 use Rattle.timeline.proofs.Tests.{or-cases, le-or-lt}
 use Rattle.times.specs.Earliest.{rightSide}
 use Rattle.times.specs.Numbers.{none, tableIn}
+use Rattle.times.specs.Choices.{Reached}
+use Rattle.times.specs.Entries.{sum, Kept, finiteIn}
 use Rattle.times.proofs.Times.{by-later-minute}
 use Rattle.times.proofs.Monotone.{right-side-mono}
-use Rattle.times.proofs.Choices.{Reached, reached-of-right-side, right-side-of-reached, reached-swap}
+use Rattle.times.proofs.Choices.{reached-of-right-side, right-side-of-reached, reached-swap}
 use Rattle.times.proofs.Sentinel.{by-time-in}
 use Rattle.times.proofs.Slots.{entry-before-2080}
-use Rattle.times.proofs.Falling.{sum, sum-falls, lowered-by-number}
-use Rattle.times.proofs.Kept.{Kept, finiteIn, entry-inside, entry-at-most-none, kept-when-written}
+use Rattle.times.proofs.Falling.{sum-falls, lowered-by-number}
+use Rattle.times.proofs.Kept.{entry-inside, entry-at-most-none, kept-when-written}
 use Rattle.times.proofs.Kept.{finite-when-written}
 use Rattle.earliest.specs.Lowering.{entryAt, Lowerable, Lowering, EntryAtMost, Offered, LowersEntry}
 

@@ -15,10 +15,12 @@ use Rattle.pairs.specs.Pairs.{entryOf}
 use Rattle.times.specs.Time.{Time, at, unreachable}
 use Rattle.times.specs.Earliest.{timeOf}
 use Rattle.times.specs.Numbers.{none, tableIn}
-use Rattle.times.proofs.Times.{By, by-ext, by-timeOf, timeOf-by, by-later-minute}
+use Rattle.times.specs.Choices.{By}
+use Rattle.times.specs.Entries.{finiteIn}
+use Rattle.times.proofs.Times.{by-ext, by-timeOf, timeOf-by, by-later-minute}
 use Rattle.times.proofs.Sentinel.{AtMost, by-time-in, time-in-by}
 use Rattle.times.proofs.Slots.{entry-before-2080}
-use Rattle.times.proofs.Kept.{finiteIn, set-at-most}
+use Rattle.times.proofs.Kept.{set-at-most}
 use Rattle.earliest.specs.Numbers.{rowNumber, setNumber, afterNumber, SameTime}
 use Rattle.earliest.specs.Lowering.{Lowerable}
 use Rattle.earliest.proofs.Latest.{latest-at-most, member-at-most-latest}

@@ -14,10 +14,11 @@ use Rattle.job.specs.Job.{Job}
 use Rattle.pairs.specs.Pairs.{entryOf}
 use Rattle.timeline.proofs.Tests.{decided, le-or-lt, and-both}
 use Rattle.times.specs.Numbers.{none, tableIn}
-use Rattle.times.proofs.Choices.{atStart, right-side-of-reached}
+use Rattle.times.specs.Choices.{atStart}
+use Rattle.times.specs.Entries.{finiteIn}
+use Rattle.times.proofs.Choices.{right-side-of-reached}
 use Rattle.times.proofs.Sentinel.{by-not-none, by-time-in, time-in-by}
 use Rattle.times.proofs.Slots.{entry-before, entry-of-one-pair}
-use Rattle.times.proofs.Kept.{finiteIn}
 use Rattle.earliest.specs.Lowering.{Lowerable, Lowering}
 use Rattle.earliest.specs.Start.{BothIn, StartTimes}
 use Rattle.earliest.specs.Sweep.{StartDone}

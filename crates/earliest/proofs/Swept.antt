@@ -15,8 +15,8 @@ use Rattle.pairs.specs.Pairs.{entryOf}
 use Rattle.timeline.proofs.Tests.{decided, and-both, or-neither}
 use Rattle.times.specs.Earliest.{timeOf, actionOf, fitsAlone, Solves}
 use Rattle.times.specs.Numbers.{none, tableIn}
-use Rattle.times.proofs.Times.{By, timeOf-part}
-use Rattle.times.proofs.Choices.{Alone, Together, Reached, atStart, both, one, other, each, eachOther}
+use Rattle.times.specs.Choices.{By, Alone, Together, Reached, atStart, both, one, other, each, eachOther}
+use Rattle.times.proofs.Times.{timeOf-part}
 use Rattle.times.proofs.Choices.{reached-of-right-side}
 use Rattle.times.proofs.Sentinel.{time-in-by}
 use Rattle.times.proofs.Iteration.{solves-when-settled}

@@ -9,10 +9,8 @@ use Rattle.facts.specs.FactSet.{has}
 use Rattle.job.specs.Job.{Job}
 use Rattle.pairs.specs.Pairs.{entryOf}
 use Rattle.times.specs.Numbers.{none, tableIn}
-use Rattle.times.proofs.Times.{By}
-use Rattle.times.proofs.Choices.{Reached}
-use Rattle.times.proofs.Falling.{sum}
-use Rattle.times.proofs.Kept.{Kept, finiteIn}
+use Rattle.times.specs.Choices.{By, Reached}
+use Rattle.times.specs.Entries.{sum, Kept, finiteIn}
 
 -- the entry of two facts, in either order
 abbrev pub entryAt : List ℕ → ℕ → ℕ → ℕ

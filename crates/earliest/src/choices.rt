@@ -83,6 +83,6 @@ pub fn add_each(table: &mut [u32], facts: u8, a: Action, b: Action) -> bool
     if set_time::LATEST < both_ready {
         return false;
     }
-    let time = set_time::later(end(table, facts, a), after(b.duration, both_ready));
+    let time = timeline::later(end(table, facts, a), after(b.duration, both_ready));
     lower::lower_all(table, facts, only_a, only_b, time)
 }

@@ -1,7 +1,7 @@
 // The time of a set of facts, from a table of earliest times.
 ghost use mathlib.Core.Path.{_≡_};
 ghost use mathlib.Core.Bool.{false};
-ghost use Prim.Native.Nat.{max, suc, _≤_, _<_};
+ghost use Prim.Native.Nat.{suc, _≤_, _<_};
 ghost use lib.ListN.{length};
 ghost use Rattle.earliest.specs.Numbers.{rowNumber, setNumber, SameTime};
 use job::Action;
@@ -13,16 +13,6 @@ pub const NONE: u32 = 4_294_967_295;
 // No finite entry is later: the longest duration for each of the entries.
 pub const LATEST: u32 = Action::DURATION as u32 * Pair::COUNT as u32;
 
-// The later of two times.
-pub fn later(a: u32, b: u32) -> u32
-    ensures { λ r. ⌜ r ≡ max a b ⌝ }
-{
-    if a < b {
-        return b;
-    }
-    a
-}
-
 // The latest of the entries of a fact with the facts of the set up to it, or the first that is unreachable.
 fn row_time(table: &[u32], set: u64, high: u8) -> u32
     requires { ⌜ (length (now table) ≡ 2080) × (high < 64) ⌝ }
@@ -32,7 +22,7 @@ fn row_time(table: &[u32], set: u64, high: u8) -> u32
     let mut latest: u32 = 0;
     let mut low = facts::next(set, 0);
     while low <= high {
-        latest = later(latest, table[first + low as usize]);
+        latest = timeline::later(latest, table[first + low as usize]);
         if LATEST < latest {
             return latest;
         }
@@ -49,7 +39,7 @@ pub fn set_time(table: &[u32], facts: u8, set: u64) -> u32
     let mut latest: u32 = 0;
     let mut high = facts::next(set, 0);
     while high < facts {
-        latest = later(latest, row_time(table, set, high));
+        latest = timeline::later(latest, row_time(table, set, high));
         if LATEST < latest {
             return latest;
         }

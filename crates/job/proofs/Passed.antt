@@ -1,56 +1,25 @@
 -- What a job that passes tests 3 to 11 is like.
 -- Assumes nothing.
-use Prim.Native.Nat.{ℕ, _^_, _≤_, _<_}
+use Prim.Native.Nat.{ℕ, _≤_}
 use mathlib.Core.Path.{_≡_}
 use mathlib.Core.Bool.{Bool, false, _||_}
 use mathlib.Core.List.{List, [], _∷_, _++_}
 use native.Mathlib.Omega.{arith}
-use lib.ListN.{length}
 use borrow.Author.Tests.{ltb-false, eqb-false}
 use Rattle.lists.specs.Lists.{any, Each}
 use Rattle.lists.proofs.Any.{any-append, any-none}
 use Rattle.lists.proofs.Bools.{or-left, or-right}
 use Rattle.lists.proofs.Tabulate.{each-map}
-use Rattle.facts.specs.FactSet.{meets, foreign}
+use Rattle.facts.specs.FactSet.{foreign}
 use Rattle.facts.proofs.Membership.{within-word}
 use Rattle.job.specs.declared.refusal.Verdict.the-variants.{Pass}
 use Rattle.job.specs.Job.{Action, Job, jobValue}
 use Rattle.job.specs.Refusal.{first}
 use Rattle.job.specs.Valid.{ActionRule, Duration, Facts, Effects, Uses, over, breaks}
 use Rattle.job.specs.Valid.{actionRows, limitRows, jobRows}
+use Rattle.job.specs.Passed.{Amounts, WithinFacts, PassedAction, Passed}
 use Rattle.job.proofs.Table.{first-pass}
 use Rattle.job.proofs.Rows.{fits-of-counts, limits-of-pass}
-
--- an amount of a pool or a store, available or used
-abbrev pub Amounts : List ℕ → Type 0
-Amounts = Each (λ x. x ≤ 1000000)
-
--- a set with no bit at or above the number of facts, so a word
-pub record WithinFacts (facts set : ℕ) : Type 0 where
-  pub within : foreign facts set ≡ false
-  pub word : set < 2 ^ 64
-
--- an action that passes tests 8 to 11 of a job with so many facts
-pub record PassedAction (facts : ℕ) (a : Action) : Type 0 where
-  pub duration : 0 < a .duration
-  pub needs : WithinFacts facts (a .needs)
-  pub adds : WithinFacts facts (a .adds)
-  pub deletes : WithinFacts facts (a .deletes)
-  pub effects : meets (a .adds) (a .deletes) ≡ false
-  pub pools : Amounts (a .pools)
-  pub stores : Amounts (a .stores)
-
-pub record Passed (J : Job) : Type 0 where
-  pub fewPools : length (J .pools) ≤ 4
-  pub fewStores : length (J .stores) ≤ 4
-  pub fewActions : length (J .actions) ≤ 64
-  pub facts : J .facts ≤ 64
-  pub deadline : J .deadline ≤ 1440
-  pub start : WithinFacts (J .facts) (J .start)
-  pub goal : WithinFacts (J .facts) (J .goal)
-  pub pools : Amounts (J .pools)
-  pub stores : Amounts (J .stores)
-  pub actions : Each (PassedAction (J .facts)) (J .actions)
 
 within-facts : (facts set : ℕ) → facts ≤ 64 → foreign facts set ≡ false → WithinFacts facts set
 within-facts facts set l h = record { within = h; word = within-word facts set h l }

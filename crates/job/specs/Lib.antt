@@ -3,3 +3,4 @@ pub mod Refusal
 pub mod Resources
 pub mod Valid
 pub mod Resumed
+pub mod Passed

@@ -11,13 +11,13 @@ use crate::resources;
 
 // Whether one of the first n amounts is over its own limit. All places are compared, and nothing leaves the loop: that
 // compiles to one comparison of four.
-pub fn any_above(limits: [u32; Job::POOLS], amounts: [u32; Job::POOLS], n: usize) -> bool
+pub fn any_above(limits: [u32; Job::AMOUNTS], amounts: [u32; Job::AMOUNTS], n: usize) -> bool
     requires { ⌜ n ≤ 4 ⌝ }
     ensures { λ r. ⌜ r ≡ anyBelow n (λ k. over (getD limits k 0) (getD amounts k 0)) ⌝ }
 {
     let mut found = false;
     let mut k = 0;
-    while k < Job::POOLS {
+    while k < Job::AMOUNTS {
         found = found | ((k < n) & (limits[k] < amounts[k]));
         k += 1;
     }

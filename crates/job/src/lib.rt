@@ -7,6 +7,7 @@ pub mod resources; // what an action takes of the stores
 pub mod resumed; // the job of what is left of a day
 
 ghost use mathlib.Core.Path.{_≡_};
+ghost use Prim.Native.Nat.{_^_, _<_};
 ghost use Rattle.job.specs.Job.{unusedAction, zeroValue};
 
 // An action of a job. Sets of facts are words: fact n is bit n.
@@ -67,10 +68,13 @@ impl Job {
     // The latest deadline, in minutes.
     pub const DEADLINE: u16 = 1_440;
 
-    // The most pools, stores and actions.
-    pub const POOLS: usize = 4;
+    // The places of an array of amounts, one for each pool or one for each store.
+    pub const AMOUNTS: usize = 4;
 
-    pub const STORES: usize = 4;
+    // The most pools, stores and actions.
+    pub const POOLS: usize = Job::AMOUNTS;
+
+    pub const STORES: usize = Job::AMOUNTS;
 
     pub const ACTIONS: usize = 64;
 
@@ -98,4 +102,11 @@ impl Job {
             actions: [unused; Job::ACTIONS],
         }
     }
+}
+
+// A number of 32 bits as one of 64. A function of its own, since a parameter is known to fit and a read element is not.
+pub fn wide(number: u32) -> u64
+    ensures { λ r. ⌜ (r ≡ number) × (r < 2 ^ 32) ⌝ }
+{
+    number as u64
 }

@@ -16,11 +16,11 @@ fn same_counts(a: Counts, b: Counts) -> bool
 }
 
 // Whether the first n amounts agree. Past their ends two arrays agree by themselves.
-fn same_amounts(n: usize, a: [u32; Job::POOLS], b: [u32; Job::POOLS]) -> bool
+fn same_amounts(n: usize, a: [u32; Job::AMOUNTS], b: [u32; Job::AMOUNTS]) -> bool
     ensures { λ r. ⌜ Decides r (firsts n 0 a ≡ firsts n 0 b) ⌝ }
 {
     let mut i = 0;
-    while (i < n) & (i < Job::POOLS) {
+    while (i < n) & (i < Job::AMOUNTS) {
         if a[i] != b[i] {
             return false;
         }

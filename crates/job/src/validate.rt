@@ -35,11 +35,11 @@ impl Broken {
 }
 
 // Whether one of the first n amounts is over the limit.
-pub fn any_over(limit: u32, amounts: [u32; Job::POOLS], n: usize) -> bool
+pub fn any_over(limit: u32, amounts: [u32; Job::AMOUNTS], n: usize) -> bool
     requires { ⌜ n ≤ 4 ⌝ }
     ensures { λ r. ⌜ r ≡ any (over limit) (firsts n 0 amounts) ⌝ }
 {
-    let limits = [limit; Job::POOLS];
+    let limits = [limit; Job::AMOUNTS];
     beyond::any_above(limits, amounts, n)
 }
 

@@ -11,7 +11,7 @@ use Rattle.encoding.specs.Bytes.{fromBytes, toBytes, split, joined}
 use Rattle.encoding.proofs.Numbers.{length-bytes, number-bytes}
 use Rattle.encoding.proofs.Pieces.{split-joined}
 use Rattle.job.specs.Job.{Action, Job}
-use Rattle.job.proofs.Passed.{Amounts, PassedAction, Passed}
+use Rattle.job.specs.Passed.{Amounts, PassedAction, Passed}
 use Rattle.job.proofs.Values.{Shaped, Shape}
 use Rattle.jobfile.specs.File.{headBytes, amountBytes, actionBytes, actionSize, actionOf, jobOf}
 use Rattle.jobfile.proofs.Lengths.{length-amounts, length-action}

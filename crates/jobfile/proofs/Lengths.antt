@@ -11,8 +11,8 @@ use Rattle.encoding.specs.Bytes.{toBytes, joined}
 use Rattle.encoding.proofs.Numbers.{length-bytes}
 use Rattle.encoding.proofs.Pieces.{length-joined}
 use Rattle.job.specs.Job.{Action, Job, jobIn}
+use Rattle.job.specs.Passed.{Passed}
 use Rattle.job.specs.declared.Job as held
-use Rattle.job.proofs.Passed.{Passed}
 use Rattle.job.proofs.Values.{Shaped, Shape, job-in-shape}
 use Rattle.jobfile.specs.File.{headBytes, amountBytes, actionBytes, contents, fileOf, actionSize}
 

@@ -10,8 +10,9 @@ use Rattle.lists.specs.Lists.{Each}
 use Rattle.job.specs.Job.{Job}
 use Rattle.job.specs.Refusal.{first}
 use Rattle.job.specs.Valid.{jobRows}
+use Rattle.job.specs.Passed.{Passed}
 use Rattle.job.specs.declared.refusal.Verdict.the-variants.{Pass}
-use Rattle.job.proofs.Passed.{Passed, passed}
+use Rattle.job.proofs.Passed.{passed}
 use Rattle.job.proofs.Values.{Shape}
 use Rattle.jobfile.specs.File.{amountBytes, bodies, fileOf, actionSize, jobOf, decoded}
 use Rattle.jobfile.specs.Answers.{readRows}

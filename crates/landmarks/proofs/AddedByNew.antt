@@ -10,9 +10,10 @@ use Rattle.facts.proofs.SetLaws.{in-union-left, in-union-right}
 use Rattle.job.specs.Job.{Job}
 use Rattle.timeline.specs.Step.{Step, unionOf}
 use Rattle.timeline.specs.Timeline.{held}
+use Rattle.timeline.specs.Places.{EachStep}
+use Rattle.timeline.specs.Keeps.{PlanOf}
 use Rattle.timeline.proofs.Tests.{not-both}
-use Rattle.timeline.proofs.Places.{EachStep, each-step, append-cases, place-append}
-use Rattle.times.proofs.PlanSteps.{PlanOf}
+use Rattle.timeline.proofs.Places.{each-step, append-cases, place-append}
 use Rattle.regression.proofs.Gathered.{in-unionOf}
 use Rattle.begun.specs.RestOfDay.{running, atHand}
 use Rattle.begun.proofs.Running.{member-of-running}

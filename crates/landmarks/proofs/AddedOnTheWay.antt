@@ -12,9 +12,11 @@ use Rattle.facts.proofs.SetLaws.{in-union-cases}
 use Rattle.job.specs.Job.{Job}
 use Rattle.timeline.specs.Step.{Step}
 use Rattle.timeline.specs.Timeline.{held}
+use Rattle.timeline.specs.Places.{Place, EachStep}
+use Rattle.timeline.specs.Keeps.{PlanOf}
 use Rattle.timeline.proofs.Tests.{not-both}
-use Rattle.timeline.proofs.Places.{Place, EachStep, append-cases, place-append}
-use Rattle.times.proofs.PlanSteps.{PlanOf, own-action, needs-at, held-since}
+use Rattle.timeline.proofs.Places.{append-cases, place-append}
+use Rattle.times.proofs.PlanSteps.{own-action, needs-at, held-since}
 use Rattle.regression.proofs.Gathered.{in-cond-parts}
 use Rattle.landmarks.specs.Landmarks.{Landmarks, marksOf}
 

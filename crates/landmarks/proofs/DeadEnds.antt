@@ -16,9 +16,11 @@ use Rattle.job.specs.Job.{Action, Job}
 use Rattle.timeline.specs.Step.{Step, total}
 use Rattle.timeline.specs.From.{From, IsNew}
 use Rattle.timeline.specs.Timeline.{held, storeUse, usedUp}
-use Rattle.timeline.proofs.Places.{EachStep, append-cases, place-append, total-append, total-mono}
+use Rattle.timeline.specs.Places.{EachStep}
+use Rattle.timeline.specs.Keeps.{PlanOf}
+use Rattle.timeline.proofs.Places.{append-cases, place-append, total-append, total-mono}
 use Rattle.timeline.proofs.NewSteps.{new-both-from-minute}
-use Rattle.times.proofs.PlanSteps.{PlanOf, own-action, own-stop}
+use Rattle.times.proofs.PlanSteps.{own-action, own-stop}
 use Rattle.regression.specs.Tests.{mustHold}
 use Rattle.regression.specs.DeadEnd.{NormalPlan, Until, Dead}
 use Rattle.regression.proofs.TailTests.{must-hold-holds}

@@ -13,7 +13,8 @@ use Rattle.facts.proofs.Membership.{has-zero}
 use Rattle.facts.proofs.SetLaws.{in-union-cases, in-difference}
 use Rattle.job.specs.Job.{Action, Job}
 use Rattle.timeline.specs.Step.{Step, total, unionOf}
-use Rattle.timeline.proofs.Places.{EachStep, total-mono}
+use Rattle.timeline.specs.Places.{EachStep}
+use Rattle.timeline.proofs.Places.{total-mono}
 use Rattle.times.specs.Earliest.{actionOf}
 use Rattle.regression.proofs.Gathered.{in-unionOf}
 use Rattle.landmarks.specs.Landmarks.{sumOver, Shares}

@@ -10,12 +10,12 @@ use lib.Dec.{ltb}
 use borrow.Author.Tests.{ltb-false}
 use Rattle.job.specs.Job.{Job}
 use Rattle.timeline.specs.Step.{Step}
-use Rattle.timeline.proofs.Places.{EachStep}
+use Rattle.timeline.specs.Places.{EachStep}
 use Rattle.timeline.proofs.Tests.{decided}
 use Rattle.times.specs.Time.{Time, at, unreachable}
 use Rattle.times.specs.Earliest.{timeOf}
 use Rattle.times.specs.Numbers.{tableIn}
-use Rattle.times.proofs.Times.{By}
+use Rattle.times.specs.Choices.{By}
 use Rattle.times.proofs.Admissible.{held-set-not-before-its-time}
 use Rattle.earliest.specs.Sweep.{Filled}
 use Rattle.earliest.specs.Numbers.{setNumber}

@@ -8,8 +8,8 @@ use Rattle.facts.specs.FactSet.{has, Subset}
 use Rattle.job.specs.Job.{Job}
 use Rattle.timeline.specs.Step.{Step}
 use Rattle.timeline.specs.Timeline.{held}
-use Rattle.timeline.proofs.Places.{Place, EachStep}
-use Rattle.times.proofs.PlanSteps.{PlanOf}
+use Rattle.timeline.specs.Places.{Place, EachStep}
+use Rattle.timeline.specs.Keeps.{PlanOf}
 use Rattle.earliest.specs.Numbers.{setNumber}
 use Rattle.landmarks.specs.Landmarks.{marksOf}
 

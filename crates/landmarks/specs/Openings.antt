@@ -5,8 +5,8 @@ use mathlib.Core.List.{List, _++_}
 use lib.ListN.{getD}
 use Rattle.job.specs.Job.{Job}
 use Rattle.timeline.specs.Step.{Step}
-use Rattle.timeline.proofs.Places.{EachStep}
-use Rattle.times.proofs.PlanSteps.{PlanOf}
+use Rattle.timeline.specs.Places.{EachStep}
+use Rattle.timeline.specs.Keeps.{PlanOf}
 use Rattle.earliest.specs.Numbers.{setNumber}
 use Rattle.tables.specs.declared.Frame.{Frame}
 use Rattle.tables.specs.Tables.{needsAt, poolUseAt}

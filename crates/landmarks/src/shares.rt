@@ -26,13 +26,6 @@ const LARGEST_WIDE: u64 = LARGEST as u64;
 
 const SPAN: u64 = LARGEST_WIDE + 1;
 
-// A number of 32 bits as one of 64.
-pub fn wide(number: u32) -> u64
-    ensures { λ r. ⌜ (r ≡ number) × (r < 2 ^ 32) ⌝ }
-{
-    number as u64
-}
-
 // The sum over the facts of a set of the numbers from place `at` on.
 pub fn sum(numbers: &[u32], at: usize, set: u64) -> u64
     requires { ⌜ (length (now numbers) ≡ 1220) × (at + 64 ≤ 1220) ⌝ }
@@ -41,7 +34,7 @@ pub fn sum(numbers: &[u32], at: usize, set: u64) -> u64
     let mut all: u64 = 0;
     let mut p = facts::next(set, 0);
     while p < facts::BITS {
-        all = wide(numbers[at + p as usize]) + all;
+        all = job::wide(numbers[at + p as usize]) + all;
         p = facts::next(set, p + 1);
     }
     all
@@ -53,11 +46,13 @@ fn weight(numbers: &[u32], i: usize, row: usize) -> u64
     ensures { λ r. ⌜ (r ≡ weightAt (now (numbers .entry)) i row) × (r ≤ 2 ^ 40) ⌝ }
 {
     if row < Job::STORES {
-        return wide(numbers[i * NumberTable::ROW + NumberTable::STORES + row]);
+        return job::wide(numbers[i * NumberTable::ROW + NumberTable::STORES + row]);
     }
     if row < NumberTable::STEPS_ROW {
-        let amount = wide(numbers[i * NumberTable::ROW + NumberTable::POOLS + (row - Job::STORES)]);
-        return amount * wide(numbers[i * NumberTable::ROW]);
+        let amount = job::wide(
+            numbers[i * NumberTable::ROW + NumberTable::POOLS + (row - Job::STORES)],
+        );
+        return amount * job::wide(numbers[i * NumberTable::ROW]);
     }
     1
 }

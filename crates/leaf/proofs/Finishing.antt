@@ -24,9 +24,9 @@ use Rattle.timeline.specs.From.{From}
 use Rattle.timeline.specs.Timeline.{end}
 use Rattle.timeline.specs.Accepted.{stepRows}
 use Rattle.timeline.specs.Day.{toldOf, tells}
+use Rattle.timeline.specs.Places.{EachStep, Permutation}
 use Rattle.timeline.proofs.Tests.{not-both}
-use Rattle.timeline.proofs.Places.{EachStep}
-use Rattle.timeline.proofs.Permutations.{Permutation, permutation-trans, permutation-each}
+use Rattle.timeline.proofs.Permutations.{permutation-trans, permutation-each}
 use Rattle.timeline.proofs.PlanBytes.{accepted-bytes-of-steps, bytes-of-steps}
 use Rattle.regression.specs.DeadEnd.{Until, Dead}
 use Rattle.regression.proofs.NoPlan.{dead-when-refused}

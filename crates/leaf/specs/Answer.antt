@@ -20,7 +20,7 @@ use Rattle.timeline.specs.Step.{stepsIn, planBytes}
 use Rattle.timeline.specs.From.{From}
 use Rattle.timeline.specs.Timeline.{end, peaks}
 use Rattle.timeline.specs.Accepted.{Accepted}
-use Rattle.timeline.proofs.Permutations.{Permutation}
+use Rattle.timeline.specs.Places.{Permutation}
 use Rattle.timeline.specs.declared.Day.{Day}
 use Rattle.checker.specs.Check.{checkFor}
 use Rattle.regression.specs.DeadEnd.{Until, Dead}

@@ -9,14 +9,16 @@ use native.Mathlib.Nat.{eq-or-lt-of-le}
 use native.Mathlib.Omega.{arith}
 use lib.ListN.{length}
 use Rattle.job.specs.Job.{Job}
-use Rattle.job.proofs.Passed.{Passed}
+use Rattle.job.specs.Passed.{Passed}
 use Rattle.timeline.specs.Step.{Step, stepsIn}
 use Rattle.timeline.specs.Timeline.{end}
 use Rattle.timeline.specs.Accepted.{Accepted}
+use Rattle.timeline.specs.Places.{EachStep}
+use Rattle.timeline.specs.Keeps.{OfJob}
 use Rattle.timeline.proofs.Tests.{not-both, le-or-lt}
-use Rattle.timeline.proofs.Places.{EachStep, each-step, largest-at-most}
+use Rattle.timeline.proofs.Places.{each-step, largest-at-most}
 use Rattle.timeline.proofs.AcceptedSteps.{accepted-steps}
-use Rattle.timeline.proofs.JobSteps.{OfJob, steps-of-accepted}
+use Rattle.timeline.proofs.JobSteps.{steps-of-accepted}
 use Rattle.makespan.specs.Makespan.{Makespan, endsAt, noPlan, Counts, LeastEnd, solvable, leastBelow}
 use Rattle.makespan.specs.Makespan.{makespanFrom}
 use Rattle.makespan.proofs.Search.{none-begun, solvable-of-accepted, accepted-of-solvable}

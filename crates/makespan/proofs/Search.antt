@@ -14,20 +14,21 @@ use Rattle.lists.proofs.Below.{below-some, below-found}
 use Rattle.lists.proofs.Bools.{and-left, and-right}
 use Rattle.job.specs.Job.{Job}
 use Rattle.job.specs.Refusal.{first}
+use Rattle.job.specs.Passed.{Passed}
 use Rattle.job.specs.declared.refusal.Verdict.{Verdict}
 use Rattle.job.specs.declared.refusal.Verdict.the-variants.{Pass, Refused}
-use Rattle.job.proofs.Passed.{Passed}
 use Rattle.timeline.specs.Step.{Step, stepOf, stepsIn, before, strictlyRising, planBytes}
 use Rattle.timeline.specs.Timeline.{end}
 use Rattle.timeline.specs.Accepted.{Accepted, clashing, stepRows}
+use Rattle.timeline.specs.Places.{here, there, EachStep}
+use Rattle.timeline.specs.Keeps.{Lasting, OfJob}
 use Rattle.timeline.proofs.Tests.{not-both, and-both, or-neither}
-use Rattle.timeline.proofs.Places.{here, there, EachStep, each-step, each-cons, each-rest, any-of-none}
+use Rattle.timeline.proofs.Places.{each-step, each-cons, each-rest, any-of-none}
 use Rattle.timeline.proofs.Places.{append-cases}
 use Rattle.timeline.proofs.Places.{place-append, place-after, pair-none, largest-at-least, largest-at-most}
 use Rattle.timeline.proofs.Clashes.{clashing-sym}
 use Rattle.timeline.proofs.AcceptedSteps.{accepted-steps}
-use Rattle.timeline.proofs.Keeps.{Lasting}
-use Rattle.timeline.proofs.JobSteps.{OfJob, lasting-of-known, steps-in-bytes, steps-of-accepted}
+use Rattle.timeline.proofs.JobSteps.{lasting-of-known, steps-in-bytes, steps-of-accepted}
 use Rattle.timeline.proofs.PlanBytes.{accepted-bytes-of-steps, few-steps-of-accepted}
 use Rattle.timeline.proofs.Rising.{rising-rest, rising-before, before-reads}
 use Rattle.makespan.specs.Makespan.{begun, Counts}

@@ -14,7 +14,8 @@ use Rattle.job.specs.declared.refusal.Verdict.the-variants.{Pass, Refused}
 use Rattle.job.specs.Job.{Job}
 use Rattle.job.specs.Refusal.{Row, _when_, number, first}
 use Rattle.job.specs.Valid.{jobRows, limitRows, actionRows}
-use Rattle.job.proofs.Passed.{Passed, passed, within-limits}
+use Rattle.job.specs.Passed.{Passed}
+use Rattle.job.proofs.Passed.{passed, within-limits}
 use Rattle.job.proofs.Table.{pass-of-append}
 use Rattle.timeline.specs.Step.{Step}
 use Rattle.timeline.specs.declared.Day.{Day}
@@ -56,8 +57,8 @@ unfolding jobRows limitRows actionRows
 tests-before-22 J slice =
     (refl, (refl, (refl, (refl, (refl, (refl, (refl, (refl, (refl, (refl, (refl, tt)))))))))))
 
--- "For jobs that still pass, the shortest day is what it was": of every job within its limits, whether or not 26 holds of
--- it, the makespan is the least end of its accepted plans
+-- "For jobs that still pass, the shortest day is what it was": of every job within its limits, whether or not 26 holds
+-- of it, a makespan that is a minute is the least end of its accepted plans
 pub shortest-day-without-26 : (J : Job) → first (limitRows J) ≡ Pass → (e : ℕ) → makespan J (J .goal) ≡ endsAt e
     → LeastEnd J (J .goal) 0 [] e
 shortest-day-without-26 J limits e ends =

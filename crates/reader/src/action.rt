@@ -25,7 +25,7 @@ fn amount(bytes: &[u8], i: usize) -> u32
 
 // Amounts of 4 bytes each, at most four. Place by place: a loop would be compiled to a call that clears the array and
 // one that copies it, for each of 128 arrays of a file.
-pub fn amounts(bytes: &[u8]) -> [u32; Job::POOLS]
+pub fn amounts(bytes: &[u8]) -> [u32; Job::AMOUNTS]
     requires { ⌜ length (now bytes) ≤ 16 ⌝ }
     ensures { λ r. ⌜ r ≡ filled 4 0 (split 4 fromBytes (now (bytes .entry))) ⌝ }
 {

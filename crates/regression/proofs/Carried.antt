@@ -14,8 +14,9 @@ use Rattle.job.specs.Job.{Job}
 use Rattle.timeline.specs.Step.{Step}
 use Rattle.timeline.specs.From.{From}
 use Rattle.timeline.specs.Timeline.{held}
+use Rattle.timeline.specs.Places.{Place, EachStep}
 use Rattle.timeline.proofs.Tests.{decided, not-both, le-or-lt}
-use Rattle.timeline.proofs.Places.{Place, EachStep, append-cases, place-append, place-after, find-any}
+use Rattle.timeline.proofs.Places.{append-cases, place-append, place-after, find-any}
 use Rattle.timeline.proofs.Persist.{keeps-needs-hold}
 use Rattle.times.specs.Earliest.{actionOf}
 use Rattle.times.proofs.PlanSteps.{own-action, own-stop}

@@ -14,10 +14,11 @@ use Rattle.facts.proofs.SetLaws.{in-difference, not-in-both}
 use Rattle.job.specs.Job.{Job}
 use Rattle.timeline.specs.Step.{Step, unionOf}
 use Rattle.timeline.specs.Timeline.{held}
+use Rattle.timeline.specs.Places.{Place, EachStep}
+use Rattle.timeline.specs.Keeps.{Keeps}
 use Rattle.timeline.proofs.Tests.{decided, le-or-lt}
-use Rattle.timeline.proofs.Places.{Place, EachStep, place-wider, split-place}
+use Rattle.timeline.proofs.Places.{place-wider, split-place}
 use Rattle.timeline.proofs.HeldFacts.{Added}
-use Rattle.timeline.proofs.Keeps.{Keeps}
 use Rattle.timeline.proofs.Drop.{WantedBefore, NothingCritical, drop-without-critical-fact}
 use Rattle.regression.specs.Wanted.{wantedAt}
 use Rattle.regression.specs.Normal.{addedBeside, addedAlone, critical}

@@ -13,8 +13,9 @@ use Rattle.timeline.specs.Step.{Step, anyPair}
 use Rattle.timeline.specs.From.{From, IsNew}
 use Rattle.timeline.specs.Timeline.{held, inUse, usedUp}
 use Rattle.timeline.specs.Accepted.{clashing}
+use Rattle.timeline.specs.Places.{Place, EachStep}
 use Rattle.timeline.proofs.Tests.{not-both}
-use Rattle.timeline.proofs.Places.{Place, EachStep, place-after}
+use Rattle.timeline.proofs.Places.{place-after}
 use Rattle.timeline.proofs.Parts.{part-right, part-in-use, part-used-up, part-length, part-no-clash}
 use Rattle.regression.specs.Normal.{blocked}
 use Rattle.regression.specs.Tests.{solelyProvides, deletesWanted, runningNeeds}

@@ -15,12 +15,13 @@ use Rattle.lists.proofs.Bools.{and-left, and-right}
 use Rattle.job.specs.Job.{Job}
 use Rattle.timeline.specs.Step.{Step, stepOf}
 use Rattle.timeline.specs.From.{From, FitsFrom}
+use Rattle.timeline.specs.Places.{Place, here, EachStep, Permutation, next-step}
+use Rattle.timeline.specs.Keeps.{OfJob}
 use Rattle.timeline.proofs.Tests.{decided, not-both, false-unless, and-both, or-neither}
-use Rattle.timeline.proofs.Places.{Place, here, EachStep, place-wider, place-append, place-after, find-any, none-of-any}
+use Rattle.timeline.proofs.Places.{place-wider, place-append, place-after, find-any, none-of-any}
 use Rattle.timeline.proofs.Clashes.{no-clash-of-test}
-use Rattle.timeline.proofs.JobSteps.{OfJob}
 use Rattle.timeline.proofs.NewSteps.{fits-of-new}
-use Rattle.timeline.proofs.Permutations.{Permutation, next-step, permutation-refl, permutation-sym, permutation-trans}
+use Rattle.timeline.proofs.Permutations.{permutation-refl, permutation-sym, permutation-trans}
 use Rattle.times.specs.Earliest.{actionOf}
 use Rattle.regression.specs.DeadEnd.{NormalPlan, Until, Open, Dead, stepStopping}
 use Rattle.regression.proofs.NormalPlans.{normal-plan-permuted}

@@ -7,10 +7,10 @@ use mathlib.Core.List.{List}
 use Rattle.facts.specs.FactSet.{has, union}
 use Rattle.facts.proofs.Membership.{has-zero}
 use Rattle.timeline.specs.Step.{Step, unionOf}
+use Rattle.timeline.specs.Places.{Place, Permutation, empty, next-step}
 use Rattle.timeline.proofs.Tests.{not-both}
-use Rattle.timeline.proofs.Places.{Place, any-at, find-any, unionOf-place}
+use Rattle.timeline.proofs.Places.{any-at, find-any, unionOf-place}
 use Rattle.timeline.proofs.HeldFacts.{has-unionOf}
-use Rattle.timeline.proofs.Permutations.{Permutation, empty, next-step}
 
 -- ---- a set that is given under a test
 pub in-cond : (test : Bool) (set n : ℕ) → test ≡ true → has set n ≡ true → has (cond test set 0) n ≡ true

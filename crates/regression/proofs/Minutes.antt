@@ -12,8 +12,9 @@ use borrow.Author.Tests.{ne-eqb}
 use Rattle.job.specs.Job.{Job}
 use Rattle.timeline.specs.Step.{Step}
 use Rattle.timeline.specs.From.{From}
+use Rattle.timeline.specs.Places.{EachStep}
 use Rattle.timeline.proofs.Tests.{not-both, false-unless, or-neither}
-use Rattle.timeline.proofs.Places.{EachStep, place-append, any-of-none}
+use Rattle.timeline.proofs.Places.{place-append, any-of-none}
 use Rattle.regression.specs.Normal.{touchesAt, eventMinute}
 use Rattle.regression.specs.DeadEnd.{Until, Open, Dead}
 use Rattle.regression.proofs.BlockedSteps.{Touches, touches-reads}

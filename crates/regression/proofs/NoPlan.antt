@@ -9,21 +9,22 @@ use native.Mathlib.Omega.{arith}
 use lib.ListN.{length}
 use Rattle.job.specs.Job.{Job}
 use Rattle.job.specs.Refusal.{first}
+use Rattle.job.specs.Passed.{Passed}
 use Rattle.job.specs.declared.refusal.Verdict.the-variants.{Pass}
-use Rattle.job.proofs.Passed.{Passed}
 use Rattle.timeline.specs.Step.{Step, strictlyRising}
 use Rattle.timeline.specs.From.{From, IsNew, IsKept}
 use Rattle.timeline.specs.Timeline.{end}
 use Rattle.timeline.specs.Accepted.{stepRows}
-use Rattle.timeline.proofs.Places.{here, Member, EachStep, place-append}
+use Rattle.timeline.specs.Places.{here, Member, EachStep, Permutation}
+use Rattle.timeline.specs.Keeps.{OfJob, PlanOf}
+use Rattle.timeline.proofs.Places.{place-append}
 use Rattle.timeline.proofs.NewSteps.{new-from-minute}
 use Rattle.timeline.proofs.AcceptedSteps.{accepted-steps}
 use Rattle.timeline.proofs.Keeps.{keeps-of-accepted}
-use Rattle.timeline.proofs.JobSteps.{OfJob, lasting-of-known}
-use Rattle.timeline.proofs.Permutations.{Permutation, permutation-sym, permutation-each}
+use Rattle.timeline.proofs.JobSteps.{lasting-of-known}
+use Rattle.timeline.proofs.Permutations.{permutation-sym, permutation-each}
 use Rattle.timeline.proofs.Permutations.{permutation-keeps, permutation-length, permutation-of-members}
 use Rattle.timeline.proofs.Rising.{AllApart, rising-apart, apart-distinct}
-use Rattle.times.proofs.PlanSteps.{PlanOf}
 use Rattle.regression.specs.DeadEnd.{NormalPlan, Until, Dead}
 use Rattle.regression.proofs.NormalPlans.{normal-plan-exists, normal-plan-apart, normal-plan-accepted}
 

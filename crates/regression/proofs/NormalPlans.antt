@@ -11,24 +11,24 @@ use Rattle.lists.proofs.Tabulate.{each-at}
 use Rattle.facts.specs.FactSet.{meets}
 use Rattle.job.specs.Job.{Job}
 use Rattle.job.specs.Refusal.{first}
+use Rattle.job.specs.Passed.{Passed, PassedAction}
 use Rattle.job.specs.declared.refusal.Verdict.the-variants.{Pass}
-use Rattle.job.proofs.Passed.{Passed, PassedAction}
 use Rattle.timeline.specs.Step.{Step, noAction, strictlyRising}
 use Rattle.timeline.specs.From.{From, IsNew, IsKept}
 use Rattle.timeline.specs.Timeline.{end}
 use Rattle.timeline.specs.Accepted.{stepRows}
-use Rattle.timeline.proofs.Places.{EachStep, append-cases, place-append, place-after}
+use Rattle.timeline.specs.Places.{EachStep, Permutation}
+use Rattle.timeline.specs.Keeps.{OfJob, PlanOf}
+use Rattle.timeline.proofs.Places.{append-cases, place-append, place-after}
 use Rattle.timeline.proofs.Clashes.{no-clash-of-test}
 use Rattle.timeline.proofs.Keeps.{accepted-of-keeps}
-use Rattle.timeline.proofs.JobSteps.{OfJob}
 use Rattle.timeline.proofs.Shift.{later}
 use Rattle.timeline.proofs.NewSteps.{not-new-and-kept, new-later}
-use Rattle.timeline.proofs.Permutations.{Permutation, permutation-member, permutation-each, permutation-length}
+use Rattle.timeline.proofs.Permutations.{permutation-member, permutation-each, permutation-length}
 use Rattle.timeline.proofs.Permutations.{permutation-keeps}
 use Rattle.timeline.proofs.Rising.{AllApart}
 use Rattle.timeline.proofs.Sorting.{apart-of-no-clash}
 use Rattle.times.specs.Earliest.{actionOf}
-use Rattle.times.proofs.PlanSteps.{PlanOf}
 use Rattle.regression.specs.DeadEnd.{NormalPlan}
 use Rattle.regression.proofs.Normalise.{NormalForm, normalise}
 use Rattle.regression.proofs.Reordered.{permutation-critical, permutation-blocked}

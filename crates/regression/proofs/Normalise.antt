@@ -11,10 +11,11 @@ use borrow.Author.Tests.{not-true, not-false}
 use Rattle.lists.specs.Lists.{any}
 use Rattle.job.specs.Job.{Job}
 use Rattle.timeline.specs.Step.{Step, total}
+use Rattle.timeline.specs.Places.{Place, here, EachStep}
+use Rattle.timeline.specs.Keeps.{Keeps}
 use Rattle.timeline.proofs.Tests.{decided}
-use Rattle.timeline.proofs.Places.{Place, here, EachStep, place-append, length-place, each-cons, each-wider}
+use Rattle.timeline.proofs.Places.{place-append, length-place, each-cons, each-wider}
 use Rattle.timeline.proofs.Places.{find-any, none-of-any, total-place}
-use Rattle.timeline.proofs.Keeps.{Keeps}
 use Rattle.timeline.proofs.Shift.{later}
 use Rattle.regression.specs.Normal.{critical, blocked}
 use Rattle.regression.proofs.CriticalFacts.{drop-when-nothing-critical}

@@ -12,8 +12,9 @@ use Rattle.job.specs.Job.{Job}
 use Rattle.job.specs.Valid.{over}
 use Rattle.timeline.specs.Step.{Step}
 use Rattle.timeline.specs.Timeline.{ifStops, free}
+use Rattle.timeline.specs.Places.{Permutation}
 use Rattle.timeline.proofs.Shares.{useAt}
-use Rattle.timeline.proofs.Permutations.{Permutation, permutation-any, permutation-total, permutation-held}
+use Rattle.timeline.proofs.Permutations.{permutation-any, permutation-total, permutation-held}
 use Rattle.regression.specs.Wanted.{ifStarts, wanted}
 use Rattle.regression.specs.Normal.{addedBeside, critical, blocks, blocked}
 use Rattle.regression.proofs.Gathered.{permutation-unionOf}

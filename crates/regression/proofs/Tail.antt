@@ -9,9 +9,10 @@ use Rattle.job.specs.Resources.{handover}
 use Rattle.job.specs.Job.{Job}
 use Rattle.timeline.specs.Step.{Step}
 use Rattle.timeline.specs.Timeline.{inUse}
-use Rattle.timeline.proofs.Places.{Place, here, Member, EachStep, append-cases, each-here, each-rest, total-append}
+use Rattle.timeline.specs.Places.{Place, here, Member, EachStep}
+use Rattle.timeline.specs.Keeps.{Lasting}
+use Rattle.timeline.proofs.Places.{append-cases, each-here, each-rest, total-append}
 use Rattle.timeline.proofs.Shares.{useAt, nothing-in-use}
-use Rattle.timeline.proofs.Keeps.{Lasting}
 use Rattle.regression.specs.Wanted.{wantedAt}
 use Rattle.regression.proofs.WantedFacts.{wanted-from-stop-on}
 

@@ -19,12 +19,13 @@ use Rattle.job.specs.Job.{Job}
 use Rattle.job.specs.Valid.{over}
 use Rattle.timeline.specs.Step.{Step, unionOf}
 use Rattle.timeline.specs.Timeline.{held, free}
+use Rattle.timeline.specs.Places.{Place}
+use Rattle.timeline.specs.Keeps.{Keeps}
 use Rattle.timeline.proofs.Tests.{decided, not-both, false-unless, or-cases}
-use Rattle.timeline.proofs.Places.{Place, place-after, split-place, any-at, find-any}
+use Rattle.timeline.proofs.Places.{place-after, split-place, any-at, find-any}
 use Rattle.timeline.proofs.HeldFacts.{held-comes-from}
 use Rattle.timeline.proofs.Clashes.{no-clash-of-test}
 use Rattle.timeline.proofs.Shares.{free-is}
-use Rattle.timeline.proofs.Keeps.{Keeps}
 use Rattle.timeline.proofs.Persist.{keeps-needs-hold}
 use Rattle.regression.specs.Wanted.{wantedAt}
 use Rattle.regression.specs.Normal.{addedBeside, addedAlone, critical, blocks, lacksRoom, blocked, touchesAt}

@@ -14,8 +14,8 @@ use Rattle.facts.specs.FactSet.{has, union, difference}
 use Rattle.facts.proofs.Membership.{same-members}
 use Rattle.facts.proofs.SetLaws.{in-union-left, in-union-right, in-union-cases, in-difference, in-difference-parts}
 use Rattle.timeline.specs.Step.{Step}
+use Rattle.timeline.specs.Places.{Place, EachStep}
 use Rattle.timeline.proofs.Tests.{not-both, false-unless, and-both, same-test}
-use Rattle.timeline.proofs.Places.{Place, EachStep}
 use Rattle.timeline.proofs.HeldFacts.{Added}
 use Rattle.regression.specs.Wanted.{neededAt, wantedAt, addedBetween}
 use Rattle.regression.proofs.Gathered.{in-cond, in-cond-parts, in-unionOf, in-unionOf-from}

@@ -15,10 +15,11 @@ use Rattle.facts.proofs.SetLaws.{union-zero-left}
 use Rattle.job.specs.Job.{Job}
 use Rattle.timeline.specs.Step.{Step}
 use Rattle.timeline.specs.Timeline.{ifStops, addedAt, held}
+use Rattle.timeline.specs.Places.{Place, EachStep}
+use Rattle.timeline.specs.Keeps.{Keeps}
 use Rattle.timeline.proofs.Tests.{not-both, false-unless, same-test}
-use Rattle.timeline.proofs.Places.{Place, EachStep, unionOf-place}
+use Rattle.timeline.proofs.Places.{unionOf-place}
 use Rattle.timeline.proofs.HeldFacts.{Added, held-comes-from}
-use Rattle.timeline.proofs.Keeps.{Keeps}
 use Rattle.regression.specs.Wanted.{ifStarts, neededAt, wanted, wantedAt}
 use Rattle.regression.proofs.Gathered.{in-cond, in-cond-parts, in-unionOf, in-unionOf-from}
 

@@ -11,9 +11,9 @@ use Rattle.facts.specs.FactSet.{meets}
 use Rattle.job.specs.Job.{Job}
 use Rattle.timeline.specs.Step.{Step, stepOf}
 use Rattle.timeline.specs.From.{From, IsNew}
-use Rattle.timeline.proofs.Places.{EachStep}
+use Rattle.timeline.specs.Places.{EachStep}
+use Rattle.timeline.specs.Keeps.{PlanOf}
 use Rattle.times.specs.Earliest.{actionOf}
-use Rattle.times.proofs.PlanSteps.{PlanOf}
 use Rattle.regression.specs.Normal.{critical, blocked}
 
 -- A plan of the job's own steps with all stops by T, in any order, none of whose new steps can be dropped or start a

@@ -11,15 +11,16 @@ use Rattle.job.specs.Job.{Job}
 use Rattle.timeline.specs.Step.{Step, stepsIn, before, strictlyRising}
 use Rattle.timeline.specs.From.{IsNew, IsKept}
 use Rattle.timeline.specs.Accepted.{Accepted}
+use Rattle.timeline.specs.Places.{Place, here, there, EachStep, Permutation, empty, next-step}
+use Rattle.timeline.specs.Keeps.{OfJob, PlanOf}
 use Rattle.timeline.proofs.Tests.{and-both}
-use Rattle.timeline.proofs.Places.{Place, here, there, EachStep, append-cases, place-append, place-after}
+use Rattle.timeline.proofs.Places.{append-cases, place-append, place-after}
 use Rattle.timeline.proofs.AcceptedSteps.{accepted-steps}
-use Rattle.timeline.proofs.JobSteps.{OfJob, steps-of-accepted}
-use Rattle.timeline.proofs.Permutations.{Permutation, empty, next-step, permutation-sym, permutation-trans}
+use Rattle.timeline.proofs.JobSteps.{steps-of-accepted}
+use Rattle.timeline.proofs.Permutations.{permutation-sym, permutation-trans}
 use Rattle.timeline.proofs.Permutations.{permutation-append, permutation-each, permutation-keeps, permutation-member}
 use Rattle.timeline.proofs.Rising.{rising-same-members}
 use Rattle.timeline.proofs.NewSteps.{not-new-and-kept}
-use Rattle.times.proofs.PlanSteps.{PlanOf}
 use Rattle.makespan.specs.Makespan.{begun, Counts}
 use Rattle.tables.specs.Tables.{Known, keptOf, fromOf, KeepsKept}
 use Rattle.tables.specs.declared.Steps.{Steps}

@@ -8,12 +8,13 @@ use mathlib.Core.List.{List}
 use native.Mathlib.Nat.{le-refl}
 use native.Mathlib.Omega.{arith}
 use Rattle.job.specs.Job.{Job}
-use Rattle.job.proofs.Passed.{Passed}
+use Rattle.job.specs.Passed.{Passed}
 use Rattle.timeline.specs.Step.{Step, stepsIn}
 use Rattle.timeline.specs.Timeline.{end}
 use Rattle.timeline.specs.Accepted.{Accepted}
+use Rattle.timeline.specs.Places.{EachStep}
 use Rattle.timeline.proofs.Tests.{not-both}
-use Rattle.timeline.proofs.Places.{EachStep, append-cases, place-after, largest-at-least, largest-at-most}
+use Rattle.timeline.proofs.Places.{append-cases, place-after, largest-at-least, largest-at-most}
 use Rattle.timeline.proofs.Permutations.{permutation-sym, permutation-member}
 use Rattle.timeline.proofs.NewSteps.{new-from-minute}
 use Rattle.times.proofs.PlanSteps.{plan-of-accepted}

@@ -18,7 +18,7 @@ use Rattle.leaf.specs.Answer.{Finishes}
 use Rattle.states.specs.declared.state.State.{State}
 use Rattle.states.specs.States.{Stands, DeadFor, nextStep, MayStop, OpenIn}
 use Rattle.states.specs.Moves.{Taken, Back, NoStartBetween}
-use Rattle.states.specs.Missing.{Fresh}
+use Rattle.pruning.specs.Missing.{Fresh}
 use Rattle.search.specs.Search.{TaskOf, Ready}
 use Rattle.states.proofs.Chosen.{known-pushed, keeps-pushed, starts-pushed}
 use Rattle.states.proofs.StateLaws.{fits-in-time, new-when-fits, chosen-taken, taken-stands}

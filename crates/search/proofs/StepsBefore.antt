@@ -10,8 +10,9 @@ use lib.Dec.{eqb, ltb}
 use borrow.Author.Tests.{le-ltb}
 use Rattle.timeline.specs.Step.{Step, strictlyRising}
 use Rattle.timeline.specs.From.{From, fromMinute, IsNew, IsKept, isKept}
+use Rattle.timeline.specs.Places.{here, EachStep}
 use Rattle.timeline.proofs.Tests.{not-both, false-unless}
-use Rattle.timeline.proofs.Places.{here, EachStep, each-step, each-cons, each-rest}
+use Rattle.timeline.proofs.Places.{each-step, each-cons, each-rest}
 use Rattle.timeline.proofs.NewSteps.{new-or-kept, not-new-and-kept, is-kept-reads, is-kept-when}
 use Rattle.timeline.proofs.Rising.{Before, rising-rest, rising-before, before-reads}
 use Rattle.makespan.specs.Makespan.{begun}

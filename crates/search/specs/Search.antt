@@ -9,16 +9,15 @@ use Rattle.facts.specs.FactSet.{foreign}
 use Rattle.job.specs.Job.{Job}
 use Rattle.timeline.specs.Step.{Step, stepsIn}
 use Rattle.timeline.specs.From.{From, IsNew, isKept}
+use Rattle.timeline.specs.Places.{EachStep, Permutation}
 use Rattle.landmarks.specs.Bounds.{TimesBound}
 use Rattle.tables.specs.Tables.{Describes, Known, keptOf, fromOf, KeepsKept}
 use Rattle.tables.specs.declared.Frame.{Frame}
 use Rattle.leaf.specs.declared.Answer.{Answer}
-use Rattle.timeline.proofs.Places.{EachStep}
-use Rattle.timeline.proofs.Permutations.{Permutation}
 use Rattle.leaf.specs.Answer.{FileOf, Found, bytesIn}
 use Rattle.leaf.specs.Order.{inOrder}
 use Rattle.states.specs.declared.state.State.{State}
-use Rattle.states.specs.Missing.{Marked}
+use Rattle.pruning.specs.Missing.{Marked}
 use Rattle.states.specs.States.{Stands, Safe, DeadFor}
 
 -- the steps of a plan before a place

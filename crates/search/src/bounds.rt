@@ -20,5 +20,5 @@ pub fn lowest(times: &[u32], frame: Frame) -> u32
         return time;
     }
     let first = minute::wide(frame.first) + 1;
-    set_time::later(time + minute::wide(frame.origin), first)
+    timeline::later(time + minute::wide(frame.origin), first)
 }

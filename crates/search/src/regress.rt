@@ -5,15 +5,15 @@ ghost use Prim.Native.Nat.{_<_};
 ghost use Rattle.regression.specs.DeadEnd.{Until};
 ghost use Rattle.tables.specs.Tables.{chosen, fromOf};
 ghost use Rattle.states.specs.States.{nextStep, MayStop, OpenIn};
-ghost use Rattle.states.specs.Missing.{Fresh};
+ghost use Rattle.pruning.specs.Missing.{Fresh};
 ghost use Rattle.search.specs.Search.{Ready, Answered, NoneFrom};
 use leaf::Answer;
-use states::carried;
-use states::missing;
+use pruning::carried;
+use pruning::missing;
+use pruning::tests;
 use states::moves;
 use states::rules;
 use states::state::State;
-use states::tests;
 use tables::Frame;
 
 // With action i stopping at the state's minute, and the actions of `left` not decided.

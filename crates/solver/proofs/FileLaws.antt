@@ -3,7 +3,6 @@
 use Prim.Native.Nat.{ℕ, _≤_}
 use mathlib.Core.Path.{_≡_, ap, sym, _∙_, subst}
 use mathlib.Core.List.{List, []}
-use native.Mathlib.Nat.{mul-le-mul}
 use native.Mathlib.Omega.{arith}
 use lib.ListN.{length, take}
 use lib.Seq.{length-take-le}
@@ -19,26 +18,17 @@ use Rattle.job.specs.Job.{Job, jobIn, jobValue}
 use Rattle.job.specs.Refusal.{first}
 use Rattle.job.specs.Resumed.{resumed}
 use Rattle.job.specs.Valid.{jobRows}
-use Rattle.job.proofs.Passed.{Passed, passed}
+use Rattle.job.proofs.Passed.{passed}
 use Rattle.job.proofs.Table.{first-next, first-append-pass, first-none}
-use Rattle.job.proofs.Values.{Shape, job-in-shape, value-holds-job}
+use Rattle.job.proofs.Values.{job-in-shape, value-holds-job}
 use Rattle.jobfile.specs.declared.Written.{Written}
 use Rattle.jobfile.specs.declared.Written.the-variants as written
-use Rattle.jobfile.specs.File.{fileOf, actionSize}
+use Rattle.jobfile.specs.File.{fileOf}
 use Rattle.jobfile.specs.Answers.{readFile, writeRows, writtenOf, writeFile, leftOf, leftByWrite}
-use Rattle.jobfile.proofs.Lengths.{length-file}
+use Rattle.jobfile.proofs.Lengths.{file-fits}
 use Rattle.jobfile.proofs.RoundTrips.{ByteDurations, read-after-write-slice}
 use Rattle.writer.specs.Wrote.{Wrote}
 use Rattle.leaf.specs.Answer.{FileOf}
-
-pub file-fits : (J : Job) → Shape J → Passed J → length (fileOf J) ≤ 4096
-file-fits J shape within =
-    let p = within .fewPools in
-    let s = within .fewStores in
-    let one : actionSize (length (J .pools)) (length (J .stores)) ≤ 57 = omega arith in
-    let all = mul-le-mul {n₂ = 64} {m₂ = 57} (within .fewActions) one in
-    let l = length-file J shape in
-    omega arith
 
 -- the writer's answers are different, and a length is told by its number
 lengths-same : {m n : ℕ} → _≡_ {A = Written} (written.Length m) (written.Length n) → m ≡ n

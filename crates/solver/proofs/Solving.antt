@@ -8,9 +8,9 @@ use native.Mathlib.Omega.{arith}
 use lib.ListN.{length, getD}
 use Rattle.lists.proofs.Tabulate.{length-tabulate}
 use Rattle.job.specs.Job.{Job}
-use Rattle.job.proofs.Passed.{Passed}
+use Rattle.job.specs.Passed.{Passed}
 use Rattle.timeline.specs.Step.{strictlyRising}
-use Rattle.timeline.proofs.Places.{EachStep}
+use Rattle.timeline.specs.Places.{EachStep}
 use Rattle.timeline.proofs.Permutations.{permutation-each}
 use Rattle.makespan.specs.Makespan.{LeastEnd}
 use Rattle.makespan.proofs.LeastEnds.{BegunSteps, ends-by-deadline, makespan-of-least-end}

@@ -22,10 +22,11 @@ use Rattle.timeline.specs.Step.{Step, unionOf}
 use Rattle.timeline.specs.From.{IsNew, FitsFrom}
 use Rattle.timeline.specs.Timeline.{free, inUse, usedUp, clash}
 use Rattle.timeline.specs.Accepted.{clashing}
+use Rattle.timeline.specs.Places.{Place, here, there, EachStep}
 use Rattle.timeline.proofs.Shares.{free-at-stop}
 use Rattle.timeline.proofs.Tests.{and-both, decided, or-neither}
 use Rattle.job.specs.Valid.{over}
-use Rattle.timeline.proofs.Places.{Place, here, there, EachStep, any-at}
+use Rattle.timeline.proofs.Places.{any-at}
 use Rattle.timeline.proofs.Places.{any-of-none, each-cons}
 use Rattle.timeline.proofs.Clashes.{overlap-when}
 use Rattle.timeline.proofs.NewSteps.{fits-by, new-of-fits}

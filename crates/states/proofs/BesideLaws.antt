@@ -10,7 +10,7 @@ use Rattle.facts.specs.FactSet.{has}
 use Rattle.job.specs.Job.{Job}
 use Rattle.timeline.specs.Step.{Step}
 use Rattle.timeline.specs.From.{FitsFrom}
-use Rattle.timeline.proofs.Places.{Member}
+use Rattle.timeline.specs.Places.{Member}
 use Rattle.times.specs.Earliest.{actionOf}
 use Rattle.regression.specs.DeadEnd.{Until}
 use Rattle.tables.specs.Tables.{Describes, Known, chosen, clashesAt, durationAt, fromOf}

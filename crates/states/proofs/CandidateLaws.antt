@@ -1,4 +1,4 @@
--- Sets of actions, gone over from one to the next: candidates, what they add, and when they would start.
+-- Sets of actions, gone over from one to the next: candidates.
 -- Assumes nothing.
 use Prim.Native.Nat.{ℕ, _+_, _-_, _^_, _≤_, _<_}
 use mathlib.Core.Path.{_≡_, sym, ap, _∙_}
@@ -10,19 +10,17 @@ use native.Mathlib.Omega.{arith}
 use lib.Bits.{bitAnd, and-le-l, and-le-r}
 use lib.Dec.{eqb}
 use borrow.Author.Tests.{eqb-true, eqb-false, not-true}
-use Rattle.facts.specs.FactSet.{has, union, difference, single, subset, meets, Subset, NextFact}
+use Rattle.facts.specs.FactSet.{has, difference, single, subset, meets, Subset, NextFact}
 use Rattle.facts.proofs.Membership.{has-zero, some-member, subset-decides, word-within}
 use Rattle.facts.proofs.SetLaws.{in-union-left, in-union-right, in-union-cases, in-both-meets}
 use Rattle.timeline.proofs.Tests.{not-both, false-unless, le-or-lt}
 use Rattle.times.proofs.Singles.{in-single, only-in-single}
-use Rattle.tables.specs.Tables.{addsAt, durationAt}
 use Rattle.tables.specs.declared.Frame.{Frame}
 use Rattle.states.specs.declared.state.State.{State}
 use Rattle.states.specs.States.{WithCandidate, Candidates}
-use Rattle.states.specs.Carried.{AddsOf, LatestStart}
 
 -- below the next member, a number is below this one, is it, or is no member
-below-next : {X : Type 0} (set k next a : ℕ) → NextFact set (k + 1) next → a < next → has set a ≡ true → (a < k → X)
+pub below-next : {X : Type 0} (set k next a : ℕ) → NextFact set (k + 1) next → a < next → has set a ≡ true → (a < k → X)
     → (a ≡ k → X) → X
 below-next set k next a n l member before here =
     ⊎-elim before
@@ -77,44 +75,6 @@ module _ (sets numbers : List ℕ) (frame : Frame) (st : State) (undecided : ℕ
             (ap (λ (set : ℕ). has set k) (more .0) ∙ in-union-left (single k) found k (in-single k))
             (rw same at out))
             with));
-      }
-
--- ---- what they add
-module _ (sets : List ℕ) (left : ℕ) where
-  pub adds-at-first : (next : ℕ) → NextFact left 0 next → AddsOf sets left next 0
-  adds-at-first next n a fact l member h = not-both member (n .skipped a (omega arith) l)
-
-  pub adds-on : (k next set r : ℕ) → r ≡ union (addsAt sets k) set → NextFact left (k + 1) next → AddsOf sets left k set
-      → AddsOf sets left next r
-  adds-on k next set r e n before a fact l member h =
-      ap (λ (s : ℕ). has s fact) e
-      ∙ below-next left k next a n l member
-      (λ less. in-union-right (addsAt sets k) set fact (before a fact less member h))
-      (λ same. in-union-left (addsAt sets k) set fact (rw same at h))
-
--- ---- when they would start
-module _ (numbers : List ℕ) (left t from : ℕ) where
-  pub latest-at-first : (next : ℕ) → from < t → NextFact left 0 next → LatestStart numbers left t from next from
-  latest-at-first next early n =
-      record {
-        notBefore = omega arith;
-        before = early;
-        starts = λ a l member h. not-both member (n .skipped a (omega arith) l);
-      }
-
-  pub latest-on : (k next m r start : ℕ) → start ≡ t - durationAt numbers k
-      → (m ≤ r) × (r < t) × (start < t → start ≤ r) → NextFact left (k + 1) next
-      → LatestStart numbers left t from k m → LatestStart numbers left t from next r
-  latest-on k next m r start e later n before =
-      let first = before .notBefore in
-      let on = later .0 in
-      record {
-        notBefore = omega arith;
-        before = later .1;
-        starts = λ a l member h.
-            below-next left k next a n l member
-            (λ less. let s = before .starts a less member h in omega arith)
-            (λ same. let s = later .2 (rw (e, ← same) h) in rw same (rw e at s));
       }
 
 -- ---- a set that is not empty has a first member

@@ -11,8 +11,8 @@ use lib.Seq.{getD-set-same, getD-set-other}
 use Rattle.job.specs.Job.{Job}
 use Rattle.timeline.specs.Step.{Step, stepOf}
 use Rattle.timeline.specs.From.{IsNew}
-use Rattle.timeline.proofs.Places.{Place, here, there, Member, EachStep}
-use Rattle.timeline.proofs.JobSteps.{OfJob}
+use Rattle.timeline.specs.Places.{Place, here, there, Member, EachStep}
+use Rattle.timeline.specs.Keeps.{OfJob}
 use Rattle.tables.specs.Tables.{chosenTo, chosen, Known, pushed, keptOf, fromOf, KeepsKept}
 use Rattle.tables.specs.declared.Frame.{Frame}
 use Rattle.tables.specs.declared.Steps.{Steps}

@@ -7,7 +7,7 @@ use native.Mathlib.Omega.{arith}
 use Rattle.job.specs.Job.{Job}
 use Rattle.job.specs.Resources.{handover}
 use Rattle.timeline.specs.Step.{Step}
-use Rattle.timeline.proofs.Places.{EachStep}
+use Rattle.timeline.specs.Places.{EachStep}
 use Rattle.regression.proofs.BlockedSteps.{Touches}
 use Rattle.tables.specs.Tables.{chosen}
 use Rattle.tables.specs.declared.Steps.{Steps}

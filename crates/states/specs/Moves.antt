@@ -2,7 +2,7 @@
 -- Assumes nothing.
 use Prim.Native.Nat.{ℕ, _-_, _<_}
 use mathlib.Core.Path.{_≡_}
-use mathlib.Core.Bool.{Bool, false, cond, _&&_, _||_}
+use mathlib.Core.Bool.{cond, _&&_, _||_}
 use mathlib.Core.List.{List}
 use lib.Dec.{leb, ltb}
 use lib.ListN.{getD}
@@ -10,14 +10,11 @@ use Rattle.facts.specs.FactSet.{has, union, difference}
 use Rattle.job.specs.Job.{Job}
 use Rattle.timeline.specs.Step.{stepOf}
 use Rattle.regression.specs.Wanted.{addedBetween}
-use Rattle.regression.specs.Tests.{runningNeeds}
-use Rattle.tables.specs.Tables.{DescribesAction, Known, addsAt, durationAt, chosen, pushed, DescribesEach}
-use Rattle.tables.specs.declared.Frame.{Frame}
+use Rattle.tables.specs.Tables.{DescribesAction, addsAt, durationAt, chosen, pushed, DescribesEach}
 use Rattle.tables.specs.declared.Steps.{Steps}
 use Rattle.states.specs.declared.state.State.{State}
 use Rattle.states.specs.Minutes.{JoinsStep, LooksAt}
 use Rattle.states.specs.Amounts.{JoinsUses, LooksUses}
-use Rattle.states.specs.States.{DeadBy}
 
 -- ---- an action stops at the state's minute
 
@@ -34,12 +31,6 @@ pub record Taken (sets numbers : List ℕ) (st : State) (i : ℕ) (r : State) : 
   pub uses : JoinsUses numbers (st .minute) i (startOf numbers st i) (st .uses) (r .uses)
   pub twice : (n : ℕ) → has (r .twice) n ≡ (has (st .twice) n || (has (st .at .added) n && has (addsAt sets i) n))
   pub since : r .since ≡ st .since
-
--- a state of which the test is false is a dead end
-abbrev pub DeadUnless : List ℕ → State → Bool → Type 0
-DeadUnless sets st test =
-    test ≡ false → (numbers : List ℕ) (frame : Frame) → Known (frame .actions) (st .steps)
-    → DeadBy sets numbers frame st
 
 -- ---- back to the event minute before
 
@@ -70,14 +61,3 @@ pub record Back (sets numbers : List ℕ) (actions s : ℕ) (st r : State) : Typ
   pub uses : LooksUses numbers actions (st .steps) s (r .uses)
   pub twice : r .twice ≡ 0
   pub since : r .since ≡ st .steps .count
-
--- ---- needs of running steps
-
-abbrev pub NeedOf : List ℕ → List ℕ → ℕ → ℕ → ℕ → ℕ → Type 0
-NeedOf sets numbers i start t set =
-    (J : Job) → DescribesAction J sets numbers i
-    → set ≡ cond (leb (stepOf J i start .start) t && ltb t (stepOf J i start .stop)) (stepOf J i start .action .needs) 0
-
-abbrev pub NeedsAt : List ℕ → List ℕ → ℕ → Steps → ℕ → ℕ → Type 0
-NeedsAt sets numbers actions steps t set =
-    (J : Job) → DescribesEach J sets numbers actions → set ≡ runningNeeds t (chosen J steps)

@@ -10,7 +10,7 @@ use Rattle.facts.specs.FactSet.{has, union, single, meets, Subset}
 use Rattle.job.specs.Job.{Job}
 use Rattle.timeline.specs.Step.{Step, stepOf}
 use Rattle.timeline.specs.From.{IsNew, FitsFrom}
-use Rattle.timeline.proofs.Places.{Member}
+use Rattle.timeline.specs.Places.{Member}
 use Rattle.times.specs.Earliest.{actionOf}
 use Rattle.regression.specs.Wanted.{wantedAt}
 use Rattle.regression.specs.DeadEnd.{Until, Open, Dead, stepStopping}
@@ -120,8 +120,3 @@ pub record Candidates (sets numbers : List ℕ) (frame : Frame) (st : State) (un
   pub may : (a : ℕ) → has r a ≡ true → (a < frame .actions) × MayStop sets numbers frame st a true
   pub barred : (a : ℕ) → a < n → a < frame .actions → has undecided a ≡ true → has r a ≡ false
       → BarredBy sets numbers frame st a
-
--- actions of which the step that stops at the state's minute fits
-abbrev pub FitAll : List ℕ → Frame → State → ℕ → Type 0
-FitAll numbers frame st left =
-    (a : ℕ) → has left a ≡ true → (a < frame .actions) × (durationAt numbers a ≤ st .minute)

@@ -18,7 +18,7 @@ pub struct Uses {
 }
 
 // An amount of 32 bits as a number of 64, where it counts.
-pub fn amount(counts: bool, number: u32) -> u64
+fn amount(counts: bool, number: u32) -> u64
     ensures { λ r. ⌜ (r ≡ cond counts number 0) × (r < 2 ^ 32) ⌝ }
 {
     if counts {
@@ -28,13 +28,13 @@ pub fn amount(counts: bool, number: u32) -> u64
 }
 
 // The sums with the table's four amounts from place `at` on, where they count.
-fn plus(numbers: &[u32], at: usize, counts: bool, sums: [u64; Job::POOLS]) -> [u64; Job::POOLS]
+fn plus(numbers: &[u32], at: usize, counts: bool, sums: [u64; Job::AMOUNTS]) -> [u64; Job::AMOUNTS]
     requires { ⌜ (at + 4 ≤ length (now numbers)) × (length (now numbers) ≤ 1220) × Sums 32 sums ⌝ }
     ensures { λ r. ⌜ Added (now (numbers .entry)) at counts sums r ⌝ }
 {
     let mut out = sums;
     let mut k = 0;
-    while k < Job::POOLS {
+    while k < Job::AMOUNTS {
         out[k] = amount(counts, numbers[at + k]) + out[k];
         k += 1;
     }
@@ -101,8 +101,8 @@ pub fn look(numbers: &[u32], actions: usize, steps: Steps, t: u32) -> Uses
 pub fn exceeds(
     numbers: &[u32],
     at: usize,
-    sums: [u64; Job::POOLS],
-    limits: [u32; Job::POOLS],
+    sums: [u64; Job::AMOUNTS],
+    limits: [u32; Job::AMOUNTS],
     count: usize,
 ) -> bool
     requires { ⌜ (at + 4 ≤ length (now numbers)) × (length (now numbers) ≤ 1220) × Sums 32 sums × (count ≤ 4) ⌝ }
@@ -110,7 +110,7 @@ pub fn exceeds(
 {
     let mut k = 0;
     while k < count {
-        if amount(true, limits[k]) < sums[k] + amount(true, numbers[at + k]) {
+        if job::wide(limits[k]) < sums[k] + job::wide(numbers[at + k]) {
             return true;
         }
         k += 1;

@@ -12,7 +12,8 @@ use Rattle.job.specs.declared.refusal.Verdict.the-variants.{Pass}
 use Rattle.job.specs.Job.{Action, jobIn, actionAt, beyond}
 use Rattle.job.specs.Refusal.{first}
 use Rattle.job.specs.Valid.{jobRows}
-use Rattle.job.proofs.Passed.{PassedAction, passed}
+use Rattle.job.specs.Passed.{PassedAction}
+use Rattle.job.proofs.Passed.{passed}
 use Rattle.timeline.specs.Step.{noAction}
 use Rattle.tables.specs.Tables.{Describes, DescribesAction}
 use Rattle.tables.specs.declared.Steps.{Steps}

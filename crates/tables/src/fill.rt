@@ -73,12 +73,12 @@ fn fill_sets(sets: &mut [u64], job: Job)
 }
 
 // Puts four amounts into the table, from place `at` on, and leaves the entries before them.
-fn put_amounts(numbers: &mut [u32], at: usize, amounts: [u32; Job::POOLS])
+fn put_amounts(numbers: &mut [u32], at: usize, amounts: [u32; Job::AMOUNTS])
     requires { ⌜ at + 4 ≤ length (now numbers) ⌝ }
     ensures { λ r. ⌜ ValuesPut (now (numbers .entry)) at 4 amounts (now (numbers .exit)) ⌝ }
 {
     let mut k = 0;
-    while k < Job::POOLS {
+    while k < Job::AMOUNTS {
         numbers[at + k] = amounts[k];
         k += 1;
     }

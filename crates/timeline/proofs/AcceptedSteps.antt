@@ -21,8 +21,9 @@ use Rattle.job.proofs.Table.{first-next, first-pass}
 use Rattle.timeline.specs.Step.{Step, strictlyRising, anyPair, largest}
 use Rattle.timeline.specs.Timeline.{end, held, free, inUse, usedUp}
 use Rattle.timeline.specs.Accepted.{unknown, clashing, exceedsPool, exceedsStore, lacksNeed, stepRows}
+use Rattle.timeline.specs.Places.{EachStep}
 use Rattle.timeline.proofs.Tests.{decided}
-use Rattle.timeline.proofs.Places.{EachStep, none-of-any, any-of-none}
+use Rattle.timeline.proofs.Places.{none-of-any, any-of-none}
 use Rattle.timeline.proofs.Places.{largest-at-least}
 use Rattle.timeline.proofs.Shares.{free-is, nothing-in-use}
 

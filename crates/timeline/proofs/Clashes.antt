@@ -14,8 +14,9 @@ use Rattle.job.specs.Job.{Action}
 use Rattle.timeline.specs.Step.{Step, anyPair}
 use Rattle.timeline.specs.Timeline.{hinders, clash, overlap}
 use Rattle.timeline.specs.Accepted.{clashing}
+use Rattle.timeline.specs.Places.{Place, here, there}
 use Rattle.timeline.proofs.Tests.{not-both, false-unless, and-both, and-other-false, or-neither, eqb-sym}
-use Rattle.timeline.proofs.Places.{Place, here, there, pair-none, any-of-none}
+use Rattle.timeline.proofs.Places.{pair-none, any-of-none}
 
 -- a deletes nothing that b needs, and nothing that b adds
 pub record Spares (a b : Action) : Type 0 where

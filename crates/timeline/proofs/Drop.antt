@@ -11,12 +11,13 @@ use Rattle.job.specs.Job.{Job}
 use Rattle.timeline.specs.Step.{Step}
 use Rattle.timeline.specs.Timeline.{held}
 use Rattle.timeline.specs.Accepted.{clashing}
-use Rattle.timeline.proofs.Places.{Place, EachStep, place-wider, each-wider, pairs-of-rest}
+use Rattle.timeline.specs.Places.{Place, EachStep}
+use Rattle.timeline.specs.Keeps.{Lasting, Keeps}
+use Rattle.timeline.proofs.Places.{place-wider, each-wider, pairs-of-rest}
 use Rattle.timeline.proofs.HeldFacts.{Added, NotDeleted, held-when-added, held-when-kept, held-comes-from}
 use Rattle.timeline.proofs.HeldFacts.{added-or-not, added-by, not-deleted-rest}
 use Rattle.timeline.proofs.Clashes.{NoClash, clashing-sym, no-clash-of-test}
 use Rattle.timeline.proofs.Shares.{inUse-place, usedUp-place}
-use Rattle.timeline.proofs.Keeps.{Lasting, Keeps}
 
 -- Wanted t n: fact n is wanted at minute t. What is wanted at a minute and not added then is wanted the minute before.
 abbrev pub WantedBefore : List Step → (ℕ → ℕ → Type 0) → Type 0

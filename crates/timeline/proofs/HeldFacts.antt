@@ -15,8 +15,9 @@ use Rattle.facts.specs.FactSet.{has, union, difference}
 use Rattle.facts.proofs.Membership.{has-union, has-difference, has-zero, same-members}
 use Rattle.timeline.specs.Step.{Step, unionOf}
 use Rattle.timeline.specs.Timeline.{end, ifStops, deletedAt, addedAt, held}
+use Rattle.timeline.specs.Places.{Place, Member, EachStep}
 use Rattle.timeline.proofs.Tests.{decided, not-both, false-unless, and-both, or-cases, same-test}
-use Rattle.timeline.proofs.Places.{Place, Member, EachStep, any-at, find-any, any-of-none, any-members}
+use Rattle.timeline.proofs.Places.{any-at, find-any, any-of-none, any-members}
 use Rattle.timeline.proofs.Places.{split-place, place-wider, largest-at-least}
 
 -- a step of P stops at minute t and adds fact n

@@ -9,19 +9,17 @@ use Rattle.lists.proofs.Tabulate.{each-tabulate, each-at}
 use Rattle.encoding.specs.Bytes.{part}
 use Rattle.job.specs.Job.{Job}
 use Rattle.job.specs.Refusal.{first}
+use Rattle.job.specs.Passed.{Passed, PassedAction}
 use Rattle.job.specs.declared.refusal.Verdict.the-variants.{Pass}
 use Rattle.job.proofs.Table.{first-pass}
-use Rattle.job.proofs.Passed.{Passed, PassedAction}
 use Rattle.timeline.specs.Step.{Step, noAction, stepOf, stepIn, stepsIn}
 use Rattle.timeline.specs.Timeline.{end}
 use Rattle.timeline.specs.Accepted.{Accepted, planRows, stepRows}
-use Rattle.timeline.proofs.Places.{Member, EachStep, each-step}
+use Rattle.timeline.specs.Places.{Member, EachStep}
+use Rattle.timeline.specs.Keeps.{Lasting, Keeps, OfJob}
+use Rattle.timeline.proofs.Places.{each-step}
 use Rattle.timeline.proofs.AcceptedSteps.{accepted-steps}
-use Rattle.timeline.proofs.Keeps.{Lasting, Keeps, keeps-of-accepted}
-
--- x is a step of an action of the job, by its number
-abbrev pub OfJob : Job → Step → Type 0
-OfJob J x = x ≡ stepOf J (x .number) (x .start)
+use Rattle.timeline.proofs.Keeps.{keeps-of-accepted}
 
 pub same-step : (J : Job) (x y : Step) → OfJob J x → OfJob J y → x .number ≡ y .number → x .start ≡ y .start → x ≡ y
 same-step J x y p q e f = p ∙ ap₂ (stepOf J) e f ∙ sym q

@@ -12,8 +12,9 @@ use borrow.Author.Tests.{eqb-true, eq-eqb, ltb-true, lt-ltb}
 use Rattle.lists.proofs.Bools.{and-left, and-right}
 use Rattle.timeline.specs.Step.{Step}
 use Rattle.timeline.specs.From.{From, fromMinute, IsNew, IsKept, isKept, FitsFrom}
+use Rattle.timeline.specs.Places.{EachStep}
 use Rattle.timeline.proofs.Tests.{or-cases, and-both, trichotomy, le-or-lt}
-use Rattle.timeline.proofs.Places.{EachStep, append-cases}
+use Rattle.timeline.proofs.Places.{append-cases}
 use Rattle.timeline.proofs.Shift.{later}
 
 module _ (b : From) (x : Step) where

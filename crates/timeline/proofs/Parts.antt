@@ -11,8 +11,9 @@ use Rattle.job.specs.Job.{Job}
 use Rattle.timeline.specs.Step.{Step, anyPair, total}
 use Rattle.timeline.specs.Timeline.{inUse, storeUse, usedUp}
 use Rattle.timeline.specs.Accepted.{clashing}
+use Rattle.timeline.specs.Places.{Place, here, there, Member, EachStep}
 use Rattle.timeline.proofs.Tests.{or-neither}
-use Rattle.timeline.proofs.Places.{Place, here, there, Member, EachStep, total-place, length-place, place-wider}
+use Rattle.timeline.proofs.Places.{total-place, length-place, place-wider}
 use Rattle.timeline.proofs.Places.{split-place, any-of-none, pair-none, pairs-of-rest}
 use Rattle.timeline.proofs.Clashes.{clashing-sym}
 use Rattle.timeline.proofs.Shares.{useAt}

@@ -11,18 +11,14 @@ use Rattle.job.specs.Job.{Job}
 use Rattle.timeline.specs.Step.{Step, anyPair, total, largest}
 use Rattle.timeline.specs.Timeline.{held, storeUse}
 use Rattle.timeline.specs.Accepted.{clashing}
-use Rattle.timeline.proofs.Places.{Place, here, there, Member, EachStep, any-place, total-place, largest-place}
+use Rattle.timeline.specs.Places.{Place, here, there, Member, EachStep, Permutation, empty, next-step}
+use Rattle.timeline.specs.Keeps.{Keeps}
+use Rattle.timeline.proofs.Places.{any-place, total-place, largest-place}
 use Rattle.timeline.proofs.Places.{length-place, anyPair-place, place-wider, place-append}
 use Rattle.timeline.proofs.HeldFacts.{held-same-members}
 use Rattle.timeline.proofs.Clashes.{clashing-sym}
 use Rattle.timeline.proofs.Shares.{useAt}
-use Rattle.timeline.proofs.Keeps.{Keeps}
 use Rattle.timeline.proofs.Parts.{Part, nothing, one-more, Distinct, part-length, part-of-members}
-
--- the second list in another order
-pub data Permutation : List Step → List Step → Type 0 where
-  empty : Permutation [] []
-  next-step : {x : Step} {R Q P : List Step} → Place x Q P → Permutation R Q → Permutation (x ∷ R) P
 
 -- ---- an equivalence
 pub permutation-refl : (P : List Step) → Permutation P P

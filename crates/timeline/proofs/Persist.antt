@@ -11,11 +11,12 @@ use Rattle.facts.specs.FactSet.{has, Subset}
 use Rattle.job.specs.Job.{Job}
 use Rattle.timeline.specs.Step.{Step}
 use Rattle.timeline.specs.Timeline.{held}
+use Rattle.timeline.specs.Places.{Place}
+use Rattle.timeline.specs.Keeps.{Lasting, NeedsHold, Keeps}
 use Rattle.timeline.proofs.Tests.{not-both}
-use Rattle.timeline.proofs.Places.{Place, split-place}
+use Rattle.timeline.proofs.Places.{split-place}
 use Rattle.timeline.proofs.HeldFacts.{NotDeleted, held-when-kept}
 use Rattle.timeline.proofs.Clashes.{NoClash, no-clash-of-test}
-use Rattle.timeline.proofs.Keeps.{Lasting, NeedsHold, Keeps}
 
 module _ (S : ℕ) (P : List Step) (lasting : Lasting P) (noClash : NoClash P) (needsHold : NeedsHold S P) where
   -- no step that stops while x runs deletes what x needs

@@ -1,32 +1,19 @@
 -- A step at a place of a list, with the rest: what is gathered over the list, from the step and the rest.
 -- Assumes nothing.
-use Prim.Native.Nat.{ℕ, zero, suc, _+_, _<_, _≤_, max}
+use Prim.Native.Nat.{ℕ, suc, _+_, _≤_, max}
 use mathlib.Core.Path.{_≡_, refl, sym, ap, ap₂, _∙_}
 use mathlib.Core.Bool.{Bool, true, false, _||_}
 use mathlib.Core.Logic.{_⊎_, inl, inr, ⊎-elim}
 use mathlib.Core.List.{List, [], _∷_, _++_}
-use native.Mathlib.Nat.{eq-or-lt-of-le}
 use native.Mathlib.Omega.{arith}
 use lib.ListN.{length}
-use Rattle.lists.specs.Lists.{any, Each, anyBelow}
+use Rattle.lists.specs.Lists.{any, Each}
 use Rattle.lists.proofs.Bools.{or-left, or-right}
 use Rattle.facts.specs.FactSet.{union}
 use Rattle.facts.proofs.SetLaws.{union-comm, union-assoc}
 use Rattle.timeline.specs.Step.{Step, anyPair, total, largest, unionOf}
+use Rattle.timeline.specs.Places.{Place, here, there, Member, EachStep}
 use Rattle.timeline.proofs.Tests.{decided, not-both, or-cases, or-neither, or-swap, or-exchange}
-
--- the second list is the first with x put in at some place
-pub data Place (x : Step) : List Step → List Step → Type 0 where
-  here : {Q : List Step} → Place x Q (x ∷ Q)
-  there : {y : Step} {Q P : List Step} → Place x Q P → Place x (y ∷ Q) (y ∷ P)
-
--- x is a step of P
-abbrev pub Member : Step → List Step → Type 0
-Member x P = (Q : List Step) × Place x Q P
-
--- F holds of each step of P
-abbrev pub EachStep : (Step → Type 0) → List Step → Type 0
-EachStep F P = (x : Step) (Q : List Step) → Place x Q P → F x
 
 -- ---- other steps of the list
 -- another step is x or stands in the rest

@@ -17,15 +17,17 @@ use Rattle.encoding.proofs.Numbers.{length-bytes, number-bytes}
 use Rattle.encoding.proofs.Pieces.{length-joined, split-joined}
 use Rattle.job.specs.Job.{Job}
 use Rattle.job.specs.Refusal.{first}
+use Rattle.job.specs.Passed.{Passed}
 use Rattle.job.specs.declared.refusal.Verdict.the-variants.{Pass}
 use Rattle.job.proofs.Table.{first-next, first-pass}
-use Rattle.job.proofs.Passed.{Passed}
 use Rattle.timeline.specs.Step.{Step, stepOf, stepIn, stepsIn, stepBytes, planBytes}
 use Rattle.timeline.specs.Accepted.{Accepted, wrongSize, stepRows, planRows}
+use Rattle.timeline.specs.Places.{EachStep, here}
+use Rattle.timeline.specs.Keeps.{OfJob}
 use Rattle.timeline.proofs.Tests.{or-neither}
-use Rattle.timeline.proofs.Places.{EachStep, here, each-rest}
+use Rattle.timeline.proofs.Places.{each-rest}
 use Rattle.timeline.proofs.AcceptedSteps.{accepted-steps}
-use Rattle.timeline.proofs.JobSteps.{OfJob, lasting-of-known}
+use Rattle.timeline.proofs.JobSteps.{lasting-of-known}
 
 pub length-step-bytes : (x : Step) → length (stepBytes x) ≡ 3
 length-step-bytes x =

@@ -13,8 +13,9 @@ use Rattle.job.specs.Job.{Job}
 use Rattle.job.specs.Resources.{handover}
 use Rattle.timeline.specs.Step.{Step}
 use Rattle.timeline.specs.Timeline.{free, hasShare, inUse, storeUse, usedUp}
+use Rattle.timeline.specs.Places.{Place, EachStep}
 use Rattle.timeline.proofs.Tests.{and-both}
-use Rattle.timeline.proofs.Places.{Place, EachStep, total-place, total-zero}
+use Rattle.timeline.proofs.Places.{total-place, total-zero}
 
 pub free-is : (J : Job) (pool : ℕ) (x : Step) → free J pool x ≡ x .stop + handover J pool
 unfolding free

@@ -13,8 +13,10 @@ use Rattle.job.specs.Job.{Job}
 use Rattle.timeline.specs.Step.{Step, anyPair}
 use Rattle.timeline.specs.Timeline.{held, clash, inUse}
 use Rattle.timeline.specs.Accepted.{clashing}
+use Rattle.timeline.specs.Places.{Place, here}
+use Rattle.timeline.specs.Keeps.{Lasting, NeedsHold, Keeps}
 use Rattle.timeline.proofs.Tests.{and-other-false, le-or-lt}
-use Rattle.timeline.proofs.Places.{Place, here, place-wider, split-place}
+use Rattle.timeline.proofs.Places.{place-wider, split-place}
 use Rattle.timeline.proofs.Places.{pair-none, pairs-of-rest, pairs-with}
 use Rattle.timeline.proofs.HeldFacts.{NotDeleted, held-when-added, held-when-kept, held-comes-from}
 use Rattle.timeline.proofs.Replaced.{each-replaced, added-still, added-elsewhere, not-deleted-still}
@@ -22,7 +24,6 @@ use Rattle.timeline.proofs.Clashes.{NoClash, clashing-sym, no-clash-of-
 use Rattle.timeline.proofs.Clashes.{not-clashing, overlap-when}
 use Rattle.timeline.proofs.Shares.{share-reads, share-when, use-mono}
 use Rattle.timeline.proofs.Shares.{inUse-place, usedUp-place, store-use-of-action}
-use Rattle.timeline.proofs.Keeps.{Lasting, NeedsHold, Keeps}
 
 -- the step, with its stop at minute m
 abbrev pub until : ℕ → Step → Step

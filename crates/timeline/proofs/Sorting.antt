@@ -13,10 +13,12 @@ use Rattle.job.specs.declared.refusal.Verdict.the-variants.{Pass}
 use Rattle.timeline.specs.Step.{Step, before, strictlyRising}
 use Rattle.timeline.specs.Timeline.{end}
 use Rattle.timeline.specs.Accepted.{stepRows}
-use Rattle.timeline.proofs.Places.{Place, here, there, EachStep, place-wider, split-place}
+use Rattle.timeline.specs.Places.{Place, here, there, EachStep, Permutation, empty, next-step}
+use Rattle.timeline.specs.Keeps.{Lasting, Keeps}
+use Rattle.timeline.proofs.Places.{place-wider, split-place}
 use Rattle.timeline.proofs.Clashes.{NoClash, no-clash-of-test}
-use Rattle.timeline.proofs.Keeps.{Lasting, Keeps, accepted-of-keeps}
-use Rattle.timeline.proofs.Permutations.{Permutation, empty, next-step, permutation-sym, permutation-member}
+use Rattle.timeline.proofs.Keeps.{accepted-of-keeps}
+use Rattle.timeline.proofs.Permutations.{permutation-sym, permutation-member}
 use Rattle.timeline.proofs.Permutations.{permutation-each, permutation-keeps}
 use Rattle.timeline.proofs.Rising.{Apart, AllApart, before-trans, before-or-after}
 use Rattle.timeline.proofs.Rising.{rising-rest, rising-before, rising-cons}

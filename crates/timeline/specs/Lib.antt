@@ -4,3 +4,5 @@ pub mod Timeline
 pub mod Accepted
 pub mod Value
 pub mod Day
+pub mod Places
+pub mod Keeps

@@ -1,5 +1,6 @@
 // The timeline of a plan: definitions in specs/, their laws in proofs/, and a plan by value.
 ghost use mathlib.Core.Path.{_≡_};
+ghost use Prim.Native.Nat.{max};
 ghost use Rattle.job.specs.Job.{actionIn};
 ghost use Rattle.job.specs.declared.Counts.{Counts};
 ghost use Rattle.timeline.specs.Timeline.{hinders};
@@ -81,4 +82,14 @@ pub fn hinders(a: Action, b: Action) -> bool
     ensures { λ r. ⌜ ((n : Counts) → r ≡ hinders (actionIn n a) (actionIn n b)) ⌝ }
 {
     facts::meets(a.deletes, facts::union(b.needs, b.adds))
+}
+
+// The later of two minutes.
+pub fn later(a: u32, b: u32) -> u32
+    ensures { λ r. ⌜ r ≡ max a b ⌝ }
+{
+    if a < b {
+        return b;
+    }
+    a
 }

@@ -11,17 +11,19 @@ use Rattle.facts.proofs.SetLaws.{in-union-cases}
 use Rattle.job.specs.Job.{Action, Job}
 use Rattle.timeline.specs.Step.{Step}
 use Rattle.timeline.specs.Timeline.{held}
+use Rattle.timeline.specs.Places.{Place}
+use Rattle.timeline.specs.Keeps.{PlanOf}
 use Rattle.timeline.proofs.Tests.{decided, not-both, false-unless, le-or-lt}
-use Rattle.timeline.proofs.Places.{Place, split-place}
+use Rattle.timeline.proofs.Places.{split-place}
 use Rattle.timeline.proofs.HeldFacts.{Added, held-comes-from}
 use Rattle.timeline.proofs.Clashes.{no-clash-of-test}
 use Rattle.times.specs.Time.{unreachable}
 use Rattle.times.specs.Earliest.{Table, timeOf, actionOf, Solves}
-use Rattle.times.proofs.Times.{By, by-same, by-later-minute, timeOf-by}
+use Rattle.times.specs.Choices.{By, Alone, Together, Reached, atStart, both, one, each, eachOther}
+use Rattle.times.proofs.Times.{by-same, by-later-minute, timeOf-by}
 use Rattle.times.proofs.Singles.{in-with-cases}
-use Rattle.times.proofs.Choices.{Alone, Together, Reached, atStart, both, one, each, eachOther}
 use Rattle.times.proofs.Choices.{right-side-of-reached, reached-swap}
-use Rattle.times.proofs.PlanSteps.{PlanOf, Paired, paired-swap, own-action, own-stop, needs-at, fits-alone}
+use Rattle.times.proofs.PlanSteps.{Paired, paired-swap, own-action, own-stop, needs-at, fits-alone}
 use Rattle.times.proofs.PlanSteps.{paired-when-shared, held-since}
 
 -- every two facts that hold together at minute t have a time of at most t

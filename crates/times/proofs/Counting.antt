@@ -10,7 +10,7 @@ use lib.Dec.{leb}
 use borrow.Author.Tests.{leb-true, le-leb}
 use Rattle.times.specs.Time.{Time, at, unreachable}
 use Rattle.times.specs.Earliest.{Table}
-use Rattle.times.proofs.Times.{By}
+use Rattle.times.specs.Choices.{By}
 
 -- f 0 + .. + f (n - 1)
 abbrev sumTo : ℕ → (ℕ → ℕ) → ℕ

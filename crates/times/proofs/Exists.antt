@@ -13,13 +13,14 @@ use Rattle.times.specs.Time.{Time, at, unreachable}
 use Rattle.times.specs.Earliest.{Table, rightSide, Solves}
 use Rattle.pairs.specs.Pairs.{entryOf}
 use Rattle.times.specs.Numbers.{none, numberOf, timeIn, tableIn}
-use Rattle.times.proofs.Times.{By}
+use Rattle.times.specs.Choices.{By}
+use Rattle.times.specs.Entries.{sum, Kept, finiteIn}
 use Rattle.times.proofs.Finite.{LongestDuration}
 use Rattle.times.proofs.Iteration.{solves-when-settled}
 use Rattle.times.proofs.Sentinel.{number-of-at-most, Small, time-of-number, time-in-by}
 use Rattle.times.proofs.Slots.{entry-before-2080}
-use Rattle.times.proofs.Falling.{sum, sum-falls, lowered-to-right-side}
-use Rattle.times.proofs.Kept.{Kept, finiteIn, kept-at-first, entry-inside, entry-at-most-none}
+use Rattle.times.proofs.Falling.{sum-falls, lowered-to-right-side}
+use Rattle.times.proofs.Kept.{kept-at-first, entry-inside, entry-at-most-none}
 use Rattle.times.proofs.Kept.{right-side-at-most, right-side-small, kept-when-written}
 
 module _ (J : Job) (durations : LongestDuration J 255) (few : J .facts ≤ 64) (xs : List ℕ) (kept : Kept J xs) where

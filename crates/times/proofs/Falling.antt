@@ -10,16 +10,14 @@ use Rattle.job.specs.Job.{Job}
 use Rattle.times.specs.Earliest.{Table, rightSide}
 use Rattle.pairs.specs.Pairs.{entryOf}
 use Rattle.times.specs.Numbers.{none, timeIn, tableIn}
-use Rattle.times.proofs.Times.{By, by-same}
+use Rattle.times.specs.Choices.{By}
+use Rattle.times.specs.Entries.{sum}
+use Rattle.times.proofs.Times.{by-same}
 use Rattle.times.proofs.Iteration.{Lowered}
 use Rattle.times.proofs.Sentinel.{by-not-none, by-time-in, time-of-other}
 use Rattle.times.proofs.Slots.{table-at-entry-set, table-at-other-entry, same-pair-or-other}
 
 -- ---- the sum
-abbrev pub sum : List ℕ → ℕ
-sum [] = 0
-sum (x ∷ xs) = x + sum xs
-
 pub sum-after-set : (xs : List ℕ) (k v d : ℕ) → k < length xs → sum (set xs k v) + getD xs k d ≡ sum xs + v
 sum-after-set [] k v d l = absurd (omega arith)
 sum-after-set (x ∷ xs) zero v d l = omega arith

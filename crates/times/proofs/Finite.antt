@@ -10,7 +10,8 @@ use Rattle.job.specs.Job.{Job}
 use Rattle.timeline.proofs.Tests.{le-or-lt}
 use Rattle.times.specs.Time.{at}
 use Rattle.times.specs.Earliest.{Table, timeOf, actionOf, Solves}
-use Rattle.times.proofs.Times.{By, by-same, by-later-minute, by-timeOf, timeOf-by}
+use Rattle.times.specs.Choices.{By}
+use Rattle.times.proofs.Times.{by-same, by-later-minute, by-timeOf, timeOf-by}
 use Rattle.times.proofs.Monotone.{PositiveDurations, right-side-moves}
 use Rattle.times.proofs.Counting.{entries, entriesBy, same-entries, all-entries}
 use Rattle.times.proofs.Counting.{entries-mono, entries-64}

@@ -5,12 +5,10 @@ use mathlib.Core.Logic.{_⊎_, ⊎-elim}
 use Rattle.job.specs.Job.{Job}
 use Rattle.times.specs.Time.{unreachable}
 use Rattle.times.specs.Earliest.{Table, rightSide, Solves}
-use Rattle.times.proofs.Times.{By, by-ext}
+use Rattle.times.specs.Choices.{By}
+use Rattle.times.specs.Entries.{AtLeastRightSide}
+use Rattle.times.proofs.Times.{by-ext}
 use Rattle.times.proofs.Monotone.{right-side-mono}
-
--- each entry is at least its right side
-abbrev pub AtLeastRightSide : Job → Table → Type 0
-AtLeastRightSide J T = (p q t : ℕ) → p ≤ q → q < J .facts → By (T p q) t → By (rightSide J T p q) t
 
 -- each entry is at most its right side
 abbrev pub AtMostRightSide : Job → Table → Type 0

@@ -15,22 +15,17 @@ use Rattle.timeline.proofs.Tests.{decided}
 use Rattle.times.specs.Earliest.{timeOf, rightSide}
 use Rattle.pairs.specs.Pairs.{entryOf}
 use Rattle.times.specs.Numbers.{none, tableIn}
-use Rattle.times.proofs.Times.{By, by-same, by-timeOf, timeOf-by}
+use Rattle.times.specs.Choices.{By}
+use Rattle.times.specs.Entries.{one, finiteIn, Kept}
+use Rattle.times.proofs.Times.{by-same, by-timeOf, timeOf-by}
 use Rattle.times.proofs.Monotone.{right-side-capped}
 use Rattle.times.proofs.Finite.{LongestDuration}
-use Rattle.times.proofs.Iteration.{AtLeastRightSide, Lowered, at-least-when-lowered}
+use Rattle.times.proofs.Iteration.{Lowered, at-least-when-lowered}
 use Rattle.times.proofs.Sentinel.{AtMost, at-most-of-by, at-most-more, Small, small-at-most, time-of-less}
 use Rattle.times.proofs.Sentinel.{by-not-none}
 use Rattle.times.proofs.Slots.{entry-before-2080}
 
 -- ---- the number of finite entries
-abbrev pub one : ℕ → ℕ
-one x = cond (eqb x none) 0 1
-
-abbrev pub finiteIn : List ℕ → ℕ
-finiteIn [] = 0
-finiteIn (x ∷ xs) = one x + finiteIn xs
-
 pub finite-at-most-length : (xs : List ℕ) → finiteIn xs ≤ length xs
 finite-at-most-length [] = omega arith
 finite-at-most-length (x ∷ xs) =
@@ -53,11 +48,6 @@ one-of-less : (x : ℕ) → x < none → one x ≡ 1
 one-of-less x l = rw (ne-eqb x none (λ e. omega arith))
 
 -- ---- what is kept
-pub record Kept (J : Job) (xs : List ℕ) : Type 0 where
-  pub whole : length xs ≡ 2080
-  pub least : AtLeastRightSide J (tableIn xs)
-  pub bounded : (k : ℕ) → k < 2080 → (getD xs k none ≡ none) ⊎ (getD xs k none ≤ 255 * finiteIn xs)
-
 pub kept-at-first : (J : Job) → J .facts ≤ 64 → Kept J (replicate 2080 none)
 kept-at-first J few =
     record {

@@ -5,11 +5,11 @@ use native.Mathlib.Omega.{arith}
 use lib.ListN.{length}
 use Rattle.lists.proofs.Tabulate.{each-at}
 use Rattle.job.specs.Job.{Job}
-use Rattle.job.proofs.Passed.{Passed, PassedAction}
+use Rattle.job.specs.Passed.{Passed, PassedAction}
 use Rattle.timeline.specs.Step.{noAction}
 use Rattle.times.specs.Earliest.{Table, timeOf, actionOf, rightSide}
-use Rattle.times.proofs.Times.{By, by-timeOf, timeOf-by}
-use Rattle.times.proofs.Choices.{Alone, Together, Reached, atStart, both, one, other, each, eachOther}
+use Rattle.times.specs.Choices.{By, Alone, Together, Reached, atStart, both, one, other, each, eachOther}
+use Rattle.times.proofs.Times.{by-timeOf, timeOf-by}
 use Rattle.times.proofs.Choices.{reached-of-right-side, right-side-of-reached}
 
 -- every action of the job lasts at least a minute

@@ -14,9 +14,9 @@ use Rattle.facts.proofs.SetLaws.{in-union-left, in-union-right}
 use Rattle.job.specs.Job.{Action, Job}
 use Rattle.job.specs.Valid.{over}
 use Rattle.times.specs.Earliest.{Table, timeOf, actionOf, fitsAlone, fitTogether, Solves}
-use Rattle.times.proofs.Times.{By, by-ext, by-same, by-later-minute, by-timeOf, timeOf-by, timeOf-part}
+use Rattle.times.specs.Choices.{By, Alone, Reached, atStart, both, one, other, each, eachOther}
+use Rattle.times.proofs.Times.{by-ext, by-same, by-later-minute, by-timeOf, timeOf-by, timeOf-part}
 use Rattle.times.proofs.Singles.{in-single, only-in-single, in-with, in-with-cases}
-use Rattle.times.proofs.Choices.{Alone, Reached, atStart, both, one, other, each, eachOther}
 use Rattle.times.proofs.Choices.{reached-of-right-side, right-side-of-reached, reached-swap}
 
 -- of two actions within the pools together, each is by itself

@@ -14,25 +14,20 @@ use Rattle.lists.proofs.Below.{none-below}
 use Rattle.lists.proofs.Bools.{or-left, or-right}
 use Rattle.facts.specs.FactSet.{has, Subset}
 use Rattle.job.specs.Job.{Action, Job}
-use Rattle.job.proofs.Passed.{Passed}
+use Rattle.job.specs.Passed.{Passed}
 use Rattle.timeline.specs.Step.{Step, stepsIn}
 use Rattle.timeline.specs.Timeline.{hinders, held, end}
 use Rattle.timeline.specs.Accepted.{Accepted}
-use Rattle.timeline.proofs.Places.{Place, EachStep, place-wider}
+use Rattle.timeline.specs.Places.{Place}
+use Rattle.timeline.specs.Keeps.{PlanOf}
+use Rattle.timeline.proofs.Places.{place-wider}
 use Rattle.timeline.proofs.HeldFacts.{Added, held-comes-from}
 use Rattle.timeline.proofs.Clashes.{compatible-no-clash, no-clash-of-test}
 use Rattle.timeline.proofs.Shares.{useAt, share-when, use-of-share, inUse-place}
 use Rattle.timeline.proofs.AcceptedSteps.{accepted-steps}
-use Rattle.timeline.proofs.Keeps.{Keeps}
 use Rattle.timeline.proofs.Persist.{keeps-needs-hold}
-use Rattle.timeline.proofs.JobSteps.{OfJob, steps-in-bytes, steps-of-accepted, keeps-of-bytes}
+use Rattle.timeline.proofs.JobSteps.{steps-in-bytes, steps-of-accepted, keeps-of-bytes}
 use Rattle.times.specs.Earliest.{actionOf, fitsAlone, fitTogether}
-
--- a plan of the job's own steps that keeps the rules up to a horizon
-pub record PlanOf (J : Job) (horizon goal : ℕ) (P : List Step) : Type 0 where
-  pub keeps : Keeps J horizon goal P
-  pub own : EachStep (OfJob J) P
-  pub known : EachStep (λ x. x .number < length (J .actions)) P
 
 -- an accepted plan is one; with no goal, 0, a plan that keeps all rules but that of the goal
 pub plan-of-accepted : (J : Job) (goal : ℕ) (bytes : List ℕ) (horizon : ℕ) → Passed J → Accepted J goal bytes

@@ -14,7 +14,7 @@ use Rattle.timeline.proofs.Tests.{decided}
 use Rattle.times.specs.Time.{Time, at, unreachable, earlier, later, after, choice, demand, least, greatest}
 use Rattle.times.specs.Earliest.{Table, timeOf}
 use Rattle.times.specs.Numbers.{none, numberOf, timeIn}
-use Rattle.times.proofs.Times.{By}
+use Rattle.times.specs.Choices.{By}
 
 -- a time whose number stands for it: unreachable, or before the number for unreachable
 abbrev pub Small : Time → Type 0

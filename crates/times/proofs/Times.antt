@@ -12,11 +12,7 @@ use Rattle.job.specs.Job.{Job}
 use Rattle.timeline.proofs.Tests.{not-both, and-both}
 use Rattle.times.specs.Time.{Time, at, unreachable, earlier, later, after, choice, demand, least, greatest}
 use Rattle.times.specs.Earliest.{Table, timeOf}
-
--- the time is at most t
-abbrev pub By : Time → ℕ → Type 0
-By (at x) t = x ≤ t
-By unreachable t = ⊥
+use Rattle.times.specs.Choices.{By}
 
 -- two times that are at most the same minutes are equal
 pub by-ext : (a b : Time) → ((t : ℕ) → By a t → By b t) → ((t : ℕ) → By b t → By a t) → a ≡ b

@@ -6,7 +6,8 @@ use native.Mathlib.Nat.{le-refl}
 use native.Mathlib.Omega.{arith}
 use Rattle.job.specs.Job.{Job}
 use Rattle.times.specs.Earliest.{Table, timeOf, Solves}
-use Rattle.times.proofs.Times.{By, by-ext, by-same, by-timeOf, timeOf-by}
+use Rattle.times.specs.Choices.{By}
+use Rattle.times.proofs.Times.{by-ext, by-same, by-timeOf, timeOf-by}
 use Rattle.times.proofs.Monotone.{PositiveDurations, right-side-mono-before}
 
 pub one-solution : (J : Job) → PositiveDurations J → (T U : Table) → Solves J T → Solves J U

@@ -1,3 +1,5 @@
 pub mod Time
 pub mod Earliest
 pub mod Numbers
+pub mod Choices
+pub mod Entries

@@ -24,13 +24,6 @@ const START_AT: usize = Layout::CONTENTS + Layout::START_AT;
 
 const GOAL_AT: usize = Layout::CONTENTS + Layout::GOAL_AT;
 
-// An amount as a number of 64 bits. A function of its own, since a parameter is known to fit and a read element is not.
-fn wide(amount: u32) -> u64
-    ensures { λ r. ⌜ r ≡ amount ⌝ }
-{
-    amount as u64
-}
-
 // The contents of the job's file, whose actions take `size` bytes each.
 pub fn contents(out: &mut [u8], job: Job, size: usize)
     requires { ⌜ Fits (job .counts) × (size ≡ actionSize (job .counts .pools) (job .counts .stores))
@@ -74,13 +67,18 @@ pub fn head(out: &mut [u8], job: Job)
 }
 
 // The first n amounts, from place `at` on.
-pub fn amounts(out: &mut [u8], at: usize, xs: [u32; Job::POOLS], n: usize)
+pub fn amounts(out: &mut [u8], at: usize, xs: [u32; Job::AMOUNTS], n: usize)
     requires { ⌜ (n ≤ 4) × (at + 4 * n ≤ length (now out)) ⌝ }
     ensures { λ r. ⌜ now (out .exit) ≡ overwrite (now (out .entry)) at (amountBytes (firsts n 0 xs)) ⌝ }
 {
     let mut i = 0;
     while i < n {
-        write_number(out, at + Layout::AMOUNT * i, Layout::AMOUNT, wide(xs[i]));
+        write_number(
+            out,
+            at + Layout::AMOUNT * i,
+            Layout::AMOUNT,
+            job::wide(xs[i]),
+        );
         i += 1;
     }
 }

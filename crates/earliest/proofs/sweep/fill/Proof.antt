@@ -6,7 +6,7 @@ use mathlib.Core.Bool.{Bool, false, cond, true≢false}
 use lib.ListN.{length, length-replicate}
 use Rattle.job.specs.Job.{jobIn}
 use Rattle.times.specs.Numbers.{none}
-use Rattle.times.proofs.Falling.{sum}
+use Rattle.times.specs.Entries.{sum}
 use Rattle.earliest.specs.Lowering.{Lowerable}
 use Rattle.earliest.specs.Sweep.{ActionsDone, StartDone}
 use Rattle.earliest.proofs.LoweringLaws.{lowerable-on, sum-or-change-falls, settled-after}

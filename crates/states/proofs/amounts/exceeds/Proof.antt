@@ -18,14 +18,14 @@ abbrev μ-loop : tie.MeasureT-loop
 loop-holds : tie.Need-loop-holds Inv-loop μ-loop
 loop-holds c = (omega arith, refl)
 
-mul-amount : tie.Need-mul-amount Inv-loop μ-loop
-mul-amount c = omega arith
+mul-wide : tie.Need-mul-wide Inv-loop μ-loop
+mul-wide c = omega arith
 
-array-read-amount : tie.Need-array-read-amount Inv-loop μ-loop
-array-read-amount c = let h = c .before .before .before .pre in omega arith
+array-read-wide : tie.Need-array-read-wide Inv-loop μ-loop
+array-read-wide c = let h = c .before .before .before .pre in omega arith
 
-amount-requires : tie.Need-amount-requires Inv-loop μ-loop
-amount-requires c κs = tt
+wide-requires : tie.Need-wide-requires Inv-loop μ-loop
+wide-requires c κs = tt
 
 mul-if1 : tie.Need-mul-if1 Inv-loop μ-loop
 mul-if1 c = omega arith
@@ -35,37 +35,37 @@ array-read-if1 c =
     let c-pre = c .before .before .before .before .pre in
     let h = c-pre .2 .four in omega arith
 
-add-amount : tie.Need-add-amount Inv-loop μ-loop
-add-amount c =
+add-wide : tie.Need-add-wide Inv-loop μ-loop
+add-wide c =
     let c-pre = c .before .before .before .before .pre in
     let h = c-pre in omega arith
 
-mul-amount-2 : tie.Need-mul-amount-2 Inv-loop μ-loop
-mul-amount-2 c = omega arith
+mul-wide-2 : tie.Need-mul-wide-2 Inv-loop μ-loop
+mul-wide-2 c = omega arith
 
-shared-slice-read-amount : tie.Need-shared-slice-read-amount Inv-loop μ-loop
-shared-slice-read-amount c =
+shared-slice-read-wide : tie.Need-shared-slice-read-wide Inv-loop μ-loop
+shared-slice-read-wide c =
     let c-pre = c .before .before .before .before .before .pre in
     let h = c-pre in omega arith
 
-amount-requires-2 : tie.Need-amount-requires-2 Inv-loop μ-loop
-amount-requires-2 c κs = tt
+wide-requires-2 : tie.Need-wide-requires-2 Inv-loop μ-loop
+wide-requires-2 c κs = tt
 
 add-if1 : tie.Need-add-if1 Inv-loop μ-loop
 add-if1 c =
     let c-pre = c .before .before .before .before .before .before .pre in
     let c-loop = c .before .before .before .before .loop in
     let small = c-pre .2 .small (c-loop .k) (omega arith) in
-    let r = c .before .before .amount .ensures .1 in omega arith
+    let r = c .before .before .wide .ensures .1 in omega arith
 
 returns : tie.Need-returns Inv-loop μ-loop
 returns c =
     let c-args = c .before .before .before .before .before .before .before .args in
     let c-loop = c .before .before .before .before .before .loop in
-    let c-amount = c .before .before .before .amount in
+    let c-wide = c .before .before .before .wide in
     let at = c-args in
-    sym (exceeds-found (at .numbers .now) (at .at) (at .t3) (at .t4) (c-loop .k) _ _ (c-amount .ensures .0)
-    (c .before .amount2 .ensures .0) (at .count) (omega arith) (omega arith))
+    sym (exceeds-found (at .numbers .now) (at .at) (at .t3) (at .t4) (c-loop .k) _ _ (c-wide .ensures .0)
+    (c .before .wide2 .ensures .0) (at .count) (omega arith) (omega arith))
 
 add-k : tie.Need-add-k Inv-loop μ-loop
 add-k c = omega arith
@@ -77,11 +77,11 @@ loop-again : tie.Need-loop-again Inv-loop μ-loop
 loop-again c =
     let c-args = c .before .before .before .before .before .before .before .args in
     let c-loop = c .before .before .before .before .before .loop in
-    let c-amount = c .before .before .before .amount in
+    let c-wide = c .before .before .before .wide in
     let at = c-args in (
       omega arith,
-      exceeds-not-yet (at .numbers .now) (at .at) (at .t3) (at .t4) (c-loop .k) _ _ (c-amount .ensures .0)
-          (c .before .amount2 .ensures .0) (omega arith) (c-loop .inv .1),
+      exceeds-not-yet (at .numbers .now) (at .at) (at .t3) (at .t4) (c-loop .k) _ _ (c-wide .ensures .0)
+          (c .before .wide2 .ensures .0) (omega arith) (c-loop .inv .1),
     )
 
 returns-2 : tie.Need-returns-2 Inv-loop μ-loop
@@ -98,15 +98,15 @@ exceeds-spec =
     Inv-loop
     μ-loop
     loop-holds
-    mul-amount
-    array-read-amount
-    amount-requires
+    mul-wide
+    array-read-wide
+    wide-requires
     mul-if1
     array-read-if1
-    add-amount
-    mul-amount-2
-    shared-slice-read-amount
-    amount-requires-2
+    add-wide
+    mul-wide-2
+    shared-slice-read-wide
+    wide-requires-2
     add-if1
     returns
     add-k

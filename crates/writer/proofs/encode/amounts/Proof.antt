@@ -60,7 +60,7 @@ loop-again c =
     let f : ℕ → ℕ = λ k. getD (a .t3) k 0 in
     let k = c-write-number .kept .0 in (
       omega arith,
-      rw (c-write-number .ensures, c-wide .ensures, l .inv .1)
+      rw (c-write-number .ensures, c-wide .ensures .0, l .inv .1)
           (pieces-more (toBytes 4) f 4 (λ k. length-bytes 4 (f k)) (a .out .now) (a .at) (l .i) (a .at + 4 * l .i)
           (omega arith)
           (omega arith)),

@@ -15,8 +15,8 @@ use Rattle.search.proofs.regress.+attempt+choose+regress.Lts-attempt as
 use Rattle.leaf.proofs.nothing.Reads as nothing-reads
 use Rattle.states.proofs.moves.start_of.Reads as start-of-reads
 use Rattle.states.proofs.moves.take.Reads as take-reads
-use Rattle.states.proofs.tests.all_needed.Reads as all-needed-reads
-use Rattle.states.proofs.tests.all_reached.Reads as all-reached-reads
+use Rattle.pruning.proofs.tests.all_needed.Reads as all-needed-reads
+use Rattle.pruning.proofs.tests.all_reached.Reads as all-reached-reads
 use Rattle.search.proofs.regress.+attempt+choose+regress.Proof.Cycle.{attempt-at, choose-below}
 
 -- what the functions that `attempt` calls ask and promise

@@ -21,7 +21,7 @@ use Rattle.search.proofs.regress.+attempt+choose+regress.Lts-choose as 
 use Rattle.facts.proofs.difference.Reads as difference-reads
 use Rattle.facts.proofs.single.Reads as single-reads
 use Rattle.leaf.proofs.nothing.Reads as nothing-reads
-use Rattle.states.proofs.carried.in_time.Reads as in-time-reads
+use Rattle.pruning.proofs.carried.in_time.Reads as in-time-reads
 use Rattle.states.proofs.moves.back.Reads as back-reads
 use Rattle.states.proofs.rules.candidates.Reads as candidates-reads
 use Rattle.states.proofs.rules.pick.Reads as pick-reads

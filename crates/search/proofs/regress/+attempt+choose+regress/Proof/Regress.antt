@@ -14,7 +14,7 @@ use Rattle.search.proofs.regress.regress.Reads as regress
 use Rattle.search.proofs.regress.+attempt+choose+regress.Lts-regress as lts
 use Rattle.leaf.proofs.finish.Reads as finish-reads
 use Rattle.leaf.proofs.nothing.Reads as nothing-reads
-use Rattle.states.proofs.missing.suffices.Reads as suffices-reads
+use Rattle.pruning.proofs.missing.suffices.Reads as suffices-reads
 use Rattle.search.proofs.regress.+attempt+choose+regress.Proof.Cycle.{regress-at, choose-below}
 
 -- what the functions that `regress` calls ask and promise

@@ -1,0 +1,3 @@
+mod StateTests
+mod MissingLaws
+mod CarriedLaws
