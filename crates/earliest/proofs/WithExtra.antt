@@ -70,16 +70,20 @@ module _ (job : held.Job) (extra : Extra) where
             ∙ getD-tabulate (job .counts .actions) (actionAt job) i noAction l;
       }
 
-  pub is-extra-action : (i : ℕ) → job .counts .actions ≤ i → i < job .counts .actions + extra .count
+  -- the place of one behind is in their array
+  pub extra-place : AllFit job extra → (i : ℕ) → i < length (J .actions) → i - job .counts .actions < 32
+  extra-place fits i l = let all = action-count in let few = fits .count in omega arith
+
+  pub is-extra-action : (i : ℕ) → job .counts .actions ≤ i → i < length (J .actions)
       → IsAction J (job .facts) i (job .counts) (getD (extra .actions) (i - job .counts .actions) beyond)
-  is-extra-action i l k =
+  is-extra-action i l known =
       let all = action-count in
       let count = own-count in
       let behind : ℕ = i - job .counts .actions in
       let place : i ≡ length own + behind = omega arith in
       record {
         sameFacts = refl;
-        known = omega arith;
+        known = known;
         same = ap (λ (n : ℕ). getD (J .actions) n noAction) place
             ∙ getD-append-add own more behind noAction
             ∙ getD-tabulate (extra .count) (extraAt job extra) behind noAction (omega arith);

@@ -1,6 +1,7 @@
 // Actions behind a job's own: what is left of steps that run already.
 ghost use mathlib.Core.Path.{_≡_};
-ghost use Prim.Native.Nat.{_+_, _<_};
+ghost use Prim.Native.Nat.{_<_};
+ghost use lib.ListN.{length};
 ghost use Rattle.earliest.specs.Extra.{noExtra, withExtra, AllFit};
 ghost use Rattle.earliest.specs.Sweep.{IsAction};
 use job::Action;
@@ -26,9 +27,18 @@ impl Extra {
     }
 }
 
-// Action i of the job's own and those behind them.
+// How many actions the job has with those behind its own.
+pub fn count_of(job: Job, extra: Extra) -> usize
+    requires { ⌜ AllFit job extra ⌝ }
+    ensures { λ r. ⌜ r ≡ length (withExtra job extra .actions) ⌝ }
+{
+    let counts = job.counts;
+    counts.actions + extra.count
+}
+
+// Action i of these.
 pub fn action_of(job: Job, extra: Extra, i: usize) -> Action
-    requires { ⌜ AllFit job extra × (i < job .counts .actions + extra .count) ⌝ }
+    requires { ⌜ AllFit job extra × (i < length (withExtra job extra .actions)) ⌝ }
     ensures { λ r. ⌜ IsAction (withExtra job extra) (job .facts) i (job .counts) r ⌝ }
 {
     let counts = job.counts;

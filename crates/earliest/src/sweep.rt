@@ -1,6 +1,6 @@
 // Sweeps over all choices, until no entry falls.
 ghost use mathlib.Core.Path.{_≡_};
-ghost use Prim.Native.Nat.{_+_, _≤_, _<_};
+ghost use Prim.Native.Nat.{_≤_, _<_};
 ghost use lib.ListN.{length, replicate};
 ghost use Rattle.times.specs.Numbers.{none};
 ghost use Rattle.earliest.specs.Extra.{withExtra, AllFit};
@@ -9,6 +9,7 @@ use crate::allowed;
 use crate::choices;
 use crate::extra::Extra;
 use crate::extra::action_of;
+use crate::extra::count_of;
 use crate::set_time;
 use crate::start;
 use job::Action;
@@ -45,7 +46,7 @@ fn add_each_with(table: &mut [u32], job: Job, extra: Extra, i: usize, a: Action)
 {
     let counts = job.counts;
     let available = job.pools;
-    let count = counts.actions + extra.count;
+    let count = count_of(job, extra);
     let mut changed = false;
     let mut j = 0;
     while j < count {
@@ -62,7 +63,7 @@ fn add_each_with(table: &mut [u32], job: Job, extra: Extra, i: usize, a: Action)
 
 // All choices with action i.
 fn by_action(table: &mut [u32], job: Job, extra: Extra, i: usize) -> bool
-    requires { ⌜ (length (now table) ≡ 2080) × AllFit job extra × (i < job .counts .actions + extra .count) ⌝ }
+    requires { ⌜ (length (now table) ≡ 2080) × AllFit job extra × (i < length (withExtra job extra .actions)) ⌝ }
     ensures { λ r. ⌜ (length (now (table .exit)) ≡ 2080)
         × LowersAction (withExtra job extra) i (now (table .entry)) (now (table .exit)) r ⌝ }
 {
@@ -87,8 +88,7 @@ fn sweep(table: &mut [u32], job: Job, extra: Extra) -> bool
     ensures { λ r. ⌜ (length (now (table .exit)) ≡ 2080)
         × Sweeps (withExtra job extra) (now (table .entry)) (now (table .exit)) r ⌝ }
 {
-    let counts = job.counts;
-    let count = counts.actions + extra.count;
+    let count = count_of(job, extra);
     let mut changed = false;
     let mut i = 0;
     while i < count {

@@ -9,7 +9,7 @@ use Rattle.earliest.specs.Lowering.{Lowerable, Lowering}
 use Rattle.earliest.specs.Sweep.{IsAction, JoinedSettled}
 use Rattle.earliest.proofs.LoweringLaws.{lowerable-on}
 use Rattle.earliest.proofs.Loops.{Below, below-at-first, below-next}
-use Rattle.earliest.proofs.WithExtra.{action-count, is-own-action, is-extra-action, has-pools}
+use Rattle.earliest.proofs.WithExtra.{is-own-action, extra-place, is-extra-action, has-pools}
 use native.Mathlib.Omega.{arith}
 use Rattle.earliest.proofs.sweep.add_each_with.Statement.{statement}
 use Rattle.earliest.proofs.sweep.add_each_with.Tie as tie
@@ -23,10 +23,8 @@ Inv-loop table₀ i a job extra counts available count changed₀ j₀ table cha
 abbrev μ-loop : tie.MeasureT-loop
 μ-loop table₀ i a job extra counts available count changed₀ j₀ table changed j = count - j
 
-add-count : tie.Need-add-count Inv-loop μ-loop
-add-count c =
-    let c-pre = c .before .before .before .before .pre in
-    let fits = c-pre .1 in omega arith
+count-of-requires : tie.Need-count-of-requires Inv-loop μ-loop
+count-of-requires c κs = c .before .before .before .pre .1
 
 loop-holds : tie.Need-loop-holds Inv-loop μ-loop
 loop-holds c =
@@ -44,13 +42,24 @@ element-copy-out-b c =
     let fits = c-pre .1 .counts in omega arith
 
 mul-b-2 : tie.Need-mul-b-2 Inv-loop μ-loop
-mul-b-2 c = omega arith
+mul-b-2 c =
+    let at8 = c .before .before .before .before .before .before .before .before in
+    let c-args = at8 .before .args in
+    let c-pre = at8 .before .pre in
+    let c-count-of = c .before .before .before .before .before .count-of in
+    let c-loop = c .before .before .before .before .loop in
+    let count = c-count-of .ensures in
+    let place = extra-place (c-args .t2) (c-args .t3) (c-pre .1) (c-loop .j) (omega arith) in omega arith
 
 element-copy-out-b-2 : tie.Need-element-copy-out-b-2 Inv-loop μ-loop
 element-copy-out-b-2 c =
     let at8 = c .before .before .before .before .before .before .before .before in
+    let c-args = at8 .before .args in
     let c-pre = at8 .before .pre in
-    let fits = c-pre .1 .count in omega arith
+    let c-count-of = c .before .before .before .before .before .count-of in
+    let c-loop = c .before .before .before .before .loop in
+    let count = c-count-of .ensures in
+    extra-place (c-args .t2) (c-args .t3) (c-pre .1) (c-loop .j) (omega arith)
 
 add-pair-requires : tie.Need-add-pair-requires Inv-loop μ-loop
 add-pair-requires c κs =
@@ -70,8 +79,8 @@ loop-again c =
     let at8 = c .before .before .before .before .before .before .before .before in
     let c-args = at8 .before .before .before .before .args in
     let c-pre = at8 .before .before .before .before .pre in
+    let c-count-of = c .before .before .before .before .before .before .before .before .count-of in
     let c-loop = c .before .before .before .before .before .before .before .loop in
-    let c-loop-test = c .before .before .before .before .before .before .loop-test in
     let c-if1 = c .before .before .before .before .if1 in
     let job = c-args .t2 in
     let extra = c-args .t3 in
@@ -80,9 +89,10 @@ loop-again c =
     let j = c-loop .j in
     let lowers = c .before .before .add-pair .ensures in
     let xs = c-loop .table in
+    let count = c-count-of .ensures in
     let is : IsAction J (job .facts) j (job .counts) (c-if1 .b) =
     ⊎-elim (λ own. rw (own .2) (is-own-action job extra j (own .0 .taken)))
-    (λ behind. rw (behind .3) (is-extra-action job extra j (behind .0 .left) (c-loop-test .taken))) (c-if1 .came) in (
+    (λ behind. rw (behind .3) (is-extra-action job extra j (behind .0 .left) (omega arith))) (c-if1 .came) in (
       omega arith,
       lowers .0,
       λ able.
@@ -100,9 +110,8 @@ returns : tie.Need-returns Inv-loop μ-loop
 returns c =
     let c-args = c .before .before .before .before .before .before .args in
     let c-loop = c .before .loop in
-    let job = c-args .t2 in
-    let extra = c-args .t3 in
-    let all : c-loop .j ≡ length (withExtra job extra .actions) = rw (action-count job extra) (omega arith) in
+    let count = c .before .before .count-of .ensures in
+    let all : c-loop .j ≡ length (withExtra (c-args .t2) (c-args .t3) .actions) = omega arith in
     (c-loop .inv .1, λ able. rw all at (c-loop .inv .2 able))
 
 pub add-each-with-spec : {M : Type 1} → statement M
@@ -111,7 +120,7 @@ add-each-with-spec =
     (tie.spec
     Inv-loop
     μ-loop
-    add-count
+    count-of-requires
     loop-holds
     mul-b
     element-copy-out-b

@@ -8,7 +8,6 @@ use Rattle.earliest.specs.Lowering.{Lowerable, Lowering}
 use Rattle.earliest.specs.Sweep.{ActionDone}
 use Rattle.earliest.proofs.LoweringLaws.{lowerable-on}
 use Rattle.earliest.proofs.Loops.{Below, below-at-first, below-next}
-use Rattle.earliest.proofs.WithExtra.{action-count}
 use native.Mathlib.Omega.{arith}
 use Rattle.earliest.proofs.sweep.sweep.Statement.{statement}
 use Rattle.earliest.proofs.sweep.sweep.Tie as tie
@@ -22,22 +21,20 @@ Inv-loop table₀ job extra count changed₀ i₀ table changed i =
 abbrev μ-loop : tie.MeasureT-loop
 μ-loop table₀ job extra count changed₀ i₀ table changed i = count - i
 
-add-count : tie.Need-add-count Inv-loop μ-loop
-add-count c =
-    let c-pre = c .before .before .before .before .pre in
-    let fits = c-pre .1 in omega arith
+count-of-requires : tie.Need-count-of-requires Inv-loop μ-loop
+count-of-requires c κs = c .before .pre .1
 
 loop-holds : tie.Need-loop-holds Inv-loop μ-loop
 loop-holds c =
-    let c-args = c .before .before .before .before .args in
-    let c-pre = c .before .before .before .before .pre in
+    let c-args = c .before .before .args in
     let J = withExtra (c-args .job) (c-args .extra) in
-    (omega arith, c-pre .0, λ able. below-at-first J (ActionDone J) _ (able .kept))
+    (omega arith, c .before .before .pre .0, λ able. below-at-first J (ActionDone J) _ (able .kept))
 
 by-action-requires : tie.Need-by-action-requires Inv-loop μ-loop
 by-action-requires c κs =
-    let c-pre = c .before .before .before .before .before .before .before .pre in
-    (c .before .before .loop .inv .1, c-pre .1, c .before .loop-test .taken)
+    let c-pre = c .before .before .before .before .before .pre in
+    let c-count-of = c .before .before .before .count-of in
+    let count = c-count-of .ensures in (c .before .before .loop .inv .1, c-pre .1, omega arith)
 
 add-i : tie.Need-add-i Inv-loop μ-loop
 add-i c = omega arith
@@ -47,8 +44,7 @@ loop-less c = omega arith
 
 loop-again : tie.Need-loop-again Inv-loop μ-loop
 loop-again c =
-    let at8 = c .before .before .before .before .before .before .before .before in
-    let c-args = at8 .before .before .args in
+    let c-args = c .before .before .before .before .before .before .before .before .args in
     let c-loop = c .before .before .before .before .before .loop in
     let J = withExtra (c-args .job) (c-args .extra) in
     let lowers = c .before .before .by-action .ensures in
@@ -63,16 +59,15 @@ loop-again c =
 
 same-length : tie.Need-same-length Inv-loop μ-loop
 same-length c =
-    let c-pre = c .before .before .before .before .before .before .pre in
+    let c-pre = c .before .before .before .before .pre in
     c .before .loop .inv .1 ∙ sym (c-pre .0)
 
 returns : tie.Need-returns Inv-loop μ-loop
 returns c =
-    let c-args = c .before .before .before .before .before .before .args in
+    let c-args = c .before .before .before .before .args in
     let c-loop = c .before .loop in
-    let job = c-args .job in
-    let extra = c-args .extra in
-    let all : c-loop .i ≡ length (withExtra job extra .actions) = rw (action-count job extra) (omega arith) in
+    let count = c .before .before .count-of .ensures in
+    let all : c-loop .i ≡ length (withExtra (c-args .job) (c-args .extra) .actions) = omega arith in
     (c-loop .inv .1, λ able. rw all at (c-loop .inv .2 able))
 
 pub sweep-spec : {M : Type 1} → statement M
@@ -81,7 +76,7 @@ sweep-spec =
     (tie.spec
     Inv-loop
     μ-loop
-    add-count
+    count-of-requires
     loop-holds
     by-action-requires
     add-i
