@@ -8,6 +8,7 @@ mod Lowers
 mod Unreachable
 mod AllowedActions
 mod JobSweep
+pub mod WithExtra
 mod AnswerLaws
 mod LoweringLaws
 mod Loops

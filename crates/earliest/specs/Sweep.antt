@@ -9,9 +9,8 @@ use lib.ListN.{length, getD}
 use Rattle.lists.specs.Lists.{firsts, anyBelow}
 use Rattle.facts.specs.FactSet.{has, union, difference, single}
 use Rattle.job.specs.declared.Action as value
-use Rattle.job.specs.declared.Job as held
 use Rattle.job.specs.declared.Counts.{Counts}
-use Rattle.job.specs.Job.{Action, Job, actionIn, jobIn}
+use Rattle.job.specs.Job.{Action, Job, actionIn}
 use Rattle.job.specs.Valid.{over}
 use Rattle.timeline.specs.Timeline.{hinders}
 use Rattle.times.specs.Earliest.{actionOf, fitsAlone, fitTogether, Solves}
@@ -151,17 +150,15 @@ LowersJoined facts pools available i j a b xs ys changed =
 
 -- ---- the loops over a job
 
--- a valid job's table
-abbrev pub LowersEach : held.Job → ℕ → List ℕ → List ℕ → Bool → Type 0
-LowersEach job i xs ys changed =
-    Lowerable (jobIn job) xs → Lowering (jobIn job) (EachSettled (jobIn job) i) xs ys changed
+-- a job's table
+abbrev pub LowersEach : Job → ℕ → List ℕ → List ℕ → Bool → Type 0
+LowersEach J i xs ys changed = Lowerable J xs → Lowering J (EachSettled J i) xs ys changed
 
-abbrev pub LowersAction : held.Job → ℕ → List ℕ → List ℕ → Bool → Type 0
-LowersAction job i xs ys changed =
-    Lowerable (jobIn job) xs → Lowering (jobIn job) (ActionDone (jobIn job) i) xs ys changed
+abbrev pub LowersAction : Job → ℕ → List ℕ → List ℕ → Bool → Type 0
+LowersAction J i xs ys changed = Lowerable J xs → Lowering J (ActionDone J i) xs ys changed
 
-abbrev pub Sweeps : held.Job → List ℕ → List ℕ → Bool → Type 0
-Sweeps job xs ys changed = Lowerable (jobIn job) xs → Lowering (jobIn job) (ActionsDone (jobIn job)) xs ys changed
+abbrev pub Sweeps : Job → List ℕ → List ℕ → Bool → Type 0
+Sweeps J xs ys changed = Lowerable J xs → Lowering J (ActionsDone J) xs ys changed
 
 -- the table holds the job's earliest times
 pub record Filled (J : Job) (xs : List ℕ) : Type 0 where

@@ -4,6 +4,7 @@ mod start; // the times at the start
 mod lower; // entries lowered
 mod choices; // the choices for two facts
 mod allowed; // which actions may be chosen
+pub mod extra; // actions behind a job's own
 pub mod sweep; // all choices, until no entry falls
 
 ghost use mathlib.Core.Path.{_≡_};
@@ -12,6 +13,7 @@ ghost use lib.Dec.{ltb};
 ghost use Rattle.job.specs.Job.{jobIn};
 ghost use Rattle.times.specs.Time.{at, unreachable};
 ghost use Rattle.earliest.specs.Answer.{answerOf, Answers};
+use crate::extra::Extra;
 use job::Job;
 use job::refusal::Refusal;
 use job::refusal::Verdict;
@@ -47,6 +49,6 @@ pub fn earliest(job: Job, set: u64) -> EarliestTime
         return EarliestTime::Refused(Refusal::ForeignAskedFact);
     }
     let mut table = [set_time::NONE; Pair::COUNT];
-    sweep::fill(&mut table, job);
+    sweep::fill(&mut table, job, Extra::none());
     answer(set_time::set_time(&table, job.facts, set))
 }

@@ -2,11 +2,14 @@
 ghost use mathlib.Core.Path.{_≡_};
 ghost use Prim.Native.Nat.{_≤_, _<_};
 ghost use lib.ListN.{length, replicate};
-ghost use Rattle.job.specs.Job.{jobIn, Fits};
 ghost use Rattle.times.specs.Numbers.{none};
-ghost use Rattle.earliest.specs.Sweep.{LowersJoined, LowersEach, LowersAction, Sweeps, Filled};
+ghost use Rattle.earliest.specs.Extra.{withExtra, AllFit};
+ghost use Rattle.earliest.specs.Sweep.{LowersJoined, LowersEach, LowersAction, Sweeps, Filled, IsAction};
 use crate::allowed;
 use crate::choices;
+use crate::extra::Extra;
+use crate::extra::action_of;
+use crate::extra::count_of;
 use crate::set_time;
 use crate::start;
 use job::Action;
@@ -33,19 +36,25 @@ fn add_pair(
     choices::add_each(table, facts, a, b)
 }
 
-// Choice (iii) with action i as the longer one.
-fn add_each_with(table: &mut [u32], job: Job, i: usize) -> bool
-    requires { ⌜ (length (now table) ≡ 2080) × (job .facts ≤ 64) × Fits (job .counts) × (i < job .counts .actions) ⌝ }
+// Choice (iii) with action i, which is a, as the longer one. The other is picked here: a call of action_of would copy
+// the job for each.
+fn add_each_with(table: &mut [u32], job: Job, extra: Extra, i: usize, a: Action) -> bool
+    requires { ⌜ (length (now table) ≡ 2080) × AllFit job extra
+        × IsAction (withExtra job extra) (job .facts) i (job .counts) a ⌝ }
     ensures { λ r. ⌜ (length (now (table .exit)) ≡ 2080)
-        × LowersEach job i (now (table .entry)) (now (table .exit)) r ⌝ }
+        × LowersEach (withExtra job extra) i (now (table .entry)) (now (table .exit)) r ⌝ }
 {
     let counts = job.counts;
     let available = job.pools;
-    let a = job.actions[i];
+    let count = count_of(job, extra);
     let mut changed = false;
     let mut j = 0;
-    while j < counts.actions {
-        let b = job.actions[j];
+    while j < count {
+        let b = if j < counts.actions {
+            job.actions[j]
+        } else {
+            extra.actions[j - counts.actions]
+        };
         changed = add_pair(table, job.facts, counts.pools, available, i, j, a, b) | changed;
         j += 1;
     }
@@ -53,14 +62,14 @@ fn add_each_with(table: &mut [u32], job: Job, i: usize) -> bool
 }
 
 // All choices with action i.
-fn by_action(table: &mut [u32], job: Job, i: usize) -> bool
-    requires { ⌜ (length (now table) ≡ 2080) × (job .facts ≤ 64) × Fits (job .counts) × (i < job .counts .actions) ⌝ }
+fn by_action(table: &mut [u32], job: Job, extra: Extra, i: usize) -> bool
+    requires { ⌜ (length (now table) ≡ 2080) × AllFit job extra × (i < length (withExtra job extra .actions)) ⌝ }
     ensures { λ r. ⌜ (length (now (table .exit)) ≡ 2080)
-        × LowersAction job i (now (table .entry)) (now (table .exit)) r ⌝ }
+        × LowersAction (withExtra job extra) i (now (table .entry)) (now (table .exit)) r ⌝ }
 {
     let counts = job.counts;
     let available = job.pools;
-    let action = job.actions[i];
+    let action = action_of(job, extra, i);
     if !allowed::fits_alone(counts.pools, available, action) {
         return false;
     }
@@ -69,34 +78,34 @@ fn by_action(table: &mut [u32], job: Job, i: usize) -> bool
     }
     let both = choices::add_both(table, job.facts, action);
     let one = choices::add_one(table, job.facts, action);
-    let each = add_each_with(table, job, i);
+    let each = add_each_with(table, job, extra, i, action);
     each | (one | both)
 }
 
 // One sweep over all choices. Whether an entry fell.
-fn sweep(table: &mut [u32], job: Job) -> bool
-    requires { ⌜ (length (now table) ≡ 2080) × (job .facts ≤ 64) × Fits (job .counts) ⌝ }
+fn sweep(table: &mut [u32], job: Job, extra: Extra) -> bool
+    requires { ⌜ (length (now table) ≡ 2080) × AllFit job extra ⌝ }
     ensures { λ r. ⌜ (length (now (table .exit)) ≡ 2080)
-        × Sweeps job (now (table .entry)) (now (table .exit)) r ⌝ }
+        × Sweeps (withExtra job extra) (now (table .entry)) (now (table .exit)) r ⌝ }
 {
-    let counts = job.counts;
+    let count = count_of(job, extra);
     let mut changed = false;
     let mut i = 0;
-    while i < counts.actions {
-        changed = by_action(table, job, i) | changed;
+    while i < count {
+        changed = by_action(table, job, extra, i) | changed;
         i += 1;
     }
     changed
 }
 
-// Turns a table in which all is unreachable into the job's earliest times.
-pub fn fill(table: &mut [u32], job: Job)
-    requires { ⌜ (now table ≡ replicate 2080 none) × (job .facts ≤ 64) × Fits (job .counts) ⌝ }
-    ensures { λ r. ⌜ Filled (jobIn job) (now (table .exit)) ⌝ }
+// Turns a table in which all is unreachable into the earliest times of the job with the actions behind its own.
+pub fn fill(table: &mut [u32], job: Job, extra: Extra)
+    requires { ⌜ (now table ≡ replicate 2080 none) × AllFit job extra ⌝ }
+    ensures { λ r. ⌜ Filled (withExtra job extra) (now (table .exit)) ⌝ }
 {
     start::begin(table, job.facts, job.start);
     let mut changed = true;
     while changed {
-        changed = sweep(table, job);
+        changed = sweep(table, job, extra);
     }
 }

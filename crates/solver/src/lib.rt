@@ -9,6 +9,7 @@ ghost use Rattle.job.specs.declared.refusal.Verdict.the-variants.{Pass};
 ghost use Rattle.tables.specs.Tables.{Known};
 ghost use Rattle.leaf.specs.Order.{inOrder};
 ghost use Rattle.solver.specs.Task.{begunDay, wholeDay, dayOf, TaskFits, GivenBy, Solved};
+use earliest::extra::Extra;
 use earliest::set_time;
 use job::Job;
 use job::resumed;
@@ -83,7 +84,7 @@ pub fn solve(job: Job, task: Task) -> Answer
     let mut numbers = [0u32; NumberTable::ENTRIES];
     tables::fill::fill(&mut sets, &mut numbers, day);
     let mut times = [set_time::NONE; Pair::COUNT];
-    earliest::sweep::fill(&mut times, day);
+    earliest::sweep::fill(&mut times, day, Extra::none());
     let frame = Frame::of(day, task.goal, task.first, kept, given(&sets, kept));
     cliques::fill(&mut sets, &mut numbers, &times, frame, day.start);
     let mut file = [0u8; Layout::FILE];

@@ -3,8 +3,8 @@
 use mathlib.Core.Path.{sym, _∙_, refl}
 use Rattle.job.specs.Job.{jobIn}
 use Rattle.job.proofs.Passed.{passed}
-use Rattle.job.proofs.Rows.{fits-of-pass}
 use Rattle.earliest.proofs.AnswerLaws.{answers-refused-job, answers-foreign, answers-time}
+use Rattle.earliest.proofs.WithExtra.{fits-with-no-extra, filled-with-no-extra}
 use borrow.Author.Needs.{needs}
 use Rattle.earliest.proofs.earliest.Statement.{statement}
 use Rattle.earliest.proofs.earliest.Tie as tie
@@ -37,13 +37,16 @@ returns-2 c =
 slice-aggregate-fill : tie.Need-slice-aggregate-fill
 slice-aggregate-fill c = search needs
 
+none-requires : tie.Need-none-requires
+none-requires c κs = search needs
+
 fill-requires : tie.Need-fill-requires
 fill-requires c κs =
-    let c-args = c .before .before .before .before .before .before .args in
-    let c-validate = c .before .before .before .before .before .validate in
-    let c-enum-told = c .before .before .before .enum-told in
+    let c-args = c .before .before .before .before .before .before .before .args in
+    let c-validate = c .before .before .before .before .before .before .validate in
+    let c-enum-told = c .before .before .before .before .enum-told in
     let pass = sym (c-validate .ensures) ∙ c-enum-told .given .1 in
-    (refl, passed (jobIn (c-args .job)) pass .facts, fits-of-pass (c-args .job) pass)
+    (refl, fits-with-no-extra (c-args .job) _ (c .none .ensures) pass)
 
 slice-aggregate-set-time : tie.Need-slice-aggregate-set-time
 slice-aggregate-set-time c = search needs
@@ -51,9 +54,9 @@ slice-aggregate-set-time c = search needs
 set-time-requires : tie.Need-set-time-requires
 set-time-requires c κs =
     let at8 = c .before .before .before .before .before .before .before .before in
-    let c-args = at8 .before .args in
-    let c-validate = c .before .before .before .before .before .before .before .before .validate in
-    let c-enum-told = c .before .before .before .before .before .before .enum-told in
+    let c-args = at8 .before .before .args in
+    let c-validate = at8 .before .validate in
+    let c-enum-told = c .before .before .before .before .before .before .before .enum-told in
     let pass = sym (c-validate .ensures) ∙ c-enum-told .given .1 in
     (c .before .before .fill .ensures .able .kept .whole, passed (jobIn (c-args .job)) pass .facts)
 
@@ -63,15 +66,17 @@ answer-requires c κs = search needs
 returns-3 : tie.Need-returns-3
 returns-3 c =
     let at8 = c .before .before .before .before .before .before .before .before in
-    let c-args = at8 .before .before .before .args in
-    let c-validate = at8 .before .before .validate in
-    let c-enum-told = c .before .before .before .before .before .before .before .before .enum-told in
-    let c-foreign = c .before .before .before .before .before .before .before .foreign in
-    let c-if1 = c .before .before .before .before .before .before .if1 in
+    let c-args = at8 .before .before .before .before .args in
+    let c-validate = at8 .before .before .before .validate in
+    let c-enum-told = at8 .before .enum-told in
+    let c-foreign = c .before .before .before .before .before .before .before .before .foreign in
+    let c-if1 = c .before .before .before .before .before .before .before .if1 in
+    let c-none = c .before .before .before .before .before .none in
     let c-fill = c .before .before .before .before .fill in
     let pass = sym (c-validate .ensures) ∙ c-enum-told .given .1 in
     answers-time (jobIn (c-args .job)) (c-args .set) pass (sym (c-foreign .ensures .0) ∙ c-if1 .left)
-    _ (c-fill .ensures) _ (c .before .set-time .ensures) _ (c .answer .ensures)
+    _ (filled-with-no-extra (c-args .job) _ _ (c-none .ensures) (c-fill .ensures)) _ (c .before .set-time .ensures) _
+    (c .answer .ensures)
 
 pub earliest-spec : {M : Type 1} → statement M
 earliest-spec =
@@ -84,6 +89,7 @@ earliest-spec =
     foreign-requires
     returns-2
     slice-aggregate-fill
+    none-requires
     fill-requires
     slice-aggregate-set-time
     set-time-requires

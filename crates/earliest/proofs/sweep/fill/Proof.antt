@@ -4,9 +4,9 @@ use Prim.Native.Nat.{ℕ, _+_}
 use mathlib.Core.Path.{_≡_, sym, ap, _∙_}
 use mathlib.Core.Bool.{Bool, false, cond, true≢false}
 use lib.ListN.{length, length-replicate}
-use Rattle.job.specs.Job.{jobIn}
 use Rattle.times.specs.Numbers.{none}
 use Rattle.times.specs.Entries.{sum}
+use Rattle.earliest.specs.Extra.{withExtra}
 use Rattle.earliest.specs.Lowering.{Lowerable}
 use Rattle.earliest.specs.Sweep.{ActionsDone, StartDone}
 use Rattle.earliest.proofs.LoweringLaws.{lowerable-on, sum-or-change-falls, settled-after}
@@ -17,28 +17,29 @@ use Rattle.earliest.proofs.sweep.fill.Statement.{statement}
 use Rattle.earliest.proofs.sweep.fill.Tie as tie
 
 abbrev Inv-loop : tie.InvT-loop
-Inv-loop table₀ job changed₀ table changed =
-    (length table ≡ 2080) × Lowerable (jobIn job) table × StartDone (jobIn job) table
-    × (changed ≡ false → ActionsDone (jobIn job) table)
+Inv-loop table₀ job extra changed₀ table changed =
+    (length table ≡ 2080) × Lowerable (withExtra job extra) table × StartDone (withExtra job extra) table
+    × (changed ≡ false → ActionsDone (withExtra job extra) table)
 
 abbrev μ-loop : tie.MeasureT-loop
-μ-loop table₀ job changed₀ table changed = sum table + cond changed 1 0
+μ-loop table₀ job extra changed₀ table changed = sum table + cond changed 1 0
 
 begin-requires : tie.Need-begin-requires Inv-loop μ-loop
-begin-requires c κs = let h = c .before .before .pre in (h .0, h .1)
+begin-requires c κs = (c .before .before .pre .0, c .before .before .pre .1 .facts)
 
 loop-holds : tie.Need-loop-holds Inv-loop μ-loop
 loop-holds c =
-    let at-start = c .before .before .before .before .before in
-    let J = jobIn (at-start .args .job) in
-    let few = at-start .pre .1 in
+    let c-args = c .before .before .before .before .before .args in
+    let c-pre = c .before .before .before .before .before .pre in
+    let J = withExtra (c-args .job) (c-args .extra) in
+    let few = c-pre .1 .facts in
     let times = c .before .before .begin .ensures in
     (times .whole, start-lowerable J few _ times, start-done J few _ times, λ never. absurd (true≢false never))
 
 sweep-requires : tie.Need-sweep-requires Inv-loop μ-loop
 sweep-requires c κs =
-    let h = c .before .before .before .before .before .before .before .before .pre in
-    (c .before .before .loop .inv .0, h .1, h .2)
+    let c-pre = c .before .before .before .before .before .before .before .before .pre in
+    (c .before .before .loop .inv .0, c-pre .1)
 
 loop-less : tie.Need-loop-less Inv-loop μ-loop
 loop-less c =
@@ -61,8 +62,8 @@ loop-again c =
 
 same-length : tie.Need-same-length Inv-loop μ-loop
 same-length c =
-    let h = c .before .before .before .before .before .before .before .pre in
-    c .before .loop .inv .0 ∙ sym (ap length (h .0) ∙ length-replicate 2080 none)
+    let c-pre = c .before .before .before .before .before .before .before .pre in
+    c .before .loop .inv .0 ∙ sym (ap length (c-pre .0) ∙ length-replicate 2080 none)
 
 returns : tie.Need-returns Inv-loop μ-loop
 returns c =

@@ -3,8 +3,7 @@
 use Prim.Native.Nat.{_-_, _≤_}
 use mathlib.Core.Path.{_≡_, sym, _∙_}
 use lib.ListN.{length}
-use Rattle.lists.proofs.Tabulate.{length-tabulate}
-use Rattle.job.specs.Job.{jobIn, actionAt}
+use Rattle.earliest.specs.Extra.{withExtra}
 use Rattle.earliest.specs.Lowering.{Lowerable, Lowering}
 use Rattle.earliest.specs.Sweep.{ActionDone}
 use Rattle.earliest.proofs.LoweringLaws.{lowerable-on}
@@ -14,23 +13,28 @@ use Rattle.earliest.proofs.sweep.sweep.Statement.{statement}
 use Rattle.earliest.proofs.sweep.sweep.Tie as tie
 
 abbrev Inv-loop : tie.InvT-loop
-Inv-loop table₀ job counts changed₀ i₀ table changed i =
-    (i ≤ counts .actions) × (length table ≡ 2080)
-    × (Lowerable (jobIn job) table₀ → Lowering (jobIn job) (Below (ActionDone (jobIn job)) i) table₀ table changed)
+Inv-loop table₀ job extra count changed₀ i₀ table changed i =
+    (i ≤ count) × (length table ≡ 2080)
+    × (Lowerable (withExtra job extra) table₀
+    → Lowering (withExtra job extra) (Below (ActionDone (withExtra job extra)) i) table₀ table changed)
 
 abbrev μ-loop : tie.MeasureT-loop
-μ-loop table₀ job counts changed₀ i₀ table changed i = counts .actions - i
+μ-loop table₀ job extra count changed₀ i₀ table changed i = count - i
+
+count-of-requires : tie.Need-count-of-requires Inv-loop μ-loop
+count-of-requires c κs = c .before .pre .1
 
 loop-holds : tie.Need-loop-holds Inv-loop μ-loop
 loop-holds c =
-    let job = c .before .before .args .job in
-    (omega arith, c .before .before .pre .0, λ able. below-at-first (jobIn job) (ActionDone (jobIn job)) _ (able .kept))
+    let c-args = c .before .before .args in
+    let J = withExtra (c-args .job) (c-args .extra) in
+    (omega arith, c .before .before .pre .0, λ able. below-at-first J (ActionDone J) _ (able .kept))
 
 by-action-requires : tie.Need-by-action-requires Inv-loop μ-loop
 by-action-requires c κs =
-    let c-pre = c .before .before .before .before .before .before .pre in
-    let c-loop = c .before .before .before .loop in
-    let h = c-pre in let inv = c-loop .inv in (inv .1, h .1, h .2, c .before .if1 .taken)
+    let c-pre = c .before .before .before .before .before .pre in
+    let c-count-of = c .before .before .before .count-of in
+    let count = c-count-of .ensures in (c .before .before .loop .inv .1, c-pre .1, omega arith)
 
 add-i : tie.Need-add-i Inv-loop μ-loop
 add-i c = omega arith
@@ -40,35 +44,31 @@ loop-less c = omega arith
 
 loop-again : tie.Need-loop-again Inv-loop μ-loop
 loop-again c =
-    let at8 = c .before .before .before .before .before .before .before .before in
-    let c-args = at8 .before .args in
-    let c-loop = c .before .before .before .before .before .before .loop in
-    let inv = c-loop .inv in
-    let job = c-args .job in
+    let c-args = c .before .before .before .before .before .before .before .before .args in
+    let c-loop = c .before .before .before .before .before .loop in
+    let J = withExtra (c-args .job) (c-args .extra) in
     let lowers = c .before .before .by-action .ensures in
     let xs = c-loop .table in (
       omega arith,
       lowers .0,
       λ able.
-          let before = inv .2 able in
-          below-next (jobIn job) (ActionDone (jobIn job)) (c-loop .i) _ xs _ _ _ before
-          (lowers .1 (lowerable-on (jobIn job) _ _ xs _ able before)),
+          let before = c-loop .inv .2 able in
+          below-next J (ActionDone J) (c-loop .i) _ xs _ _ _ before
+          (lowers .1 (lowerable-on J _ _ xs _ able before)),
     )
 
 same-length : tie.Need-same-length Inv-loop μ-loop
 same-length c =
-    let c-pre = c .before .before .before .before .before .pre in
-    let h = c-pre in let inv = c .before .before .loop .inv in inv .1 ∙ sym (h .0)
+    let c-pre = c .before .before .before .before .pre in
+    c .before .loop .inv .1 ∙ sym (c-pre .0)
 
 returns : tie.Need-returns Inv-loop μ-loop
 returns c =
-    let c-args = c .before .before .before .before .before .args in
-    let c-loop = c .before .before .loop in
-    let inv = c-loop .inv in
-    let job = c-args .job in
-    let all : c-loop .i ≡ length (jobIn job .actions) =
-    rw (length-tabulate (job .counts .actions) (actionAt job)) (omega arith) in
-    (inv .1, λ able. rw all at (inv .2 able))
+    let c-args = c .before .before .before .before .args in
+    let c-loop = c .before .loop in
+    let count = c .before .before .count-of .ensures in
+    let all : c-loop .i ≡ length (withExtra (c-args .job) (c-args .extra) .actions) = omega arith in
+    (c-loop .inv .1, λ able. rw all at (c-loop .inv .2 able))
 
 pub sweep-spec : {M : Type 1} → statement M
 sweep-spec =
@@ -76,6 +76,7 @@ sweep-spec =
     (tie.spec
     Inv-loop
     μ-loop
+    count-of-requires
     loop-holds
     by-action-requires
     add-i

@@ -1,0 +1,14 @@
+-- `Extra::none` meets its contract.
+-- Assumes nothing.
+use borrow.Author.Needs.{needs}
+use Rattle.earliest.proofs.extra.Extra.none.Statement.{statement}
+use Rattle.earliest.proofs.extra.Extra.none.Tie as tie
+
+unused-requires : tie.Need-unused-requires
+unused-requires c κs = search needs
+
+returns : tie.Need-returns
+returns c = rw (c .unused .ensures)
+
+pub none-spec : {M : Type 1} → statement M
+none-spec = tie.close (tie.spec unused-requires returns)
