@@ -4,6 +4,7 @@ mod start; // the times at the start
 mod lower; // entries lowered
 mod choices; // the choices for two facts
 mod allowed; // which actions may be chosen
+pub mod extra; // actions behind a job's own
 pub mod sweep; // all choices, until no entry falls
 
 ghost use mathlib.Core.Path.{_≡_};
