@@ -12,7 +12,8 @@ use Rattle.begun.proofs.held_at.Statement.{statement}
 use Rattle.begun.proofs.held_at.Tie as tie
 
 abbrev Inv-loop : tie.InvT-loop
-Inv-loop plan start minute last clock₀ clock = (clock .minute ≤ last) × (clock .facts ≡ held start (stepsOf plan) (clock .minute))
+Inv-loop plan start minute last clock₀ clock =
+    (clock .minute ≤ last) × (clock .facts ≡ held start (stepsOf plan) (clock .minute))
 
 abbrev μ-loop : tie.MeasureT-loop
 μ-loop plan start minute last clock₀ clock = last - clock .minute

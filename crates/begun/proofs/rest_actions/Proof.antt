@@ -62,11 +62,12 @@ loop-again c =
     let plan = c-args .t1 in
     let more = c .with-rest .ensures in
     let count = more .count in
-    let inv = c-loop .inv in (
+    let inv = c-loop .inv in
+    let last : List Action = restsOf (c-args .minute) (stepAt plan (c-loop .i) ∷ []) in (
       omega arith,
       omega arith,
       more .room,
-      more .actions (plan .counts) ∙ ap (λ (done : List Action). done ++ restsOf (c-args .minute) (stepAt plan (c-loop .i) ∷ [])) (inv .3)
+      more .actions (plan .counts) ∙ ap (λ (done : List Action). done ++ last) (inv .3)
           ∙ sym (rests-more (c-args .minute) (c-loop .i) (stepAt plan)),
     )
 

@@ -1,4 +1,4 @@
--- `with_rest` meets its contract.
+-- `with_rest` meets its contract: a stopped step leaves nothing, a running one its rest.
 -- Assumes nothing.
 use Rattle.begun.proofs.RestActions.{rest-when-stopped, rest-when-running}
 use native.Mathlib.Omega.{arith}
@@ -8,7 +8,8 @@ use Rattle.begun.proofs.with_rest.Tie as tie
 
 returns : tie.Need-returns
 returns c =
-    rest-when-stopped (c .before .before .args .extra) (c .before .before .args .step) (c .before .before .args .minute) (c .before .before .pre .1) (omega arith)
+    let at = c .before .before .args in
+    rest-when-stopped (at .extra) (at .step) (at .minute) (c .before .before .pre .1) (omega arith)
 
 rest-action-requires : tie.Need-rest-action-requires
 rest-action-requires c κs = search needs
