@@ -6,3 +6,6 @@ pub mod RulesInRest
 pub mod RestPlan
 pub mod Bounds
 pub mod Durations
+pub mod RestTimes
+mod RestActions
+pub mod KeptSteps

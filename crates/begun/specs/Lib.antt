@@ -1,1 +1,3 @@
 pub mod RestOfDay
+pub mod Extras
+pub mod Kept

@@ -1,7 +1,7 @@
 pub mod Loops
-mod PlanBytes
+pub mod PlanBytes
 mod ShareLaws
-mod WatchLaws
+pub mod WatchLaws
 mod ChainLaws
 pub mod StepLaws
 mod PlanLaws

@@ -46,7 +46,7 @@ pub fn known_actions(job: Job, bytes: &[u8]) -> Verdict
 }
 
 // One step: action `number` from minute `start` on.
-fn step(job: Job, number: u8, start: u32) -> Step
+pub fn step(job: Job, number: u8, start: u32) -> Step
     requires { ⌜ Fits (job .counts) × (number < job .counts .actions) × (start < 65536) ⌝ }
     ensures { λ r. ⌜ stepOfValue (job .counts) r ≡ stepOf (jobIn job) number start ⌝ }
 {

@@ -1,9 +1,9 @@
 // The checker: a job and a plan's bytes in; the plan's end, number of steps and peaks, or the first refusal of 3 to 11,
 // 26 and 12 to 20, out.
-mod decode; // the steps in a plan's bytes
+pub mod decode; // the steps in a plan's bytes
 mod rules; // one check for each rule
 mod pools; // how much of each pool is in use
-mod clock; // the facts that hold, minute by minute
+pub mod clock; // the facts that hold, minute by minute
 mod watch; // the clock over a whole plan
 
 ghost use mathlib.Core.Path.{_≡_};
