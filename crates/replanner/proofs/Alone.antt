@@ -14,12 +14,14 @@ use Rattle.job.specs.declared.refusal.Verdict.the-variants.{Pass}
 use Rattle.job.specs.Job.{Job}
 use Rattle.job.specs.Refusal.{first}
 use Rattle.job.specs.Valid.{jobRows}
-use Rattle.job.proofs.Passed.{Passed, passed}
+use Rattle.job.specs.Passed.{Passed}
+use Rattle.job.proofs.Passed.{passed}
 use Rattle.timeline.specs.Step.{Step, stepsIn, planBytes}
 use Rattle.timeline.specs.Accepted.{Accepted, stepRows}
 use Rattle.timeline.specs.Day.{toldOf, tells}
 use Rattle.timeline.proofs.Tests.{decided, not-both}
-use Rattle.timeline.proofs.Places.{EachStep, each-step}
+use Rattle.timeline.specs.Places.{EachStep}
+use Rattle.timeline.proofs.Places.{each-step}
 use Rattle.timeline.proofs.AcceptedSteps.{accepted-steps}
 use Rattle.timeline.proofs.JobSteps.{lasting-of-known, steps-in-bytes, steps-of-accepted}
 use Rattle.timeline.proofs.PlanBytes.{accepted-bytes-of-steps, bytes-of-steps}

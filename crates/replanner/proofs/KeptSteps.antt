@@ -23,9 +23,11 @@ use Rattle.timeline.specs.declared.Plan.{Plan}
 use Rattle.timeline.specs.Step.{Step, noAction, stepOf, stepsIn, before, strictlyRising}
 use Rattle.timeline.specs.Value.{stepAt, stepsOf}
 use Rattle.timeline.specs.Accepted.{Accepted}
-use Rattle.timeline.proofs.Places.{here, EachStep, each-rest, each-cons}
+use Rattle.timeline.specs.Places.{here, EachStep}
+use Rattle.timeline.proofs.Places.{each-rest, each-cons}
 use Rattle.timeline.proofs.AcceptedSteps.{AcceptedSteps, accepted-steps}
-use Rattle.timeline.proofs.JobSteps.{OfJob, lasting-of-known, steps-in-bytes, steps-of-accepted}
+use Rattle.timeline.specs.Keeps.{OfJob}
+use Rattle.timeline.proofs.JobSteps.{lasting-of-known, steps-in-bytes, steps-of-accepted}
 use Rattle.timeline.proofs.Tests.{and-both, le-or-lt}
 use Rattle.makespan.specs.Makespan.{begun}
 use Rattle.makespan.proofs.Search.{rising-begun, begun-are-begun}
@@ -34,7 +36,7 @@ use Rattle.tables.specs.declared.Steps.{Steps}
 use Rattle.tables.specs.Tables.{Known, noSteps, pushed}
 use Rattle.leaf.specs.Order.{placed, inOrder}
 use Rattle.replanner.specs.Replan.{keptSteps}
-use Rattle.replanner.specs.Kept.{IsStepOf, Keeps, KeptFit}
+use Rattle.replanner.specs.Kept.{Keeps, KeptFit}
 
 -- ---- one more step of the plan
 begun-snoc : (minute : ℕ) (P : List Step) (x : Step)

@@ -8,7 +8,8 @@ use lib.ListN.{length, getD}
 use Rattle.lists.specs.Lists.{tabulate}
 use Rattle.job.specs.Job.{Job}
 use Rattle.timeline.specs.declared.Plan.{Plan}
-use Rattle.timeline.specs.Step.{Step, stepOf, stepsIn, strictlyRising, planBytes}
+use Rattle.timeline.specs.Step.{Step, stepsIn, strictlyRising, planBytes}
+use Rattle.timeline.specs.Keeps.{OfJob}
 use Rattle.timeline.specs.Value.{stepAt}
 use Rattle.makespan.specs.Makespan.{begun, passes}
 use Rattle.tables.specs.Tables.{Known}
@@ -18,17 +19,13 @@ use Rattle.leaf.specs.Answer.{Found, bytesIn}
 use Rattle.leaf.specs.Order.{inOrder}
 use Rattle.solver.specs.Task.{Solved}
 
--- x is a step of an action of the job, by its number
-abbrev pub IsStepOf : Job → Step → Type 0
-IsStepOf J x = x ≡ stepOf J (x .number) (x .start)
-
 -- of the first n steps of the plan those that start before the minute, in their order; which job it is a plan of is
 -- left to the reader
 pub record Keeps (plan : Plan) (n minute : ℕ) (kept : Steps) : Type 0 where
   pub few : kept .count ≤ n
   pub numbers : length (kept .numbers) ≡ 32
   pub starts : length (kept .starts) ≡ 32
-  pub same : (J : Job) → ((k : ℕ) → k < n → IsStepOf J (stepAt plan k))
+  pub same : (J : Job) → ((k : ℕ) → k < n → OfJob J (stepAt plan k))
       → inOrder J kept ≡ begun minute (tabulate n (stepAt plan))
 
 -- the kept steps are the job's, start before the minute and stand in rising order
