@@ -27,9 +27,10 @@ none-requires c κs = search needs
 
 loop-holds : tie.Need-loop-holds Inv-loop μ-loop
 loop-holds c =
-    let c-args = c .before .before .args in
+    let c-args = c .before .args in
     let plan = c-args .t1 in
-    (omega arith, rests-of-none _ (c .none .ensures) (c-args .minute) (plan .counts) (stepAt plan))
+    let none = rests-of-none _ (c .none .ensures) (c-args .minute) (plan .counts) (stepAt plan) in
+    (omega arith, none .0, none .1, none .2)
 
 mul-step : tie.Need-mul-step Inv-loop μ-loop
 mul-step c = omega arith
