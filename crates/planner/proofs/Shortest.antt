@@ -35,7 +35,8 @@ pub refused-not-passed : (answer : Day) (why : Refusal) → answer ≡ noDay why
 refused-not-passed answer why told h = let z : _≡_ {A = ℕ} 0 1 = cc in omega arith
 
 -- an answer that tells of a plan refuses nothing, and a refusal is its own
-told-not-refused : (answer : Day) (told : Told) (why : Refusal) → answer ≡ tells told → answer .verdict ≡ Refused why → ⊥
+told-not-refused : (answer : Day) (told : Told) (why : Refusal) → answer ≡ tells told → answer .verdict ≡ Refused why
+    → ⊥
 told-not-refused answer told why same h = let z : _≡_ {A = ℕ} 0 1 = cc in omega arith
 
 pub refusals-same : (answer : Day) (w v : Refusal) → answer ≡ noDay w → answer .verdict ≡ Refused v → w ≡ v

@@ -103,5 +103,6 @@ module _ (J : Job) (goal minute : ℕ) (K : List Step) (within : Passed J) (kept
       record {
         plan = (planBytes K, accepted-alone .0, counts-alone, ap end (accepted-alone .1));
         least = λ bytes accepted counts.
-            subst (λ (B : List Step). end B ≤ end (stepsIn J bytes)) counts (begun-ends-no-later minute (stepsIn J bytes));
+            subst (λ (B : List Step). end B ≤ end (stepsIn J bytes)) counts
+            (begun-ends-no-later minute (stepsIn J bytes));
       }
