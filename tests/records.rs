@@ -318,6 +318,27 @@ fn priced(record: &mut Record, text: &str) -> Result<(), Fault> {
     Ok(())
 }
 
+// A question about a begun day: the current plan, the minute, which goes before it, the goal set and the slice.
+fn replanned(record: &mut Record, text: &str) -> Result<(), Fault> {
+    let mut minute = None;
+    let mut rest = vec![];
+    record.room = 96;
+    for part in text.split(';').map(str::trim) {
+        if let Some(at) = part.strip_prefix("at ") {
+            minute = Some(count(at, 0)?);
+        } else if let Some(length) = part.strip_prefix("slice of ") {
+            record.room = count(length, 0)?;
+        } else {
+            rest.push(part);
+        }
+    }
+    plan(record, &rest.join(";"))?;
+    let (Some(minute), b'g') = (minute, record.call) else { return fault("no minute or no goal set", text) };
+    record.input = [bytes_of(minute, 4), record.input.clone()].concat();
+    record.call = b'm';
+    Ok(())
+}
+
 // A row of a table: its call and title, the job, what else the call is given, and the answer.
 fn row(line: &str, names: &Names) -> Result<(Record, String), Fault> {
     let columns: Vec<&str> = line.split('|').map(str::trim).collect();
@@ -325,7 +346,7 @@ fn row(line: &str, names: &Names) -> Result<(Record, String), Fault> {
     let mut record = Record { title: title.trim().to_string(), ..Record::default() };
     let (job, input, answer) = match (call, columns[1..].to_vec().as_slice()) {
         ("read", [job, answer]) => (*job, "", *answer),
-        ("rewrite" | "bytes" | "check" | "price" | "earliest" | "plan", [job, input, answer]) => {
+        ("rewrite" | "bytes" | "check" | "price" | "earliest" | "plan" | "replan", [job, input, answer]) => {
             (*job, *input, *answer)
         }
         _ => return fault("not a row of a table", line),
@@ -335,6 +356,7 @@ fn row(line: &str, names: &Names) -> Result<(Record, String), Fault> {
     match call {
         "check" => plan(&mut record, input)?,
         "price" => priced(&mut record, input)?,
+        "replan" => replanned(&mut record, input)?,
         "earliest" => record.set = set(input, 0)?,
         "rewrite" | "plan" => record.room = count(input.strip_prefix("slice of ").unwrap_or(input), 0)?,
         "bytes" => {

@@ -4,6 +4,7 @@ use crate::lent;
 use crate::lent::front;
 use crate::peaks;
 use crate::rates;
+use crate::replans;
 use earliest::EarliestTime;
 use job::Job;
 use job::refusal::Refusal;
@@ -47,7 +48,7 @@ fn refused_file(why: Refusal, job: Job) {
     choose(same_everywhere(job, Job::zero()), b"", b", job not zero");
 }
 
-// The answer to a record whose file holds this job: of the reader, the writer and the planner.
+// The answer to a record whose file holds this job: of the reader, the writer, the planner and the replanner.
 fn answer_for(job: Job, record: Record, file: &[u8], plan: &[u8]) {
     let call = record.call;
     match call {
@@ -55,6 +56,7 @@ fn answer_for(job: Job, record: Record, file: &[u8], plan: &[u8]) {
         b'w' => print_rewritten(job, file, record.room),
         b'b' => print_bytes(job, record.set as usize, record.room),
         b'p' => print_plan(job, record.room),
+        b'm' => replans::print(job, record, plan),
         _ => answer_asked(job, call, record.set, plan),
     }
 }
@@ -161,9 +163,9 @@ fn print_time(time: EarliestTime) {
     }
 }
 
-// Whether the checker accepts the plan, with the end and the peaks that are told of it.
-fn accepted(job: Job, plan: &[u8], told: Day) -> bool {
-    let day = checker::check(job, plan);
+// Whether the checker accepts the plan for the goal, with the end and the peaks that are told of it.
+fn accepted(job: Job, goal: u64, plan: &[u8], told: Day) -> bool {
+    let day = checker::check_for(job, goal, plan);
     let verdict = day.verdict;
     match verdict {
         Verdict::Pass => (day.end == told.end) & peaks::same(day, told),
@@ -171,34 +173,44 @@ fn accepted(job: Job, plan: &[u8], told: Day) -> bool {
     }
 }
 
-// Whether the day's steps stand at the front of the slice and are accepted as told, and the rest is as before.
-fn handed_out(job: Job, slice: &[u8], day: Day) -> bool {
+// The day's steps at the front of the slice.
+pub fn steps_in(slice: &[u8], day: Day) -> &[u8] {
     if Plan::STEPS < day.steps {
-        return false;
+        return slice;
     }
-    let size = day.steps * Plan::STEP;
-    accepted(job, front(slice, size), day) & lent::kept(slice, size)
+    front(slice, day.steps * Plan::STEP)
+}
+
+// Whether the day's steps stand at the front of the slice and are accepted as told, and the rest is as before.
+fn handed_out(job: Job, goal: u64, slice: &[u8], day: Day) -> bool {
+    let plan = steps_in(slice, day);
+    accepted(job, goal, plan, day) & lent::kept(slice, plan.len())
 }
 
 // The planner is lent a slice of so many bytes.
 fn print_plan(job: Job, length: usize) {
     let mut slice = [lent::FILL; lent::ROOM];
     let day = lent::plan(&mut slice, length, job);
+    print_day(job, job.goal, &slice, day);
+}
+
+// What is handed out for the goal, or the refusal, after which the slice is as before.
+pub fn print_day(job: Job, goal: u64, slice: &[u8], day: Day) {
     let verdict = day.verdict;
     match verdict {
-        Verdict::Pass => print_day(job, &slice, day),
+        Verdict::Pass => print_handed_out(job, goal, slice, day),
         Verdict::Refused(why) => {
             print_no_day(why, day);
-            choose(lent::kept(&slice, 0), b"", b", wrong bytes");
+            choose(lent::kept(slice, 0), b"", b", wrong bytes");
         }
     }
 }
 
-fn print_day(job: Job, slice: &[u8], day: Day) {
+fn print_handed_out(job: Job, goal: u64, slice: &[u8], day: Day) {
     print_end(day.end);
     text(b", ");
     number(day.steps as u64);
     text(b" steps");
     peaks::print(job, day);
-    choose(handed_out(job, slice, day), b"", b", wrong bytes");
+    choose(handed_out(job, goal, slice, day), b"", b", wrong bytes");
 }

@@ -1,4 +1,4 @@
-// A slice that is lent to the writer or the planner, and what it holds afterwards.
+// A slice that is lent to the writer, the planner or the replanner, and what it holds afterwards.
 use job::Job;
 use jobfile::Written;
 use timeline::Day;
@@ -54,5 +54,21 @@ pub fn plan(slice: &mut [u8], length: usize, job: Job) -> Day {
         planner::plan(job, &mut slice[0..length])
     } else {
         planner::plan(job, slice)
+    }
+}
+
+// The replanner with the first bytes of a slice, so many.
+pub fn replan(
+    slice: &mut [u8],
+    length: usize,
+    job: Job,
+    current: &[u8],
+    minute: u32,
+    goal: u64,
+) -> Day {
+    if length <= slice.len() {
+        replanner::replan(job, current, minute, goal, &mut slice[0..length])
+    } else {
+        replanner::replan(job, current, minute, goal, slice)
     }
 }

@@ -4,6 +4,7 @@ mod calls; // the calls and their answers
 mod lent; // a lent slice, and what it holds afterwards
 mod peaks; // the peaks of a day
 mod rates; // the rates of a price
+mod replans; // begun days, planned anew
 
 use lent::front;
 use lent::rest;
@@ -14,7 +15,8 @@ const HEAD: usize = 16;
 const BODY: usize = 4_800;
 
 // The head of a record: the letter of its call, the lengths of its title, its file and its body, and the numbers that
-// the call is given. The body is the title, the file and, behind them, a plan, before which the rates of a price stand.
+// the call is given. The body is the title, the file and, behind them, a plan, before which the rates of a price or the
+// minute of a begun day stand.
 pub struct Record {
     pub call: u8,
     pub title: usize,
