@@ -76,12 +76,15 @@ fn main() {
     let Number::Value(minute) = number_in(
         3,
         LAST_MINUTE,
-        b"MINUTE is not a decimal number of 32 bits\n",
+        b"replan: MINUTE is not a decimal number of 32 bits\n",
     ) else {
         return;
     };
-    let Number::Value(goal) = number_in(4, u64::MAX, b"GOAL is not a decimal number of 64 bits\n")
-    else {
+    let Number::Value(goal) = number_in(
+        4,
+        u64::MAX,
+        b"replan: GOAL is not a decimal number of 64 bits\n",
+    ) else {
         return;
     };
     let minute = minute as u32;
