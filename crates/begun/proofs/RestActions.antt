@@ -5,20 +5,20 @@ use mathlib.Core.Path.{_≡_, sym, ap, ap₂, _∙_, subst}
 use mathlib.Core.Bool.{Bool, cond}
 use mathlib.Core.List.{List, [], _∷_, _++_, map, map-append, append-nil}
 use native.Mathlib.Omega.{arith}
-use lib.ListN.{length, set, length-set}
+use lib.ListN.{length, set, length-set, length-replicate}
 use lib.Seq.{getD-set-same, getD-set-other}
 use borrow.Author.Tests.{lt-ltb, le-ltb}
 use Rattle.lists.specs.Lists.{tabulate}
 use Rattle.lists.proofs.Tabulate.{length-tabulate, getD-tabulate, tabulate-snoc, tabulate-same, each-at}
 use Rattle.job.specs.declared.Action as value
 use Rattle.job.specs.declared.Counts.{Counts}
-use Rattle.job.specs.Job.{Action, beyond, actionIn}
+use Rattle.job.specs.Job.{Action, beyond, actionIn, unusedAction}
 use Rattle.timeline.specs.declared.Step as valued
 use Rattle.timeline.specs.Step.{Step}
 use Rattle.timeline.specs.Value.{stepOfValue}
 use Rattle.earliest.specs.declared.extra.Extra.{Extra}
+use Rattle.earliest.specs.Extra.{noExtra, extraAt, extraActions}
 use Rattle.begun.specs.RestOfDay.{running, restAction}
-use Rattle.begun.specs.Extras.{extraAt, extraActions}
 use Rattle.begun.specs.Kept.{HasBegun, Begun, WithRest}
 use Rattle.begun.proofs.Running.{running-append}
 
@@ -40,6 +40,17 @@ rests-more M i at =
     ap (restsOf M) (tabulate-snoc i at)
     ∙ ap (map (restAction M)) (running-append M (tabulate i at) (at i ∷ []))
     ∙ map-append (restAction M) (running M (tabulate i at)) (running M (at i ∷ []))
+
+-- of no steps nothing is left
+pub rests-of-none : (extra : Extra) → extra ≡ noExtra → (M : ℕ) (n : Counts) (at : ℕ → Step)
+    → (extra .count ≤ 0) × (length (extra .actions) ≡ 32) × (extraActions n extra ≡ restsOf M (tabulate 0 at))
+unfolding tabulate
+rests-of-none extra none M n at =
+    let count : extra .count ≡ 0 = ap (λ (e : Extra). e .count) none in (
+      omega arith,
+      ap (λ (e : Extra). length (e .actions)) none ∙ length-replicate 32 unusedAction,
+      ap (extraActions n) none,
+    )
 
 -- the actions with one more
 abbrev pushed : Extra → value.Action → Extra

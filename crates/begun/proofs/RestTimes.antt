@@ -11,9 +11,9 @@ use Rattle.timeline.specs.Step.{Step}
 use Rattle.timeline.specs.Timeline.{held}
 use Rattle.times.specs.Earliest.{rightSide}
 use Rattle.earliest.specs.declared.extra.Extra.{Extra}
+use Rattle.earliest.specs.Extra.{extraActions, withExtra}
 use Rattle.earliest.specs.Sweep.{Filled}
 use Rattle.begun.specs.RestOfDay.{running, restAction, restOfJob}
-use Rattle.begun.specs.Extras.{extraActions, withExtra}
 
 -- the job with another deadline, goal and stores
 abbrev otherwise : Job → ℕ → ℕ → List ℕ → Job

@@ -10,8 +10,8 @@ use Rattle.timeline.specs.declared.Step as value
 use Rattle.timeline.specs.Step.{Step}
 use Rattle.timeline.specs.Value.{stepOfValue}
 use Rattle.earliest.specs.declared.extra.Extra.{Extra}
+use Rattle.earliest.specs.Extra.{extraActions}
 use Rattle.begun.specs.RestOfDay.{running, restAction}
-use Rattle.begun.specs.Extras.{extraActions}
 
 -- a step has begun before minute M, and stops its duration after its start
 abbrev pub HasBegun : ℕ → ℕ → ℕ → ℕ → Type 0

@@ -1,3 +1,2 @@
 pub mod RestOfDay
-pub mod Extras
 pub mod Kept

@@ -18,7 +18,7 @@ use Rattle.job.proofs.Passed.{passed}
 use Rattle.job.proofs.Rows.{fits-of-pass}
 use Rattle.timeline.specs.Step.{noAction}
 use Rattle.earliest.specs.declared.extra.Extra.{Extra}
-use Rattle.earliest.specs.Extra.{noExtra, extraAt, withActions, withExtra, AllFit}
+use Rattle.earliest.specs.Extra.{noExtra, extraAt, extraActions, withActions, withExtra, AllFit}
 use Rattle.earliest.specs.Sweep.{HasPools, IsAction, Filled}
 
 -- ---- no action behind the job's own
@@ -50,13 +50,13 @@ module _ (job : held.Job) (extra : Extra) where
   own = jobIn job .actions
 
   abbrev more : List Action
-  more = tabulate (extra .count) (extraAt job extra)
+  more = extraActions (job .counts) extra
 
   own-count : length own ≡ job .counts .actions
   own-count = length-tabulate (job .counts .actions) (actionAt job)
 
   pub action-count : length (J .actions) ≡ job .counts .actions + extra .count
-  action-count = length-append own more ∙ ap₂ _+_ own-count (length-tabulate (extra .count) (extraAt job extra))
+  action-count = length-append own more ∙ ap₂ _+_ own-count (length-tabulate (extra .count) (extraAt (job .counts) extra))
 
   pub is-own-action : (i : ℕ) → i < job .counts .actions
       → IsAction J (job .facts) i (job .counts) (getD (job .actions) i beyond)
@@ -86,7 +86,7 @@ module _ (job : held.Job) (extra : Extra) where
         known = known;
         same = ap (λ (n : ℕ). getD (J .actions) n noAction) place
             ∙ getD-append-add own more behind noAction
-            ∙ getD-tabulate (extra .count) (extraAt job extra) behind noAction (omega arith);
+            ∙ getD-tabulate (extra .count) (extraAt (job .counts) extra) behind noAction (omega arith);
       }
 
   pub has-pools : HasPools J (job .counts) (job .counts .pools) (job .pools)

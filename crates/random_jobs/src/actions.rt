@@ -6,7 +6,7 @@ use job::Action;
 use job::Job;
 
 // What it uses of each pool, or of each store: 0 to 3.
-fn uses(seed: u64) -> [u32; Job::POOLS] {
+fn uses(seed: u64) -> [u32; Job::AMOUNTS] {
     let first = draw::number(seed, 0, 4) as u32;
     let second = draw::number(seed, 1, 4) as u32;
     let third = draw::number(seed, 2, 4) as u32;

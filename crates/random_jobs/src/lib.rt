@@ -64,7 +64,7 @@ fn counts_of(seed: u64, kind: Kind) -> Counts {
 }
 
 // Three availabilities of 1 to `most`, and one of 0.
-fn availabilities(seed: u64, most: u8) -> [u32; Job::POOLS]
+fn availabilities(seed: u64, most: u8) -> [u32; Job::AMOUNTS]
     requires { ⌜ 0 < most ⌝ }
 {
     let first = 1 + draw::number(seed, 0, most) as u32;

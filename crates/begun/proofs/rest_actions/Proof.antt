@@ -1,14 +1,14 @@
 -- `rest_actions` meets its contract: what is left of the first i steps is there.
 -- Assumes nothing.
 use Prim.Native.Nat.{_+_, _-_, _≤_}
-use mathlib.Core.Path.{_≡_, refl, sym, ap, _∙_}
+use mathlib.Core.Path.{_≡_, sym, ap, _∙_}
 use mathlib.Core.List.{List, [], _∷_, _++_}
 use lib.ListN.{length}
 use Rattle.lists.specs.Lists.{tabulate}
 use Rattle.job.specs.Job.{Action}
 use Rattle.timeline.specs.Value.{stepAt}
-use Rattle.begun.specs.Extras.{extraActions}
-use Rattle.begun.proofs.RestActions.{begun-at, restsOf, rests-more}
+use Rattle.earliest.specs.Extra.{extraActions}
+use Rattle.begun.proofs.RestActions.{begun-at, restsOf, rests-more, rests-of-none}
 use native.Mathlib.Omega.{arith}
 use borrow.Author.Needs.{needs}
 use Rattle.begun.proofs.rest_actions.Statement.{statement}
@@ -26,11 +26,11 @@ none-requires : tie.Need-none-requires Inv-loop μ-loop
 none-requires c κs = search needs
 
 loop-holds : tie.Need-loop-holds Inv-loop μ-loop
-unfolding tabulate
 loop-holds c =
-    let none = c .none .ensures in
-    let empty = none .0 in
-    (omega arith, omega arith, none .1, rw empty refl)
+    let c-args = c .before .args in
+    let plan = c-args .t1 in
+    let none = rests-of-none _ (c .none .ensures) (c-args .minute) (plan .counts) (stepAt plan) in
+    (omega arith, none .0, none .1, none .2)
 
 mul-step : tie.Need-mul-step Inv-loop μ-loop
 mul-step c = omega arith
