@@ -112,8 +112,8 @@ module _ (file : List ℕ) (reading : Reading) (same : reading ≡ readFile file
         → PlanAnswers file slice peaks r after peaksThen
     plan-accepted slice after = day-accepted (λ J answer. Plans J slice answer after) slice after
 
-    pub replan-accepted : (plan : List ℕ) (minute goal : ℕ) (slice after peaks peaksThen : List ℕ) (answer : Day) (r : ℕ)
-        → Replans (jobIn (reading .job)) plan minute goal slice answer after → r ≡ plannedNumber answer
+    pub replan-accepted : (plan : List ℕ) (minute goal : ℕ) (slice after peaks peaksThen : List ℕ) (answer : Day)
+        (r : ℕ) → Replans (jobIn (reading .job)) plan minute goal slice answer after → r ≡ plannedNumber answer
         → peaksThen ≡ peaksBy (answer .verdict) (answer .peaks) peaks
         → ReplanAnswers file plan minute goal slice peaks r after peaksThen
     replan-accepted plan minute goal slice after =

@@ -54,8 +54,9 @@ returns-2 c =
     let c-read = at8 .before .before .read in
     let c-enum-told = at8 .enum-told in
     let c-replan = c .before .before .before .before .before .before .replan in
-    replan-accepted _ _ (c-read .ensures .answers) (c-enum-told .given .1) _ _ _ (c-args .out .now) _ (c-args .peaks .now) _
-    (c-replan .result) _ (c-replan .ensures) (c .day-told .ensures) (c .before .before .put-peaks .ensures)
+    replan-accepted _ _ (c-read .ensures .answers) (c-enum-told .given .1) _ _ _ (c-args .out .now) _
+    (c-args .peaks .now) _ (c-replan .result) _ (c-replan .ensures) (c .day-told .ensures)
+    (c .before .before .put-peaks .ensures)
 
 pub ruhkevois-replan-spec : {M : Type 1} → statement M
 ruhkevois-replan-spec =
