@@ -310,6 +310,14 @@ fn counts(of: &[u64]) -> String {
     seen.map(|n| format!("{n} x {}", of[n])).collect::<Vec<String>>().join(", ")
 }
 
+/// A run of so many cases, the gate's, sees every refusal of the table.
+const ALL_SEEN: u64 = 100_000;
+
+/// The numbers of the table that were never told.
+fn never_told(refusals: &[u64]) -> Vec<usize> {
+    (1..=26).chain([35]).filter(|&number| refusals[number] == 0).collect()
+}
+
 fn main() {
     let argument = |i: usize, other: u64| std::env::args().nth(i).map_or(other, |x| x.parse().expect("a number"));
     let (count, first) = (argument(1, 100_000), argument(2, 1));
@@ -331,5 +339,7 @@ fn main() {
     println!("plans written, by steps: {}", counts(&seen.planned));
     println!("days, by pools in use: {}; all of a pool x {}", counts(&seen.pools), seen.full);
     seen.replans.print();
+    let never = never_told(&seen.refusals);
+    assert!(count < ALL_SEEN || never.is_empty(), "in {count} cases none was refused by {never:?}");
     println!("{count} cases from seed {first}: {} answers, all the same", seen.refusals.iter().sum::<u64>());
 }
