@@ -5,7 +5,6 @@ pub mod HeldInRest
 pub mod RulesInRest
 pub mod RestPlan
 pub mod Bounds
-pub mod Durations
 pub mod RestTimes
 mod RestActions
 pub mod KeptSteps

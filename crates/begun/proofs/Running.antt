@@ -4,14 +4,11 @@ use Prim.Native.Nat.{ℕ, _<_}
 use mathlib.Core.Path.{_≡_, refl, ap, _∙_}
 use mathlib.Core.Bool.{Bool, true, false, cond}
 use mathlib.Core.List.{List, [], _∷_, _++_}
-use native.Mathlib.Omega.{arith}
-use borrow.Author.Tests.{ltb-true, lt-ltb}
-use Rattle.lists.specs.Lists.{Each}
+use borrow.Author.Tests.{lt-ltb}
 use Rattle.facts.specs.FactSet.{union}
 use Rattle.facts.proofs.SetLaws.{union-zero-left}
 use Rattle.timeline.specs.Step.{Step, unionOf}
-use Rattle.timeline.specs.Places.{Place, here, there, Member, EachStep}
-use Rattle.timeline.proofs.Places.{each-rest}
+use Rattle.timeline.specs.Places.{Place, here, there, Member}
 use Rattle.begun.specs.RestOfDay.{runsIn, running}
 
 pub member-of-running : (M : ℕ) {x : Step} {Q K : List Step} → Place x Q K → M < x .stop → Member x (running M K)
@@ -21,16 +18,6 @@ member-of-running M {x} (there {y} {P} i) l = go (runsIn M y) (member-of-running
     go : (b : Bool) → Member x (running M P) → Member x (cond b (y ∷ running M P) (running M P))
     go true m = (_, there (m .1))
     go false m = m
-
-pub each-of-running : (F : Step → Type 0) (M : ℕ) (K : List Step) → EachStep (λ x. M < x .stop → F x) K
-    → Each F (running M K)
-each-of-running F M [] h = tt
-each-of-running F M (x ∷ K) h =
-    go (runsIn M x) refl (each-of-running F M K (each-rest (λ y. M < y .stop → F y) x K h))
-  where
-    go : (b : Bool) → runsIn M x ≡ b → Each F (running M K) → Each F (cond b (x ∷ running M K) (running M K))
-    go true e others = (h x K here (omega (arith, ltb-true)), others)
-    go false e others = others
 
 pub running-append : (M : ℕ) (P K : List Step) → running M (P ++ K) ≡ running M P ++ running M K
 running-append M [] K = refl

@@ -3,10 +3,12 @@
 -- Assumes nothing.
 use Prim.Native.Nat.{ℕ, _≤_}
 use mathlib.Core.Path.{_≡_, refl, sym, ap, _∙_, subst}
-use mathlib.Core.Bool.{true, false}
+use mathlib.Core.Bool.{Bool, true, false, _||_}
 use mathlib.Core.List.{List, [], _∷_}
 use native.Mathlib.Omega.{arith}
 use lib.Dec.{eqb}
+use borrow.Author.Tests.{eq-eqb}
+use Rattle.lists.proofs.Bools.{or-left, or-right}
 use Rattle.job.specs.declared.refusal.Refusal.{Refusal}
 use Rattle.job.specs.declared.refusal.Refusal.the-variants.{NoPlan}
 use Rattle.job.specs.declared.refusal.Verdict.{Verdict}
@@ -29,33 +31,36 @@ use Rattle.makespan.proofs.LeastEnds.{every-plan-counts, nothing-begun}
 use Rattle.planner.specs.Plan.{planRefusals, HandsOut, PlansFor, PlansBy, Plans}
 
 -- an answer that refuses tells of no plan
-refused-not-passed : (answer : Day) (why : Refusal) → answer ≡ noDay why → answer .verdict ≡ Pass → ⊥
+pub refused-not-passed : (answer : Day) (why : Refusal) → answer ≡ noDay why → answer .verdict ≡ Pass → ⊥
 refused-not-passed answer why told h = let z : _≡_ {A = ℕ} 0 1 = cc in omega arith
 
 -- an answer that tells of a plan refuses nothing, and a refusal is its own
-told-not-refused : (answer : Day) (told : Told) (why : Refusal) → answer ≡ tells told → answer .verdict ≡ Refused why → ⊥
+told-not-refused : (answer : Day) (told : Told) (why : Refusal) → answer ≡ tells told → answer .verdict ≡ Refused why
+    → ⊥
 told-not-refused answer told why same h = let z : _≡_ {A = ℕ} 0 1 = cc in omega arith
 
-refusals-same : (answer : Day) (w v : Refusal) → answer ≡ noDay w → answer .verdict ≡ Refused v → w ≡ v
+pub refusals-same : (answer : Day) (w v : Refusal) → answer ≡ noDay w → answer .verdict ≡ Refused v → w ≡ v
 refusals-same answer w v told h = cc
 
--- ---- no row of the tests before the search has the number 22
-abbrev Not22 : List Row → Type 0
-Not22 [] = Unit {0}
-Not22 (why when test ∷ rows) = (eqb (number why) 22 ≡ false) × Not22 rows
+-- ---- the tests before the search never tell that there is no plan
+-- some row of the table has the number
+abbrev pub hasNumber : ℕ → List Row → Bool
+hasNumber n [] = false
+hasNumber n (why when test ∷ rows) = eqb (number why) n || hasNumber n rows
 
-not-22 : (rows : List Row) → Not22 rows → first rows ≡ Refused NoPlan → ⊥
+-- a refusal whose number no row has is never the first
+pub never-first : (why : Refusal) (rows : List Row) → hasNumber (number why) rows ≡ false → first rows ≡ Refused why → ⊥
 unfolding first
-not-22 [] others h = let z : _≡_ {A = ℕ} 0 1 = cc h in omega arith
-not-22 (why when true ∷ rows) others h =
-    let same : why ≡ NoPlan = cc h in
-    not-both refl (subst (λ (w : Refusal). eqb (number w) 22 ≡ false) same (others .0))
-not-22 (why when false ∷ rows) others h = not-22 rows (others .1) h
+never-first why [] others h = let z : _≡_ {A = ℕ} 0 1 = cc h in omega arith
+never-first why (w when true ∷ rows) others h =
+    let same : w ≡ why = cc h in
+    not-both (eq-eqb (number w) (number why) (ap number same)) (or-left (eqb (number w) (number why)) _ others)
+never-first why (w when false ∷ rows) others h =
+    never-first why rows (or-right (eqb (number w) (number why)) _ others) h
 
-tests-before-22 : (J : Job) (slice : List ℕ) → Not22 (planRefusals J slice)
+tests-before-22 : (J : Job) (slice : List ℕ) → hasNumber 22 (planRefusals J slice) ≡ false
 unfolding jobRows limitRows actionRows
-tests-before-22 J slice =
-    (refl, (refl, (refl, (refl, (refl, (refl, (refl, (refl, (refl, (refl, (refl, tt)))))))))))
+tests-before-22 J slice = refl
 
 -- "For jobs that still pass, the shortest day is what it was": of every job within its limits, whether or not 26 holds
 -- of it, a makespan that is a minute is the least end of its accepted plans
@@ -129,7 +134,7 @@ module _ (J : Job) (slice : List ℕ) (answer : Day) (after : List ℕ) where
       none-by-makespan J (J .goal) 0 [] slice answer after (passed J (pass-of-append (jobRows J) _ q .0)) NoPlan
       (makespan J (J .goal)) refl p refused bytes accepted (every-plan-counts J bytes)
   none-by-verdict (Refused why) q p refused bytes accepted =
-      not-22 (planRefusals J slice) (tests-before-22 J slice)
+      never-first NoPlan (planRefusals J slice) (tests-before-22 J slice)
       (q ∙ ap Refused (refusals-same answer why NoPlan (p .answers) refused))
 
   -- 22 means that no plan is accepted

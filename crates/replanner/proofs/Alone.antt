@@ -1,11 +1,11 @@
--- The kept steps alone: whether they are accepted for the goal is what the checker says of them, and from the deadline on
--- no other plan counts.
+-- The kept steps alone: whether they are accepted for the goal is what the checker says of them, and from the deadline
+-- on no other plan counts.
 -- Assumes nothing.
 use Prim.Native.Nat.{ℕ, _≤_, _<_}
 use mathlib.Core.Path.{_≡_, refl, sym, ap, _∙_, subst}
-use mathlib.Core.Bool.{Bool, true, false}
+use mathlib.Core.Bool.{true, false}
 use mathlib.Core.Logic.{⊎-elim}
-use mathlib.Core.List.{List, [], append-nil}
+use mathlib.Core.List.{List}
 use native.Mathlib.Omega.{arith}
 use lib.ListN.{length}
 use Rattle.lists.proofs.Tabulate.{length-tabulate, each-tabulate}
@@ -17,25 +17,25 @@ use Rattle.job.specs.Valid.{jobRows}
 use Rattle.job.specs.Passed.{Passed}
 use Rattle.job.proofs.Passed.{passed}
 use Rattle.timeline.specs.Step.{Step, stepsIn, planBytes}
-use Rattle.timeline.specs.Accepted.{Accepted, stepRows}
+use Rattle.timeline.specs.Accepted.{Accepted}
 use Rattle.timeline.specs.Day.{toldOf, tells}
 use Rattle.timeline.proofs.Tests.{decided, not-both}
 use Rattle.timeline.specs.Places.{EachStep}
 use Rattle.timeline.proofs.Places.{each-step}
 use Rattle.timeline.proofs.AcceptedSteps.{accepted-steps}
 use Rattle.timeline.proofs.JobSteps.{lasting-of-known, steps-in-bytes, steps-of-accepted}
-use Rattle.timeline.proofs.PlanBytes.{accepted-bytes-of-steps, bytes-of-steps}
-use Rattle.makespan.specs.Makespan.{begun, isPass, passes, Counts}
-use Rattle.makespan.proofs.Search.{pass-of-test, begun-of-append}
+use Rattle.timeline.proofs.PlanBytes.{bytes-of-steps}
+use Rattle.makespan.specs.Makespan.{isPass, passes, Counts}
 use Rattle.makespan.proofs.LeastEnds.{BegunSteps, ends-by-deadline, makespan-when-none-accepted}
 use Rattle.tables.specs.declared.Steps.{Steps}
 use Rattle.leaf.specs.declared.Answer.{Answer}
-use Rattle.leaf.specs.Answer.{noAnswer, Answers, bytesIn}
+use Rattle.leaf.specs.Answer.{noAnswer, Answers}
 use Rattle.leaf.specs.Order.{placed, inOrder}
 use Rattle.leaf.proofs.InOrder.{in-order-own}
 use Rattle.leaf.proofs.Checks.{accepted-passes, answer-found, answer-bytes, answer-not-found}
 use Rattle.solver.specs.Task.{Solved}
 use Rattle.replanner.specs.Kept.{KeptFit, Replanned}
+use Rattle.replanner.proofs.Begun.{all-begun, accepted-alone}
 
 module _ (J : Job) (goal minute : ℕ) (kept : Steps) (valid : first (jobRows J) ≡ Pass)
     (own : foreign (J .facts) goal ≡ false) (fit : KeptFit J minute kept) where
@@ -62,11 +62,6 @@ module _ (J : Job) (goal minute : ℕ) (kept : Steps) (valid : first (jobRows J)
       (each-kept (λ x. x .number < 256) (λ k l. let n = fit .known .known k l in omega arith))
       (each-kept (λ x. x .start < 65536) (fit .small))
 
-  accepted-alone : passes J goal K ≡ true → Accepted J goal (planBytes K)
-  accepted-alone h =
-      accepted-bytes-of-steps J goal K within (in-order-own J kept) few
-      (pass-of-test (first (stepRows J goal K)) h) .0
-
   passes-when-accepted : (bytes : List ℕ) → stepsIn J bytes ≡ K → Accepted J goal bytes → passes J goal K ≡ true
   passes-when-accepted bytes same accepted =
       subst (λ (P : List Step). passes J goal P ≡ true) same (ap isPass (steps-of-accepted J goal bytes accepted))
@@ -85,7 +80,7 @@ module _ (J : Job) (goal minute : ℕ) (kept : Steps) (valid : first (jobRows J)
       where
         nothing : passes J goal K ≡ true → ⊥
         nothing h =
-            let accepted = accepted-alone h in
+            let accepted = accepted-alone J goal minute K within begun-steps h .0 in
             let day = tells (toldOf J (stepsIn J (planBytes K))) in
             answer-not-found J goal (J .deadline) kept r checked e day
             (accepted-passes J goal (planBytes K) valid own accepted) refl
@@ -127,7 +122,5 @@ module _ (J : Job) (goal minute : ℕ) (kept : Steps) (valid : first (jobRows J)
             let lasting = lasting-of-known J P within (steps-in-bytes J bytes) (steps .known) in
             let early : EachStep (λ x. x .start < minute) P = λ x Q i.
             let a = lasting x Q i in let b = steps .beforeDeadline x Q i in omega arith in
-            let all : begun minute P ≡ P =
-            ap (begun minute) (sym (append-nil P))
-            ∙ begun-of-append minute P [] early (each-step (λ x. minute ≤ x .start) [] tt) in
-            not-both (passes-when-accepted bytes (sym all ∙ counts) accepted) (not-found-fails e)
+            let same = sym (all-begun minute P early) ∙ counts in
+            not-both (passes-when-accepted bytes same accepted) (not-found-fails e)

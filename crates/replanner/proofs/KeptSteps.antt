@@ -11,7 +11,6 @@ use lib.ListN.{length, getD, length-set}
 use lib.Seq.{getD-set-same, getD-set-other}
 use borrow.Author.Tests.{lt-ltb, le-ltb}
 use Rattle.lists.specs.Lists.{tabulate}
-use Rattle.lists.proofs.Bools.{and-left, and-right}
 use Rattle.lists.proofs.Tabulate.{length-tabulate, tabulate-snoc, tabulate-same, getD-tabulate}
 use Rattle.job.specs.declared.Job as held
 use Rattle.job.specs.declared.refusal.Verdict.the-variants.{Pass}
@@ -20,37 +19,26 @@ use Rattle.job.specs.Refusal.{first}
 use Rattle.job.specs.Valid.{jobRows}
 use Rattle.job.proofs.Passed.{passed}
 use Rattle.timeline.specs.declared.Plan.{Plan}
-use Rattle.timeline.specs.Step.{Step, noAction, stepOf, stepsIn, before, strictlyRising}
-use Rattle.timeline.specs.Value.{stepAt, stepsOf}
+use Rattle.timeline.specs.Step.{Step, noAction, stepOf, stepsIn, strictlyRising}
+use Rattle.timeline.specs.Value.{stepAt}
 use Rattle.timeline.specs.Accepted.{Accepted}
 use Rattle.timeline.specs.Places.{here, EachStep}
-use Rattle.timeline.proofs.Places.{each-rest, each-cons}
+use Rattle.timeline.proofs.Places.{each-rest}
 use Rattle.timeline.proofs.AcceptedSteps.{AcceptedSteps, accepted-steps}
 use Rattle.timeline.specs.Keeps.{OfJob}
 use Rattle.timeline.proofs.JobSteps.{lasting-of-known, steps-in-bytes, steps-of-accepted}
-use Rattle.timeline.proofs.Tests.{and-both, le-or-lt}
+use Rattle.timeline.proofs.Tests.{le-or-lt}
 use Rattle.makespan.specs.Makespan.{begun}
-use Rattle.makespan.proofs.Search.{rising-begun, begun-are-begun}
+use Rattle.makespan.proofs.Search.{begun-are-begun}
 use Rattle.checker.specs.Check.{Decodes}
 use Rattle.tables.specs.declared.Steps.{Steps}
-use Rattle.tables.specs.Tables.{Known, noSteps, pushed}
+use Rattle.tables.specs.Tables.{noSteps, pushed}
 use Rattle.leaf.specs.Order.{placed, inOrder}
 use Rattle.replanner.specs.Replan.{keptSteps}
 use Rattle.replanner.specs.Kept.{Keeps, KeptFit}
+use Rattle.replanner.proofs.Begun.{begun-snoc, each-begun, begun-rise}
 
 -- ---- one more step of the plan
-begun-snoc : (minute : ℕ) (P : List Step) (x : Step)
-    → begun minute (P ++ (x ∷ [])) ≡ begun minute P ++ cond (ltb (x .start) minute) (x ∷ []) []
-begun-snoc minute [] x = refl
-begun-snoc minute (y ∷ P) x =
-    go (ltb (y .start) minute) (cond (ltb (x .start) minute) (x ∷ []) []) (begun-snoc minute P x)
-  where
-    go : (b : Bool) (more : List Step) → begun minute (P ++ (x ∷ [])) ≡ begun minute P ++ more
-        → cond b (y ∷ begun minute (P ++ (x ∷ []))) (begun minute (P ++ (x ∷ [])))
-        ≡ cond b (y ∷ begun minute P) (begun minute P) ++ more
-    go true more e = ap (λ (Q : List Step). y ∷ Q) e
-    go false more e = e
-
 in-order-pushed : (J : Job) (steps : Steps) (number start : ℕ) → steps .count < length (steps .numbers)
     → steps .count < length (steps .starts)
     → inOrder J (pushed steps number start) ≡ inOrder J steps ++ (stepOf J number start ∷ [])
@@ -132,26 +120,6 @@ each-placed F n f h k l =
     let none : Step = record { number = 0; action = noAction; start = 0; stop = 0 } in
     let size = length-tabulate n f in
     subst F (getD-tabulate n f k none l) (step-at-place F (tabulate n f) none h k (omega arith))
-
-each-begun : (F : Step → Type 0) (minute : ℕ) (P : List Step) → EachStep F P → EachStep F (begun minute P)
-each-begun F minute [] h = h
-each-begun F minute (x ∷ P) h = go (ltb (x .start) minute) (each-begun F minute P (each-rest F x P h))
-  where
-    go : (b : Bool) → EachStep F (begun minute P) → EachStep F (cond b (x ∷ begun minute P) (begun minute P))
-    go true r = each-cons F x (begun minute P) (h x P here) r
-    go false r = r
-
-rising-front : (P Q : List Step) → strictlyRising (P ++ Q) ≡ true → strictlyRising P ≡ true
-rising-front [] Q h = refl
-rising-front (x ∷ []) Q h = refl
-rising-front (x ∷ y ∷ P) Q h =
-    and-both (and-left (before x y) (strictlyRising (y ∷ (P ++ Q))) h)
-    (rising-front (y ∷ P) Q (and-right (before x y) (strictlyRising (y ∷ (P ++ Q))) h))
-
-begun-rise : (minute : ℕ) (P : List Step) → strictlyRising P ≡ true → strictlyRising (begun minute P) ≡ true
-begun-rise minute P h =
-    let split = rising-begun minute P h in
-    rising-front (begun minute P) (split .0) (subst (λ (Q : List Step). strictlyRising Q ≡ true) (split .1) h)
 
 -- the plan in the bytes passes tests 12 to 19
 module _ (job : held.Job) (current : List ℕ) (plan : Plan) (decodes : Decodes job current plan)

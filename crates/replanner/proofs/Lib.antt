@@ -1,3 +1,5 @@
+mod Begun
 mod KeptSteps
 mod Alone
 mod Replanning
+pub mod Shortest

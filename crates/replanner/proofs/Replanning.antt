@@ -19,7 +19,7 @@ use Rattle.job.specs.Refusal.{Row, _when_, first}
 use Rattle.job.specs.Valid.{jobRows}
 use Rattle.job.proofs.Table.{first-here, first-next, first-append-pass, first-append-refused, first-none}
 use Rattle.timeline.specs.declared.Day.{Day}
-use Rattle.timeline.specs.Step.{Step, stepsIn, planBytes}
+use Rattle.timeline.specs.Step.{Step}
 use Rattle.timeline.specs.Accepted.{planRows, runRows}
 use Rattle.timeline.specs.Day.{noDay, tells, toldOf, dayOf, dayReply}
 use Rattle.timeline.proofs.Tests.{decided}

@@ -1,12 +1,15 @@
 // A plain second planner, for comparison in tests: the least end of the accepted plans of a small job, by trying every
-// plan forward from minute 0. It shares no code with the planner, and knows no earliest times and no normal form.
+// plan forward from minute 0, or from the minute to which a begun day has come. It shares no code with the planner, and
+// knows no earliest times and no normal form.
 mod day; // the rules, minute by minute
+mod kept; // the steps that a begun day keeps
 
 ghost use Prim.Native.Nat.{_≤_};
 use day::Day;
 use day::State;
 use job::Action;
 use job::Job;
+use kept::Kept;
 
 // The latest deadline, since the search calls itself once for each action and minute.
 const DEADLINE: u16 = 60;
@@ -71,15 +74,18 @@ fn actions(job: Job) -> [Action; Day::ACTIONS] {
     actions
 }
 
-// The least horizon at which the search finds a plan. A plan that ends before a horizon was found at an earlier one.
-fn least_horizon(day: Day, state: State, deadline: u16) -> Makespan
+// The least horizon at which the search finds a plan of the begun day. A plan that ends before a horizon was found at an
+// earlier one, since the kept steps stop by the first.
+fn least_horizon(day: Day, kept: Kept, minute: u16, deadline: u16) -> Makespan
     requires { ⌜ day .counts .actions ≤ 8 ⌝ }
 {
+    let first = minute as u32;
     let last = deadline as u32;
     let mut decisions = DECISIONS;
-    let mut horizon: u32 = 0;
+    let mut horizon = kept::later(first, kept.end);
     while horizon <= last {
-        let tried = search(day, state, horizon, day.counts.actions, decisions);
+        let left = horizon - first;
+        let tried = search(day, kept.state, left, day.counts.actions, decisions);
         if tried.found {
             return Makespan::Ends(horizon);
         }
@@ -92,12 +98,23 @@ fn least_horizon(day: Day, state: State, deadline: u16) -> Makespan
     Makespan::NoPlan
 }
 
-// The least end of the accepted plans of a job that passes tests 3 to 11. A job with over 8 actions, a deadline over 60
-// or too many plans is too large.
-pub fn shortest(job: Job) -> Makespan {
+// The state of a job before any step.
+fn before(job: Job) -> State {
+    let stores = job.stores;
+    State {
+        facts: job.start,
+        minutes: [0u32; Day::ACTIONS],
+        stores,
+        steps: Day::STEPS,
+    }
+}
+
+// The least end of the plans that are accepted for the goal and whose steps before the minute are those of the given
+// plan. The job passes tests 3 to 11, the plan 12 to 19. A job with over 8 actions, a deadline over 60 or too many plans
+// is too large.
+pub fn shortest_from(job: Job, plan: &[u8], minute: u16, goal: u64) -> Makespan {
     let counts = job.counts;
     let pools = job.pools;
-    let stores = job.stores;
     if Day::ACTIONS < counts.actions {
         return Makespan::TooLarge;
     }
@@ -105,19 +122,23 @@ pub fn shortest(job: Job) -> Makespan {
         return Makespan::TooLarge;
     }
     let day = Day {
-        goal: job.goal,
+        goal,
         counts,
         pools,
         actions: actions(job),
     };
-    let state = State {
-        facts: job.start,
-        minutes: [0u32; Day::ACTIONS],
-        stores,
-        steps: Day::STEPS,
-    };
+    let state = before(job);
     if day::any_beyond(day, state) {
         return Makespan::UseBeyond;
     }
-    least_horizon(day, state, job.deadline)
+    let kept = kept::at_minute(day, state, plan, minute);
+    if kept::suffices(day, kept, minute) {
+        return Makespan::Ends(kept.end);
+    }
+    least_horizon(day, kept, minute, job.deadline)
+}
+
+// The least end of the accepted plans of a job for its own goal: at minute 0 no step is kept.
+pub fn shortest(job: Job) -> Makespan {
+    shortest_from(job, &[], 0, job.goal)
 }

@@ -1,4 +1,5 @@
 mod FileLaws
 pub mod Solving
+mod RestLaws
 mod TaskLaws
 pub mod TaskDays

@@ -16,29 +16,28 @@ use Rattle.job.specs.Valid.{jobRows}
 use Rattle.job.proofs.Passed.{passed}
 use Rattle.job.proofs.Resuming.{job-in-resumed}
 use Rattle.job.proofs.Rows.{fits-of-pass}
-use Rattle.timeline.specs.Step.{unionOf}
+use Rattle.timeline.specs.Step.{Step}
 use Rattle.tables.specs.declared.Frame.{Frame}
 use Rattle.tables.specs.Filled.{Filled, frameOf}
 use Rattle.tables.specs.Tables.{Numbers, Describes, Known, chosen}
 use Rattle.tables.proofs.Describing.{ByteDurations, describes}
-use Rattle.landmarks.specs.Bounds.{TimesBound, AddedByNew}
+use Rattle.landmarks.specs.Bounds.{AddedByNew}
+use Rattle.landmarks.specs.Landmarks.{Landmarks}
 use Rattle.landmarks.specs.Tables.{KeptBefore, markAt}
 use Rattle.landmarks.specs.Marked.{WithinLimits}
 use Rattle.landmarks.proofs.TableLaws.{landmarks-when-closed}
 use Rattle.landmarks.proofs.ShareLaws.{stores-when-within, pools-when-within, steps-when-within}
 use Rattle.landmarks.proofs.OpeningLaws.{opens-of-tables}
-use Rattle.landmarks.proofs.TimeBounds.{whole-day-bounds}
-use Rattle.landmarks.proofs.AddedByNew.{added-by-new-whole}
+use Rattle.landmarks.proofs.AddedByNew.{added-by-new-rest}
 use Rattle.cliques.specs.Marked.{MarkedTables}
 use Rattle.cliques.proofs.CliqueTables.{cliques-of-tables}
-use Rattle.earliest.specs.Sweep as earliest
 use Rattle.leaf.specs.declared.Answer.{Answer}
 use Rattle.leaf.specs.Answer.{FileOf}
 use Rattle.leaf.specs.Order.{inOrder}
 use Rattle.search.specs.Search.{TaskOf, FoundFor}
 use Rattle.search.specs.Horizons.{Whole, NoneBefore, NoneBy}
 use Rattle.solver.specs.declared.Task.{Task}
-use Rattle.solver.specs.Task.{dayOf, TaskFits, GivenBy, Solved}
+use Rattle.solver.specs.Task.{dayOf, TaskFits, RestTimes, Solved}
 use Rattle.solver.proofs.Solving.{solved}
 
 -- the numbers of the actions, with durations of one byte
@@ -103,14 +102,19 @@ module _ (job day : held.Job) (task : Task) (is : day ≡ resumedValue job (task
   pub job-durations : ByteDurations day → ByteDurations job
   job-durations = subst ByteDurations is
 
+pub known-actions : (day : held.Job) (task : Task) → TaskFits (jobIn day) task
+    → Known (day .counts .actions) (task .kept)
+known-actions day task fits =
+    subst (λ (n : ℕ). Known n (task .kept)) (length-tabulate (day .counts .actions) (actionAt day)) (fits .known)
+
 -- day is a value of the job, and frame the frame of the task
-module _ (day : held.Job) (task : Task) (fits : TaskFits (jobIn day) task) (given : ℕ) (frame : Frame)
-    (same : frame ≡ frameOf day (task .goal) (task .first) (task .kept) given) where
+module _ (day : held.Job) (task : Task) (fits : TaskFits (jobIn day) task) (frame : Frame)
+    (same : frame ≡ frameOf day (task .goal) (task .first) (task .kept)) where
   abbrev J : Job
   J = jobIn day
 
   abbrev whole : Frame
-  whole = frameOf day (task .goal) (task .first) (task .kept) given
+  whole = frameOf day (task .goal) (task .first) (task .kept)
 
   passes : first (jobRows J) ≡ Pass
   passes = fits .passes
@@ -118,39 +122,21 @@ module _ (day : held.Job) (task : Task) (fits : TaskFits (jobIn day) task) (give
   counts : Fits (day .counts)
   counts = fits-of-pass day passes
 
-  pub known-actions : Known (day .counts .actions) (task .kept)
-  known-actions =
-      subst (λ (n : ℕ). Known n (task .kept)) (length-tabulate (day .counts .actions) (actionAt day)) (fits .known)
-
-  pub known-kept : Known 64 (task .kept)
-  known-kept =
-      let few = counts .2 in
-      record {
-        few = known-actions .few;
-        numbers = known-actions .numbers;
-        starts = known-actions .starts;
-        known = λ k l. let below = known-actions .known k l in omega arith;
-      }
-
   module _ (sets numbers : List ℕ) (filled : Filled day sets numbers) where
     described : Describes J sets numbers whole
-    described = describes day sets numbers filled passes (task .goal) (task .first) (task .kept) given
-
-    pub given-of-tables : (set : ℕ) → GivenBy sets (task .kept) (task .kept .count) set
-        → set ≡ unionOf (λ x. x .action .adds) (chosen J (task .kept))
-    given-of-tables set by = by J numbers (rw (described .actions) (described .each)) (fits .known)
+    described = describes day sets numbers filled passes (task .goal) (task .first) (task .kept)
 
     pub numbers-of-frame : Numbers numbers (frame .actions)
     numbers-of-frame =
         subst (λ (f : Frame). Numbers numbers (f .actions)) (sym same) (numbers-of-job day sets numbers passes filled)
 
-    module _ (times : List ℕ) (timed : earliest.Filled J times) where
+    module _ (times : List ℕ) (hand : ℕ) (rest : RestTimes day (task .kept) (task .first) times hand) where
       -- what the landmarks are filled for
       pub limits-of-frame : WithinLimits times frame
       limits-of-frame =
           subst (WithinLimits times) (sym same)
           (record {
-            timeCount = timed .able .kept .whole;
+            timeCount = rest .whole;
             facts = passed J passes .facts;
             actions = counts .2;
             pools = counts .0;
@@ -164,53 +150,56 @@ module _ (day : held.Job) (task : Task) (fits : TaskFits (jobIn day) task) (give
           subst (Whole sets numbers times) (sym same)
           (record {
             lent = record { setCount = filled .setCount; amounts = numbers-of-job day sets numbers passes filled };
-            timeCount = timed .able .kept .whole;
+            timeCount = rest .whole;
             facts = within .facts;
             pools = counts .0;
             stores = counts .1;
             horizon = within .deadline;
-            kept = known-actions;
+            kept = known-actions day task fits;
             starts = λ k l. let e = fits .early k l in omega arith;
             origin = omega arith;
           })
 
-      -- the tables are of the day, and given is what the kept steps add
-      pub task-of-tables : MarkedTables sets numbers times frame (day .start)
-          → given ≡ unionOf (λ x. x .action .adds) (chosen J (task .kept))
-          → (file : List ℕ) → FileOf J file (day .start) (day .stores) → TaskOf J file sets numbers times frame
-      task-of-tables marked adds file inFile =
+      -- the tables are of the day, and its times and landmarks of what is left of it
+      pub task-of-tables : MarkedTables sets numbers times frame hand → (file : List ℕ)
+          → FileOf J file (day .start) (day .stores) → TaskOf J file sets numbers times frame
+      task-of-tables marked file inFile =
           subst (λ (f : Frame). TaskOf J file sets numbers times f) (sym same)
           (record {
             inFile = inFile;
             described = described;
-            timely = timely;
+            timely = rest .bound;
             goal = fits .goal;
             marked = record {
-              hand = day .start;
-              landmarks = subst
-                  (λ (set : ℕ). AddedByNew J (task .first) (chosen J (task .kept)) set (day .start) 64 (markAt sets))
-                  (sym adds)
-                  (added-by-new-whole J (task .first) (chosen J (task .kept)) 64 (markAt sets)
-                  (landmarks-when-closed J sets numbers _ (day .start) (described .actions) (described .each)
-                  (tables .landmarks .closed)));
-              stores = stores-when-within J sets numbers _ (day .start) (described .actions) (described .each)
+              hand = hand;
+              landmarks = added;
+              stores = stores-when-within J sets numbers _ hand (described .actions) (described .each)
                   (tables .landmarks .within);
-              pools = pools-when-within J sets numbers _ (day .start) (described .actions) (described .each)
+              pools = pools-when-within J sets numbers _ hand (described .actions) (described .each)
                   (tables .landmarks .within);
-              steps = steps-when-within J sets numbers _ (day .start) (described .actions) (described .each)
+              steps = steps-when-within J sets numbers _ hand (described .actions) (described .each)
                   (tables .landmarks .within);
               opens = λ pool few inside.
-                  opens-of-tables J sets numbers times _ described (task .first) _ 0 timely pool _ inside
-                  (tables .landmarks .openings pool few);
-              cliques = cliques-of-tables J sets numbers times _ described (task .first) _ 0 timely (tables .cliques);
+                  opens-of-tables J sets numbers times _ described (task .first) K (task .first) (rest .bound) pool _
+                  inside (tables .landmarks .openings pool few);
+              cliques = cliques-of-tables J sets numbers times _ described (task .first) K (task .first) (rest .bound)
+                  (tables .cliques);
             };
           })
         where
-          timely : TimesBound J (task .first) (chosen J (task .kept)) 0 times
-          timely = whole-day-bounds J times timed (task .first) (chosen J (task .kept))
+          K : List Step
+          K = chosen J (task .kept)
 
-          tables : MarkedTables sets numbers times whole (day .start)
-          tables = subst (λ (f : Frame). MarkedTables sets numbers times f (day .start)) same marked
+          tables : MarkedTables sets numbers times whole hand
+          tables = subst (λ (f : Frame). MarkedTables sets numbers times f hand) same marked
+
+          added : AddedByNew J (task .first) K 0 hand 64 (markAt sets)
+          added =
+              subst
+              (λ (set : ℕ). Landmarks J set 64 (markAt sets) → AddedByNew J (task .first) K 0 set 64 (markAt sets))
+              (sym (rest .hand)) (added-by-new-rest J (task .first) K 64 (markAt sets))
+              (landmarks-when-closed J sets numbers _ hand (described .actions) (described .each)
+              (tables .landmarks .closed))
 
   -- the answer of the search for the frame is the answer for the task
   pub solved-task : (r : Answer) → (r .found ≡ true → FoundFor J frame r × NoneBefore J frame (r .end))

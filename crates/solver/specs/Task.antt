@@ -12,10 +12,12 @@ use Rattle.job.specs.Job.{Job, jobIn}
 use Rattle.job.specs.Refusal.{first}
 use Rattle.job.specs.Resumed.{resumed}
 use Rattle.job.specs.Valid.{jobRows}
-use Rattle.timeline.specs.Step.{Step, strictlyRising, unionOf}
+use Rattle.timeline.specs.Step.{Step, strictlyRising}
 use Rattle.makespan.specs.Makespan.{Counts, endsAt, noPlan, makespanFrom}
-use Rattle.tables.specs.Tables.{Known, DescribesEach, chosenTo, noSteps}
+use Rattle.tables.specs.Tables.{Known, chosen, noSteps}
 use Rattle.tables.specs.declared.Steps.{Steps}
+use Rattle.begun.specs.RestOfDay.{atHand}
+use Rattle.landmarks.specs.Bounds.{TimesBound}
 use Rattle.leaf.specs.declared.Answer.{Answer}
 use Rattle.leaf.specs.Answer.{Found, bytesIn}
 use Rattle.leaf.specs.Order.{inOrder}
@@ -34,13 +36,17 @@ wholeDay job = begunDay job (job .goal) 0 noSteps
 abbrev pub dayOf : held.Job → Task → Job
 dayOf job task = resumed (jobIn job) (task .start) (task .stocks)
 
+-- the steps start before the minute
+abbrev pub StartBefore : ℕ → Steps → Type 0
+StartBefore minute steps = (k : ℕ) → k < steps .count → getD (steps .starts) k 0 < minute
+
 -- what may be asked of the job J: it passes its tests, the goal has its facts only, and the kept steps are its own,
 -- start before the first free minute and stand in rising order
 pub record TaskFits (J : Job) (task : Task) : Type 0 where
   pub passes : first (jobRows J) ≡ Pass
   pub goal : foreign (J .facts) (task .goal) ≡ false
   pub known : Known (length (J .actions)) (task .kept)
-  pub early : (k : ℕ) → k < task .kept .count → getD (task .kept .starts) k 0 < task .first
+  pub early : StartBefore (task .first) (task .kept)
   pub rising : strictlyRising (inOrder J (task .kept)) ≡ true
   pub minute : task .first < 65536
 
@@ -53,8 +59,8 @@ pub record Solved (J : Job) (goal minute : ℕ) (K : List Step) (r : Answer) : T
 
 -- ---- what inner functions promise
 
--- the set is what the first k of the steps add
-abbrev pub GivenBy : List ℕ → Steps → ℕ → ℕ → Type 0
-GivenBy sets steps k set =
-    (J : Job) (numbers : List ℕ) → DescribesEach J sets numbers (length (J .actions))
-    → Known (length (J .actions)) steps → set ≡ unionOf (λ x. x .action .adds) (chosenTo J steps k)
+-- the times bound what is left of the day from the minute on, with the kept steps, and the set is what is then at hand
+pub record RestTimes (day : held.Job) (kept : Steps) (minute : ℕ) (times : List ℕ) (set : ℕ) : Type 0 where
+  pub whole : length times ≡ 2080
+  pub bound : TimesBound (jobIn day) minute (chosen (jobIn day) kept) minute times
+  pub hand : set ≡ atHand (jobIn day) minute (chosen (jobIn day) kept)

@@ -1,15 +1,15 @@
 // One search for every task: a shortest plan that counts, or that there is none.
 ghost use mathlib.Core.Path.{_≡_};
 ghost use Prim.Native.Nat.{_≤_};
-ghost use lib.ListN.{length};
-ghost use Rattle.job.specs.Job.{jobIn};
+ghost use lib.ListN.{replicate};
+ghost use Rattle.job.specs.Job.{jobIn, Fits};
 ghost use Rattle.job.specs.Refusal.{first};
 ghost use Rattle.job.specs.Valid.{jobRows};
 ghost use Rattle.job.specs.declared.refusal.Verdict.the-variants.{Pass};
 ghost use Rattle.tables.specs.Tables.{Known};
+ghost use Rattle.times.specs.Numbers.{none};
 ghost use Rattle.leaf.specs.Order.{inOrder};
-ghost use Rattle.solver.specs.Task.{begunDay, wholeDay, dayOf, TaskFits, GivenBy, Solved};
-use earliest::extra::Extra;
+ghost use Rattle.solver.specs.Task.{begunDay, wholeDay, dayOf, StartBefore, TaskFits, RestTimes, Solved};
 use earliest::set_time;
 use job::Job;
 use job::resumed;
@@ -56,23 +56,23 @@ impl Task {
     }
 }
 
-// What the kept steps add.
-fn given(sets: &[u64], kept: Steps) -> u64
-    requires { ⌜ (length (now sets) ≡ 384) × Known 64 kept ⌝ }
-    ensures { λ r. ⌜ GivenBy (now (sets .entry)) kept (kept .count) r ⌝ }
+// Fills the earliest times of what is left of the day from the minute on. Returns what is at hand then.
+fn fill_times(times: &mut [u32], day: Job, kept: Steps, minute: u16) -> u64
+    requires { ⌜ (now times ≡ replicate 2080 none) × (day .facts ≤ 64) × Fits (day .counts)
+        × Known (day .counts .actions) kept × StartBefore minute kept ⌝ }
+    ensures { λ r. ⌜ RestTimes day kept minute (now (times .exit)) r ⌝ }
 {
-    let mut set: u64 = 0;
-    let mut k = 0;
-    while k < kept.count {
-        let i = kept.numbers[k] as usize;
-        set = facts::union(sets[i * SetTable::ROW + SetTable::ADDS], set);
-        k += 1;
-    }
-    set
+    let plan = begun::kept_plan(day, kept);
+    let held = begun::held_at(plan, day.start, minute);
+    let extra = begun::rest_actions(plan, minute);
+    let stores = day.stores;
+    let rest = resumed::resumed(day, held, stores);
+    earliest::sweep::fill(times, rest, extra);
+    begun::at_hand(plan, held, minute)
 }
 
-// A shortest plan of the task that counts, from the tables of the day with landmarks, its earliest times and the file
-// of the job.
+// A shortest plan of the task that counts, from the tables of the day, the earliest times and landmarks of what is left
+// of it, and the file of the job.
 pub fn solve(job: Job, task: Task) -> Answer
     requires { ⌜ (first (jobRows (jobIn job)) ≡ Pass) × TaskFits (dayOf job task) task ⌝ }
     ensures { λ r. ⌜ Solved (dayOf job task) (task .goal) (task .first) (inOrder (dayOf job task) (task .kept)) r ⌝ }
@@ -84,9 +84,9 @@ pub fn solve(job: Job, task: Task) -> Answer
     let mut numbers = [0u32; NumberTable::ENTRIES];
     tables::fill::fill(&mut sets, &mut numbers, day);
     let mut times = [set_time::NONE; Pair::COUNT];
-    earliest::sweep::fill(&mut times, day, Extra::none());
-    let frame = Frame::of(day, task.goal, task.first, kept, given(&sets, kept));
-    cliques::fill(&mut sets, &mut numbers, &times, frame, day.start);
+    let hand = fill_times(&mut times, day, kept, task.first);
+    let frame = Frame::of(day, task.goal, task.first, kept);
+    cliques::fill(&mut sets, &mut numbers, &times, frame, hand);
     let mut file = [0u8; Layout::FILE];
     let written = writer::write(job, &mut file);
     let Written::Length(length) = written else {

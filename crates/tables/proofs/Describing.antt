@@ -51,9 +51,8 @@ module _ (job : held.Job) (sets numbers : List ℕ) (filled : Filled job sets nu
           stores = n .stores;
         }
 
-    pub describes : (goal from : ℕ) (kept : Steps) (given : ℕ)
-        → Describes (jobIn job) sets numbers (frameOf job goal from kept given)
-    describes goal from kept given =
+    pub describes : (goal from : ℕ) (kept : Steps) → Describes (jobIn job) sets numbers (frameOf job goal from kept)
+    describes goal from kept =
         record {
           facts = refl;
           actions = length-tabulate (job .counts .actions) (actionAt job);

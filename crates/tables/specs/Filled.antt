@@ -44,9 +44,10 @@ pub record Filled (job : held.Job) (sets numbers : List ℕ) : Type 0 where
   pub eachSets : EachFilled SetsFilled job sets
   pub eachNumbers : EachFilled NumbersFilled job numbers
 
--- what of the job value is no table, for a search up to the deadline with tables of the whole day
-abbrev pub frameOf : held.Job → ℕ → ℕ → Steps → ℕ → Frame
-frameOf job goal first kept given =
+-- what of the job value is no table, for a search up to the deadline with tables of what is left of the day from the
+-- first free minute on
+abbrev pub frameOf : held.Job → ℕ → ℕ → Steps → Frame
+frameOf job goal first kept =
     record {
       facts = job .facts;
       actions = job .counts .actions;
@@ -60,8 +61,8 @@ frameOf job goal first kept given =
       least = 0;
       horizon = job .deadline;
       kept = kept;
-      origin = 0;
-      given = given;
+      origin = first;
+      given = 0;
     }
 
 -- ---- what inner functions promise

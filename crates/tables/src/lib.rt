@@ -1,6 +1,7 @@
 // A job in tables of numbers, for the search to borrow; the steps that it has chosen.
 pub mod layout; // where the tables have what
 pub mod fill; // the tables of a job
+pub mod longer; // which of two has more minutes
 
 ghost use mathlib.Core.Path.{_≡_};
 ghost use Prim.Native.Nat.{_<_};
@@ -32,9 +33,9 @@ pub struct Frame {
 }
 
 impl Frame {
-    // The frame of a job up to its deadline, for tables of the whole day.
-    pub fn of(job: Job, goal: u64, first: u16, kept: Steps, given: u64) -> Frame
-        ensures { λ r. ⌜ r ≡ frameOf job goal first kept given ⌝ }
+    // The frame of a job up to its deadline, for tables of what is left of the day from the first free minute on.
+    pub fn of(job: Job, goal: u64, first: u16, kept: Steps) -> Frame
+        ensures { λ r. ⌜ r ≡ frameOf job goal first kept ⌝ }
     {
         let counts = job.counts;
         let available = job.pools;
@@ -52,8 +53,8 @@ impl Frame {
             least: 0,
             horizon: job.deadline,
             kept: kept,
-            origin: 0,
-            given: given,
+            origin: first,
+            given: 0,
         }
     }
 }

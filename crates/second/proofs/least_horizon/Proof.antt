@@ -1,18 +1,24 @@
 -- `least_horizon` is safe and ends. The measure is the number of horizons left.
 -- Assumes nothing.
-use Prim.Native.Nat.{_+_, _-_}
+use Prim.Native.Nat.{_+_, _-_, _≤_}
 use borrow.Author.Needs.{needs}
 use Rattle.second.proofs.least_horizon.Statement.{statement}
 use Rattle.second.proofs.least_horizon.Tie as tie
 
 abbrev Inv-loop : tie.InvT-loop
-Inv-loop day state deadline last decisions₀ horizon₀ decisions horizon = Unit {0}
+Inv-loop day kept minute deadline first last decisions₀ horizon₀ decisions horizon = first ≤ horizon
 
 abbrev μ-loop : tie.MeasureT-loop
-μ-loop day state deadline last decisions₀ horizon₀ decisions horizon = (last + 1) - horizon
+μ-loop day kept minute deadline first last decisions₀ horizon₀ decisions horizon = (last + 1) - horizon
+
+later-requires : tie.Need-later-requires Inv-loop μ-loop
+later-requires c κs = search needs
 
 loop-holds : tie.Need-loop-holds Inv-loop μ-loop
 loop-holds c = search needs
+
+sub-left : tie.Need-sub-left Inv-loop μ-loop
+sub-left c = search needs
 
 search-requires : tie.Need-search-requires Inv-loop μ-loop
 search-requires c κs = search needs
@@ -41,7 +47,9 @@ least-horizon-spec =
     (tie.spec
     Inv-loop
     μ-loop
+    later-requires
     loop-holds
+    sub-left
     search-requires
     returns
     add-horizon
