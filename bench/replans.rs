@@ -7,6 +7,8 @@ mod plain;
 #[allow(dead_code)]
 mod planner;
 mod rows;
+#[allow(dead_code)]
+mod without;
 use planner::{replan, Begun};
 use std::path::Path;
 use std::time::Instant;
