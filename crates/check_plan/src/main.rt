@@ -1,13 +1,12 @@
 // Says whether the plan in one file is accepted for the job in another: the plan's end, or by which number
 // it is refused.
 // Arguments: the job file and the plan file, by name. A file that cannot be read gets a message on standard error.
-ghost use Rattle.io.specs.Counts.{Counts};
-use job::refusal::Refusal;
+use input::load_named;
 use job::refusal::Verdict;
-use job::refusal::number;
 use jobfile::Layout;
 use libc::STDERR_FILENO;
-use libc::STDOUT_FILENO;
+use printing::print_line;
+use printing::print_refusal;
 use timeline::Day;
 use timeline::Plan;
 
@@ -16,70 +15,8 @@ const JOB: usize = Layout::FILE + 1;
 
 const PLAN: usize = Plan::BYTES + 1;
 
-// How much of a file has come, and whether that is all there is or all that fits.
-struct Loaded {
-    length: usize,
-    whole: bool,
-}
-
-// A word and a number, on a line of their own.
-fn print_line(word: &[u8], x: u64) {
-    io::write_all(STDOUT_FILENO, word);
-    io::print_decimal(STDOUT_FILENO, x);
-    io::write_all(STDOUT_FILENO, b"\n");
-}
-
-// Why the plan is not accepted.
-fn print_refusal(why: Refusal) {
-    print_line(b"refused ", number(why) as u64);
-}
-
-// Whether the file has ended. A read that failed is like the end to read_full; it fails here again.
-fn at_end(fd: i32) -> bool {
-    let mut next = [0u8; 1];
-    libc::read(fd, &mut next) == 0
-}
-
-// Reads an open file to the front of the buffer.
-fn load(fd: i32, buffer: &mut [u8]) -> Loaded
-    ensures { λ r. ⌜ Counts (r .length) (now (buffer .exit)) ⌝ }
-{
-    let length = io::read_full(fd, buffer);
-    let whole = length == buffer.len() || at_end(fd);
-    Loaded { length, whole }
-}
-
-// Reads the file that argument i names to the front of the buffer; says why on standard error where that fails.
-fn load_named(i: usize, buffer: &mut [u8]) -> Loaded
-    ensures { λ r. ⌜ Counts (r .length) (now (buffer .exit)) ⌝ }
-{
-    let mut path = io::buffer();
-    let length = os::arg(i, &mut path);
-    if os::errno() != 0 {
-        os::fail(b"check_plan: a file name");
-        return Loaded {
-            length: 0,
-            whole: false,
-        };
-    }
-    let fd = os::open_read(&path[..length]);
-    if fd < 0 {
-        os::fail(&path[..length]);
-        return Loaded {
-            length: 0,
-            whole: false,
-        };
-    }
-    let loaded = load(fd, buffer);
-    if !loaded.whole {
-        os::fail(&path[..length]);
-    }
-    libc::close(fd);
-    loaded
-}
-
 // The end of a plan that is accepted, or why it is not.
-fn print_day(day: Day) {
+fn print_end(day: Day) {
     let verdict = day.verdict;
     match verdict {
         Verdict::Pass => {
@@ -99,7 +36,7 @@ fn print_answer(file: &[u8], plan: &[u8]) {
         print_refusal(why);
         return;
     }
-    print_day(checker::check(reading.job, plan));
+    print_end(checker::check(reading.job, plan));
 }
 
 // Reads the plan and answers.

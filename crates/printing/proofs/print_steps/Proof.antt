@@ -4,8 +4,8 @@ use Prim.Native.Nat.{_-_}
 use mathlib.Core.Path.{_≡_}
 use lib.ListN.{length}
 use borrow.Author.Needs.{needs}
-use Rattle.day.proofs.print_steps.Statement.{statement}
-use Rattle.day.proofs.print_steps.Tie as tie
+use Rattle.printing.proofs.print_steps.Statement.{statement}
+use Rattle.printing.proofs.print_steps.Tie as tie
 
 abbrev Inv-loop : tie.InvT-loop
 Inv-loop job steps plan i₀ i = 96 ≡ length plan

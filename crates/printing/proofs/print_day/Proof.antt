@@ -1,17 +1,8 @@
--- `print_day` is safe: a plan that is handed out has at most 32 steps.
+-- `print_day` is safe: a day that passes has at most 32 steps.
 -- Assumes nothing.
-use lib.ListN.{replicate}
-use Rattle.job.specs.Job.{jobIn}
-use Rattle.planner.proofs.Shortest.{plan-is-shortest}
 use borrow.Author.Needs.{needs}
-use Rattle.day.proofs.print_day.Statement.{statement}
-use Rattle.day.proofs.print_day.Tie as tie
-
-slice-aggregate-plan : tie.Need-slice-aggregate-plan
-slice-aggregate-plan c = search needs
-
-plan-requires : tie.Need-plan-requires
-plan-requires c κs = search needs
+use Rattle.printing.proofs.print_day.Statement.{statement}
+use Rattle.printing.proofs.print_day.Tie as tie
 
 enum-told : tie.Need-enum-told
 enum-told c = search needs
@@ -36,12 +27,9 @@ print-peaks-requires c κs = search needs
 
 print-steps-requires : tie.Need-print-steps-requires
 print-steps-requires c κs =
-    let at6 = c .before .before .before .before .before .before in
-    let at9 = at6 .before .before .before in
-    let c-args = at9 .before .before .args in
-    let c-plan2 = at9 .plan2 in
-    plan-is-shortest (jobIn (c-args .job)) (replicate 96 0) (c-plan2 .result) _ (c-plan2 .ensures)
-    (at6 .enum-told .given .1) .few
+    let c-pre = c .before .before .before .before .before .before .before .before .pre in
+    let c-enum-told = c .before .before .before .before .before .before .enum-told in
+    c-pre (c-enum-told .given .1)
 
 enum-known-verdict : tie.Need-enum-known-verdict
 enum-known-verdict c = search needs
@@ -59,8 +47,6 @@ pub print-day-spec : {M : Type 1} → statement M
 print-day-spec =
     tie.close
     (tie.spec
-    slice-aggregate-plan
-    plan-requires
     enum-told
     slice-aggregate-print-line
     cast-print-line
