@@ -7,6 +7,8 @@ mod plain;
 mod planner;
 mod rows;
 #[allow(dead_code)]
+mod without;
+#[allow(dead_code)]
 #[path = "../tests/cases.rs"]
 mod cases;
 #[allow(dead_code)]
@@ -129,6 +131,7 @@ fn small_job(r: &mut cases::Random) -> plain::Job {
 /// Compares and times the search on small jobs with plans of three steps or more. `bench/plan` times it on days of full
 /// size.
 fn search() {
+    let by_all_rules = |file: &[u8]| planner::plan(file, &planner::Way::default());
     let mut r = cases::Random::new(1);
     let mut plan = [0; 96];
     let mut jobs = Vec::new();
@@ -137,12 +140,12 @@ fn search() {
         let file = cases::file(&job);
         let answer = ruhkevois::plan(&file, &mut plan);
         if let Answer::Done { end, steps: 3.., .. } = answer {
-            assert_eq!(end.to_string(), planner::plan(&file).0);
+            assert_eq!(end.to_string(), by_all_rules(&file).0);
             jobs.push(file);
         }
     }
     let proved = nanos(20, || jobs.iter().map(|file| ruhkevois::plan(file, &mut plan)).last());
-    let plain = nanos(20, || jobs.iter().map(|file| planner::plan(file)).last());
+    let plain = nanos(20, || jobs.iter().map(|file| by_all_rules(file)).last());
     row("plan 50 small jobs", proved, plain);
 }
 

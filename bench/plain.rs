@@ -43,7 +43,7 @@ fn amounts(b: &[u8]) -> [u32; 4] {
     out
 }
 
-fn foreign(facts: u8, set: u64) -> bool {
+pub fn foreign(facts: u8, set: u64) -> bool {
     facts < 64 && set >> facts != 0
 }
 

@@ -1,13 +1,21 @@
 //! A plain Rust version of the planner: the proved search's rules in the same order, so that it visits the same nodes,
 //! one for each call of `regress`. A day may have begun: its steps that start before the first free minute are kept,
-//! and the search is for the others. It reads the whole day's tables.
+//! and the search is for the others. It reads the whole day's tables. It can go without some of the rules.
 use crate::landmarks::{Landmarks, SCALE};
 use crate::plain::{self, members, Job, Times};
 use crate::rows::{self, exceeds, Row};
+use crate::without::Without;
 use std::time::{Duration, Instant};
 
 const LIMIT: Duration = Duration::from_secs(10);
 const STEPS: usize = 32;
+
+/// How to search: the rules left out, and the nodes after which a day is given up; ten seconds where none are named.
+#[derive(Clone, Copy, Default)]
+pub struct Way {
+    pub without: Without,
+    pub nodes: Option<u64>,
+}
 
 /// The limit passed before the search ended.
 struct Late;
@@ -86,8 +94,8 @@ fn plus(sums: &mut [u64; 4], amounts: &[u64; 4], counts: bool) {
     }
 }
 
-/// The search for plans of a job: its tables, what has begun and what the kept steps add, the horizon, the nodes so far
-/// and the instant at which it gives up.
+/// The search for plans of a job: its tables, what has begun and what the kept steps add, the rules left out, the
+/// horizon, the nodes so far, and the number of nodes and the instant at which it gives up.
 struct Search<'a> {
     job: &'a Job,
     rows: Vec<Row>,
@@ -95,9 +103,11 @@ struct Search<'a> {
     times: Times,
     begun: &'a Begun,
     given: u64,
+    without: Without,
     horizon: u32,
     nodes: u64,
-    until: Instant,
+    most: u64,
+    until: Option<Instant>,
 }
 
 impl Search<'_> {
@@ -155,7 +165,7 @@ impl Search<'_> {
         let provided = st.at.held | st.at.added | row.needs;
         row.adds & st.wanted != 0
             && row.clashes & st.at.running == 0
-            && row.adds & !provided & st.wanted != 0
+            && (self.without.drop || row.adds & !provided & st.wanted != 0)
             && row.deletes & st.wanted == 0
     }
 
@@ -197,7 +207,7 @@ impl Search<'_> {
         self.sets_allow(st, row)
             && st.count < STEPS
             && self.begun.first + row.duration <= st.minute
-            && !self.movable(st, row)
+            && (self.without.shift || !self.movable(st, row))
             && self.affordable(st, row)
             && self.beside_kept(st, row)
     }
@@ -247,6 +257,11 @@ impl Search<'_> {
         steps.fold(0, |set, step| set | self.row(step).adds)
     }
 
+    /// Whether what must hold at the state's minute can hold by then.
+    fn timely(&self, st: &State) -> bool {
+        self.times.by(st.wanted | st.at.across, st.minute)
+    }
+
     /// Whether what is wanted, and added neither now nor by the actions left nor by kept steps since the event minute
     /// before, and what the steps that run in the minute before need, can hold at that event minute.
     fn in_time(&self, st: &State, left: u64) -> bool {
@@ -255,6 +270,11 @@ impl Search<'_> {
         let now = members(left).fold(st.at.added, |set, i| set | self.rows[i].adds);
         let added = now | self.adds(self.kept_within(event, st.minute));
         self.times.by(st.wanted & !added | st.at.held, event)
+    }
+
+    /// Whether there are steps enough left for what is missing.
+    fn steps_suffice(&self, st: &State, missing: u64) -> bool {
+        self.landmarks.of_steps(missing) + SCALE * st.steps().len() as u64 <= SCALE * STEPS as u64
     }
 
     /// Whether a store has enough left for what is missing.
@@ -272,19 +292,25 @@ impl Search<'_> {
 
     /// Whether a pool has minutes enough left for what is missing.
     fn pool_suffices(&self, st: &State, missing: u64, k: usize) -> bool {
-        let from = self.landmarks.opening(k);
+        let from = if self.without.openings { 0 } else { self.landmarks.opening(k) };
         let used = self.landmarks.of_pool(k, missing) + SCALE * self.used_before(st, k, from);
         used <= SCALE * self.job.pool[k] as u64 * st.minute.saturating_sub(from) as u64
+    }
+
+    /// Whether there are minutes enough left for a clique of what is missing.
+    fn minutes_suffice(&self, st: &State, missing: u64) -> bool {
+        self.landmarks.minutes(missing) <= st.minute - self.begun.first
     }
 
     /// Whether steps, stores, pools and minutes suffice for what is missing: the landmarks of what must hold at the
     /// state's minute, without what the kept steps add.
     fn suffices(&self, st: &State) -> bool {
         let missing = self.landmarks.of(st.wanted | st.at.across) & !self.given;
-        self.landmarks.of_steps(missing) + SCALE * st.steps().len() as u64 <= SCALE * 32
-            && (0..self.job.stores).all(|k| self.store_suffices(st, missing, k))
-            && (0..self.job.pools).all(|k| self.pool_suffices(st, missing, k))
-            && self.landmarks.minutes(missing) <= st.minute - self.begun.first
+        let without = &self.without;
+        (without.steps || self.steps_suffice(st, missing))
+            && (without.stores || (0..self.job.stores).all(|k| self.store_suffices(st, missing, k)))
+            && (without.pools || (0..self.job.pools).all(|k| self.pool_suffices(st, missing, k)))
+            && (without.clique || self.minutes_suffice(st, missing))
     }
 
     /// What the chosen steps add that stop after minute s and by the state's.
@@ -315,26 +341,35 @@ impl Search<'_> {
         members(left).max_by_key(|&i| self.rows[i].duration).expect("an action")
     }
 
+    /// The action to be tried first: the longest or, without that rule, the last.
+    fn tried_first(&self, left: u64) -> usize {
+        if self.without.longest {
+            return left.ilog2() as usize;
+        }
+        self.longest(left)
+    }
+
     /// With action i stopping at the state's minute, and the actions left not decided.
     fn attempt(&mut self, st: &State, i: usize, left: u64) -> Result<Option<u32>, Late> {
         let start = st.minute - self.rows[i].duration;
         let next = self.take(st, Step { action: i as u8, start: start as u16 });
-        if !self.all_needed(&next) || !self.all_reached(&next, start) {
-            return Ok(None);
+        let needed = self.without.drop || self.all_needed(&next);
+        if needed && (self.without.reached || self.all_reached(&next, start)) {
+            return self.choose(&next, left);
         }
-        self.choose(&next, left)
+        Ok(None)
     }
 
-    /// Decides for the undecided actions which stop at the state's minute, the longest first; then goes back to the
+    /// Decides for the undecided actions which stop at the state's minute, one after the other; then goes back to the
     /// event before.
     fn choose(&mut self, st: &State, undecided: u64) -> Result<Option<u32>, Late> {
         let mut left = self.candidates(st, undecided);
-        while self.in_time(st, left) {
+        while self.without.carried || self.in_time(st, left) {
             if left == 0 {
                 let before = self.back(st);
                 return self.regress(&before);
             }
-            let i = self.longest(left);
+            let i = self.tried_first(left);
             left ^= 1 << i;
             let end = self.attempt(st, i, left)?;
             if end.is_some() {
@@ -344,10 +379,13 @@ impl Search<'_> {
         Ok(None)
     }
 
-    /// Counts a node, and looks at the clock at some.
+    /// Counts a node, unless there were as many as there may be, and looks at the clock at some.
     fn count(&mut self) -> Result<(), Late> {
+        if self.nodes == self.most {
+            return Err(Late);
+        }
         self.nodes += 1;
-        if self.nodes % 1024 == 0 && self.until < Instant::now() {
+        if self.nodes % 1024 == 0 && self.until.is_some_and(|until| until < Instant::now()) {
             return Err(Late);
         }
         Ok(())
@@ -359,7 +397,7 @@ impl Search<'_> {
         if st.minute <= self.begun.first {
             return Ok(self.finish(st.steps()));
         }
-        if !self.suffices(st) {
+        if self.without.carried && !self.timely(st) || !self.suffices(st) {
             return Ok(None);
         }
         self.choose(st, u64::MAX)
@@ -420,13 +458,15 @@ impl Search<'_> {
     }
 }
 
-/// The least end of a plan of the job that keeps what has begun, none where there is no plan, or Late.
-fn search(job: &Job, begun: &Begun) -> (Result<Option<u32>, Late>, u64) {
-    let until = Instant::now() + LIMIT;
+/// The least end of a plan of the job that keeps what has begun, none where there is no plan, or Late; and the nodes.
+fn search(job: &Job, begun: &Begun, way: &Way) -> (Result<Option<u32>, Late>, u64) {
+    let until = way.nodes.is_none().then(|| Instant::now() + LIMIT);
     let rows = rows::rows(job);
     let times = plain::times(job);
     let landmarks = Landmarks::new(job, &rows, &times);
-    let mut search = Search { job, rows, landmarks, times, begun, given: 0, horizon: 0, nodes: 0, until };
+    let (without, most) = (way.without, way.nodes.unwrap_or(u64::MAX));
+    let (given, horizon, nodes) = (0, 0, 0);
+    let mut search = Search { job, rows, landmarks, times, begun, given, without, horizon, nodes, most, until };
     search.given = search.adds(begun.kept.iter());
     (search.shortest(), search.nodes)
 }
@@ -436,18 +476,18 @@ fn printed(end: Result<Option<u32>, Late>, no_plan: u32) -> String {
     end.map_or("-".to_string(), |end| end.unwrap_or(no_plan).to_string())
 }
 
-/// What came of a job file: its end as printed (22: no plan; -: not planned in ten seconds), and the nodes.
-pub fn plan(file: &[u8]) -> (String, u64) {
+/// What came of a job file: its end as printed (22: no plan; -: given up), and the nodes.
+pub fn plan(file: &[u8], way: &Way) -> (String, u64) {
     let job = match plain::read(file) {
         Ok(job) => job,
         Err(number) => return (number.to_string(), 0),
     };
-    let (end, nodes) = search(&job, &Begun::default());
+    let (end, nodes) = search(&job, &Begun::default(), way);
     (printed(end, 22), nodes)
 }
 
 /// What came of a begun day and a new goal: its end as printed (35: no plan; -: not planned in time), and the nodes.
 pub fn replan(job: &Job, begun: &Begun) -> (String, u64) {
-    let (end, nodes) = search(job, begun);
+    let (end, nodes) = search(job, begun, &Way::default());
     (printed(end, 35), nodes)
 }

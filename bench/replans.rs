@@ -7,6 +7,8 @@ mod plain;
 #[allow(dead_code)]
 mod planner;
 mod rows;
+#[allow(dead_code)]
+mod without;
 use planner::{replan, Begun};
 use std::path::{Path, PathBuf};
 use std::process::Command;

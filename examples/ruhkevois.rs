@@ -17,6 +17,17 @@ mod exported {
         ) -> u64;
         pub fn ruhkevois_earliest(file: *const u8, length: usize, set: u64) -> u64;
         pub fn ruhkevois_plan(file: *const u8, length: usize, out: *mut u8, room: usize, peaks: *mut u32) -> u64;
+        pub fn ruhkevois_replan(
+            file: *const u8,
+            length: usize,
+            plan: *const u8,
+            bytes: usize,
+            minute: u32,
+            goal: u64,
+            out: *mut u8,
+            room: usize,
+            peaks: *mut u32,
+        ) -> u64;
     }
 }
 
@@ -29,7 +40,7 @@ pub enum Answer {
     /// A plan's end, an earliest time or a file's length; the number of steps of a plan that was written, else 0; for
     /// each pool the most that a checked or written plan uses together, else 0.
     Done { end: u32, steps: u16, peaks: [u32; POOLS] },
-    /// A refusal by its number, 1 to 26.
+    /// A refusal by its number, 1 to 26 or 35.
     Refused(u8),
     /// A set of facts that no plan ever has together.
     Unreachable,
@@ -98,5 +109,16 @@ pub fn plan(file: &[u8], out: &mut [u8]) -> Answer {
     let mut peaks = [0; POOLS];
     let lent = peaks.as_mut_ptr();
     let answer = unsafe { exported::ruhkevois_plan(file.as_ptr(), file.len(), out.as_mut_ptr(), out.len(), lent) };
+    unpack(answer, peaks)
+}
+
+/// Writes a shortest plan for a new goal to the front of `out`, which has room for 96 bytes: it keeps the steps of the
+/// current plan that start before the minute, and its others start at the minute or later.
+pub fn replan(file: &[u8], current: &[u8], minute: u32, goal: u64, out: &mut [u8]) -> Answer {
+    let mut peaks = [0; POOLS];
+    let lent = peaks.as_mut_ptr();
+    let (file, length, plan, bytes) = (file.as_ptr(), file.len(), current.as_ptr(), current.len());
+    let (out, room) = (out.as_mut_ptr(), out.len());
+    let answer = unsafe { exported::ruhkevois_replan(file, length, plan, bytes, minute, goal, out, room, lent) };
     unpack(answer, peaks)
 }

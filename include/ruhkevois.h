@@ -15,7 +15,7 @@
  * Answers. Every call answers one number, packed the same way (but for a price that is done, see ruhkevois_price):
  *
  *   bits  0 to  7   kind: RUHKEVOIS_DONE, RUHKEVOIS_REFUSED or RUHKEVOIS_UNREACHABLE
- *   bits  8 to 15   number of the refusal, 1 to 26 (README.md has the table); 0 unless refused
+ *   bits  8 to 15   number of the refusal, 1 to 26 or 35 (README.md has the table); 0 unless refused
  *   bits 16 to 47   end: a plan's end, an earliest time, or a file's length; 0 unless done
  *   bits 48 to 63   number of steps of a plan that was written; 0 otherwise
  *
@@ -115,6 +115,22 @@ uint64_t ruhkevois_earliest(const uint8_t *file, size_t file_length, uint64_t se
  */
 uint64_t ruhkevois_plan(const uint8_t *file, size_t file_length, uint8_t *out, size_t out_length,
     uint32_t peaks[RUHKEVOIS_POOLS]);
+
+/*
+ * Replans a day that has begun: writes a shortest plan for a new goal to the front of `out`, which has room for 96
+ * bytes. The steps of the current plan `plan` that start before `minute` are kept as they are; all others may be
+ * replaced by steps that start at `minute` or later. At minute 0 nothing is kept, past the deadline every step is. The
+ * goal is a set of facts (fact n is bit n); neither the file's own goal nor whether the current plan meets it matters.
+ * Done: end, steps, `out` and `peaks` as from ruhkevois_plan, of the whole day with its kept steps. Where these meet
+ * the goal none are added; otherwise no accepted plan that keeps them, and starts none other before the minute, ends
+ * earlier.
+ * Refused: 1 to 11 and 26 for the file; 24 where the job lacks a fact of the goal; 12 to 19 for the current plan; 21
+ * where `out` has under 96 bytes; 35 where no plan with the kept steps is accepted; `out` and `peaks` are kept as they
+ * were.
+ * The search takes as long as the job demands: README.md says how to bound it.
+ */
+uint64_t ruhkevois_replan(const uint8_t *file, size_t file_length, const uint8_t *plan, size_t plan_length,
+    uint32_t minute, uint64_t goal, uint8_t *out, size_t out_length, uint32_t peaks[RUHKEVOIS_POOLS]);
 
 #ifdef __cplusplus
 }

@@ -233,8 +233,14 @@ pub fn grown_plan(r: &mut Random, job: &Job) -> (Vec<u8>, u64) {
         }
     }
     let bytes = bytes_of(&steps);
-    let held = (0..64).filter(|&n| plain::check(&Job { goal: 1 << n, ..copy(job) }, &bytes).is_ok());
-    (bytes.clone(), held.fold(0, |set, n| set | 1 << n))
+    let held = held_at_end(job, &bytes);
+    (bytes, held)
+}
+
+/// The facts that hold at the end of a plan that keeps the rules.
+pub fn held_at_end(job: &Job, plan: &[u8]) -> u64 {
+    let held = (0..64).filter(|&n| plain::check(&Job { goal: 1 << n, ..copy(job) }, plan).is_ok());
+    held.fold(0, |set, n| set | 1 << n)
 }
 
 /// Facts that some plan has together at its end: new ones, where it makes any.

@@ -1,11 +1,13 @@
-//! Compares the calls with an independent implementation in plain Rust, on random jobs, files, sets, plans and rates,
-//! through the C interface. A difference prints the seed of its case and ends with status 1.
+//! Compares the calls with an independent implementation in plain Rust, on random jobs, files, sets, plans, rates and
+//! begun days, through the C interface. A difference prints the seed of its case and ends with status 1.
 //! Arguments: number of cases, first seed.
 mod cases;
 #[allow(dead_code)]
 #[path = "../bench/plain.rs"]
 mod plain;
 mod plain_price;
+mod plain_replan;
+mod replans;
 mod simple_planner;
 use cases::Random;
 use plain::Job;
@@ -47,14 +49,37 @@ fn expected(end: Result<u64, u64>) -> u64 {
 }
 
 /// What was seen: refusals by number (0: done), prices by their bits, accepted plans and planned ones by their steps,
-/// days by the number of pools that are in use at some minute, and days with a pool of which all is in use.
+/// days by the number of pools that are in use at some minute, days with a pool of which all is in use, and replans.
 struct Seen {
-    refusals: [u64; 27],
+    refusals: [u64; 36],
     prices: [u64; 65],
     accepted: [u64; 33],
     planned: [u64; 33],
     pools: [u64; 5],
     full: u64,
+    replans: replans::Seen,
+}
+
+/// A slice lent for a plan, between other bytes, and an array lent for the peaks, between other numbers.
+struct Lent {
+    around: Vec<u8>,
+    before: Vec<u8>,
+    peaks: [u32; 6],
+}
+
+impl Lent {
+    fn new(r: &mut Random, room: usize) -> Lent {
+        let around = r.bytes(room + 32);
+        Lent { before: around.clone(), around, peaks: BEFORE }
+    }
+
+    fn out(&mut self) -> *mut u8 {
+        self.around[16..].as_mut_ptr()
+    }
+
+    fn peaks(&mut self) -> *mut u32 {
+        self.peaks[1..5].as_mut_ptr()
+    }
 }
 
 /// One case: its seed, and what was seen in all cases.
@@ -161,30 +186,31 @@ impl Case<'_> {
         self.same("earliest", answer, want);
     }
 
-    /// Plans into a slice of this length, between other bytes; gives the plan, where there is one.
+    /// The plan that the answer says is written, if it says so: nothing around it has changed, its peaks are told.
+    fn handed_out(&mut self, call: &str, lent: &Lent, answer: u64, job: &Result<Job, u64>) -> Option<Vec<u8>> {
+        let job = job.as_ref().ok().filter(|_| answer & 255 == 0);
+        let behind = 16 + job.map_or(0, |_| 3 * (answer >> 48) as usize);
+        self.same_bytes(&format!("slice before {call}"), &lent.around[..16], &lent.before[..16]);
+        self.same_bytes(&format!("slice behind {call}"), &lent.around[behind..], &lent.before[behind..]);
+        let plan = lent.around[16..behind].to_vec();
+        self.same_peaks(&format!("peaks of {call}"), lent.peaks, job, &plan);
+        job.map(|_| plan)
+    }
+
+    /// Plans into a slice of this length; gives the plan, where there is one.
     fn plan(&mut self, r: &mut Random, file: &[u8], job: &Result<Job, u64>, room: usize) -> Option<Vec<u8>> {
-        let mut around = r.bytes(room + 32);
-        let before = around.clone();
-        let out = &mut around[16..16 + room];
-        let mut peaks = BEFORE;
-        let lent = peaks[1..5].as_mut_ptr();
-        let answer = unsafe { ruhkevois_plan(file.as_ptr(), file.len(), out.as_mut_ptr(), room, lent) };
-        let steps = (answer >> 48) as usize;
+        let mut lent = Lent::new(r, room);
+        let answer = unsafe { ruhkevois_plan(file.as_ptr(), file.len(), lent.out(), room, lent.peaks()) };
         let want = match job {
             Err(number) => refused(*number),
             Ok(_) if room < 96 => refused(21),
-            Ok(job) => simple_planner::least_end(job).map_or(refused(22), |end| done(end as u64, steps as u64)),
+            Ok(job) => simple_planner::least_end(job).map_or(refused(22), |end| done(end as u64, answer >> 48)),
         };
         self.same("plan", answer, want);
-        let written = if answer & 255 == 0 { 3 * steps } else { 0 };
-        self.same_bytes("slice before the plan", &around[..16], &before[..16]);
-        self.same_bytes("slice behind the plan", &around[16 + written..], &before[16 + written..]);
-        let plan = around[16..16 + written].to_vec();
-        let job = job.as_ref().ok().filter(|_| answer & 255 == 0);
-        self.same_peaks("peaks of plan", peaks, job, &plan);
-        let job = job?;
-        self.same("end of the plan", expected(plain::check(job, &plan)), expected(Ok(answer >> 16 & 0xffff_ffff)));
-        self.seen.planned[steps] += 1;
+        let plan = self.handed_out("plan", &lent, answer, job)?;
+        let checked = job.as_ref().map_err(|n| *n).and_then(|job| plain::check(job, &plan));
+        self.same("end of the plan", expected(checked), expected(Ok(answer >> 16 & 0xffff_ffff)));
+        self.seen.planned[plan.len() / 3] += 1;
         Some(plan)
     }
 }
@@ -206,7 +232,7 @@ fn some_set(r: &mut Random, facts: u64) -> u64 {
     }
 }
 
-/// Every call on one file, whatever it holds. The planner is called where the file is refused, or the job is small.
+/// Every call on one file, whatever it holds. Plans are asked for where the file is refused, or the job is small.
 fn every_call(case: &mut Case, r: &mut Random, file: &[u8], is_small: bool) {
     let job = plain::read(file);
     case.read(file, &job);
@@ -218,15 +244,18 @@ fn every_call(case: &mut Case, r: &mut Random, file: &[u8], is_small: bool) {
     case.prices(r, file, &job, &plan);
     if is_small || job.is_err() {
         let room = if r.one_in(8) { r.below(96) } else { 96 + r.below(20) };
-        if let Some(plan) = case.plan(r, file, &job, room as usize) {
-            case.check(file, &job, &plan);
-            case.prices(r, file, &job, &plan);
-            case.check(file, &job, &cases::damage_plan(r, plan));
+        let planned = case.plan(r, file, &job, room as usize);
+        if let Some(plan) = &planned {
+            case.check(file, &job, plan);
+            case.prices(r, file, &job, plan);
+            case.check(file, &job, &cases::damage_plan(r, plan.clone()));
         }
+        replans::small_days(case, r, file, &job, planned);
     }
 }
 
-/// A plan made step by step, with the facts at its end as the goal: accepted and priced; then damaged.
+/// A plan made step by step, with the facts at its end as the goal: accepted, priced, and replanned when the day is
+/// over; then damaged.
 fn grown_plans(case: &mut Case, r: &mut Random, job: Job) {
     let mut job = if r.one_in(2) { cases::dear(r, job) } else { job };
     let (plan, held) = cases::grown_plan(r, &job);
@@ -234,6 +263,7 @@ fn grown_plans(case: &mut Case, r: &mut Random, job: Job) {
     let file = cases::file(&job);
     let job = plain::read(&file);
     case.check(&file, &job, &plan);
+    replans::over_days(case, r, &file, &job, &plan, held);
     for _ in 0..4 {
         case.prices(r, &file, &job, &plan);
         let damaged = cases::damage_plan(r, plan.clone());
@@ -280,11 +310,26 @@ fn counts(of: &[u64]) -> String {
     seen.map(|n| format!("{n} x {}", of[n])).collect::<Vec<String>>().join(", ")
 }
 
+/// A run of so many cases, the gate's, sees every refusal of the table.
+const ALL_SEEN: u64 = 100_000;
+
+/// The numbers of the table that were never told.
+fn never_told(refusals: &[u64]) -> Vec<usize> {
+    (1..=26).chain([35]).filter(|&number| refusals[number] == 0).collect()
+}
+
 fn main() {
     let argument = |i: usize, other: u64| std::env::args().nth(i).map_or(other, |x| x.parse().expect("a number"));
     let (count, first) = (argument(1, 100_000), argument(2, 1));
-    let mut seen =
-        Seen { refusals: [0; 27], prices: [0; 65], accepted: [0; 33], planned: [0; 33], pools: [0; 5], full: 0 };
+    let mut seen = Seen {
+        refusals: [0; 36],
+        prices: [0; 65],
+        accepted: [0; 33],
+        planned: [0; 33],
+        pools: [0; 5],
+        full: 0,
+        replans: replans::Seen::none(),
+    };
     for seed in first..first + count {
         one_case(&mut Case { seed, seen: &mut seen });
     }
@@ -293,5 +338,8 @@ fn main() {
     println!("plans accepted, by steps: {}", counts(&seen.accepted));
     println!("plans written, by steps: {}", counts(&seen.planned));
     println!("days, by pools in use: {}; all of a pool x {}", counts(&seen.pools), seen.full);
+    seen.replans.print();
+    let never = never_told(&seen.refusals);
+    assert!(count < ALL_SEEN || never.is_empty(), "in {count} cases none was refused by {never:?}");
     println!("{count} cases from seed {first}: {} answers, all the same", seen.refusals.iter().sum::<u64>());
 }

@@ -1,5 +1,5 @@
-//! A simple planner: the least end of a plan, by going through every state that plans reach, minute by minute. For
-//! small jobs only. Written from the document alone.
+//! A simple planner: the least end of a plan, also of a day that has begun, by going through every state that plans
+//! reach, minute by minute. For small jobs only. Written from the documents alone.
 use crate::plain::{Action, Job};
 use std::collections::HashSet;
 
@@ -55,6 +55,12 @@ fn a_minute_later(job: &Job, state: &State) -> State {
     next
 }
 
+/// The state with all the steps started that are kept and start at this minute.
+fn with_kept(job: &Job, state: &State, kept: &[(u32, usize)], minute: u32) -> State {
+    let now = kept.iter().filter(|step| step.0 == minute);
+    now.fold(state.clone(), |state, step| started(job, &state, step.1))
+}
+
 /// Every state that starting any of the actions from i on leads to, a minute later.
 fn go_on(job: &Job, state: &State, i: usize, left: u16, into: &mut HashSet<State>) {
     if i == job.actions.len() {
@@ -67,18 +73,29 @@ fn go_on(job: &Job, state: &State, i: usize, left: u16, into: &mut HashSet<State
     }
 }
 
-/// The least end of a plan that reaches the goal by the deadline, if there is one. Waiting changes nothing, so the
-/// first minute at which the goal holds and nothing runs is a plan's end.
+/// The least end of a plan that reaches the goal by the deadline, if there is one.
 pub fn least_end(job: &Job) -> Option<u16> {
+    least_end_begun(job, &[], 0)
+}
+
+/// The same where the day has begun: of the plans that have exactly these steps, as start and action, before the first
+/// free minute. The steps keep every rule. Waiting changes nothing, so the first minute at which the goal holds, all of
+/// them have been started and nothing runs is a plan's end.
+pub fn least_end_begun(job: &Job, kept: &[(u32, usize)], first_free: u32) -> Option<u16> {
     let begin = State { facts: job.start, running: Vec::new(), used: [0; 4], steps: 0 };
     let mut states = HashSet::from([begin]);
     for minute in 0..=job.deadline {
-        if states.iter().any(|s| s.running.is_empty() && job.goal & !s.facts == 0) {
+        let all_started = kept.iter().all(|step| step.0 < minute as u32);
+        if all_started && states.iter().any(|s| s.running.is_empty() && job.goal & !s.facts == 0) {
             return Some(minute);
         }
         let mut next = HashSet::new();
         for state in &states {
-            go_on(job, state, 0, job.deadline - minute, &mut next);
+            if (minute as u32) < first_free {
+                next.insert(a_minute_later(job, &with_kept(job, state, kept, minute as u32)));
+            } else {
+                go_on(job, state, 0, job.deadline - minute, &mut next);
+            }
         }
         states = next;
     }

@@ -4,7 +4,7 @@ use Prim.Native.Nat.{ℕ}
 use mathlib.Core.Path.{_≡_, refl, sym, ap, _∙_, subst}
 use mathlib.Core.List.{List}
 use lib.ListN.{length}
-use Rattle.job.specs.Job.{jobIn}
+use Rattle.job.specs.Job.{Job, jobIn}
 use Rattle.job.specs.declared.refusal.Refusal.{Refusal}
 use Rattle.job.specs.declared.refusal.Verdict.{Verdict}
 use Rattle.job.specs.declared.refusal.Verdict.the-variants.{Pass, Refused}
@@ -19,12 +19,14 @@ use Rattle.earliest.specs.declared.EarliestTime.{EarliestTime}
 use Rattle.earliest.specs.Answer.{Answers}
 use Rattle.timeline.specs.declared.Day.{Day}
 use Rattle.planner.specs.Plan.{Plans}
+use Rattle.replanner.specs.Replan.{Replans}
 use Rattle.calls.specs.Answer.{done, refusal, writtenNumber, checkedNumber, timeNumber, plannedNumber}
 use Rattle.calls.specs.Answer.{peaksBy}
-use Rattle.calls.specs.Calls.{jobOf, unlessRefused, keptIfRefused, peaksAfter, peaksByCheck, EarliestBy, PlanBy}
+use Rattle.calls.specs.Calls.{jobOf, unlessRefused, keptIfRefused, peaksAfter, peaksByCheck, EarliestBy, DayBy}
 use Rattle.calls.specs.Answer.{pricedNumber}
 use Rattle.calls.specs.Calls.{priceAnswer}
-use Rattle.calls.specs.Calls.{readAnswer, checkAnswer, rewriteAnswer, leftByRewrite, EarliestAnswers, PlanAnswers}
+use Rattle.calls.specs.Calls.{readAnswer, checkAnswer, rewriteAnswer, leftByRewrite, EarliestAnswers}
+use Rattle.calls.specs.Calls.{PlanAnswers, ReplanAnswers}
 
 module _ (file : List ℕ) (reading : Reading) (same : reading ≡ readFile file) where
   -- what the reading's verdict says is the file's
@@ -44,9 +46,10 @@ module _ (file : List ℕ) (reading : Reading) (same : reading ≡ readFile file
     pub earliest-refused : (set r : ℕ) → r ≡ refusal why → EarliestAnswers file set r
     earliest-refused set r told = subst (λ (v : Verdict). EarliestBy v (jobOf file) set r) (sym refused) told
 
-    pub plan-refused : (slice peaks : List ℕ) (r : ℕ) → r ≡ refusal why → PlanAnswers file slice peaks r slice peaks
-    plan-refused slice peaks r told =
-        subst (λ (v : Verdict). PlanBy v (jobOf file) slice peaks r slice peaks) (sym refused) (told, refl, refl)
+    pub day-refused : (promise : Day → Type 0) (slice peaks : List ℕ) (r : ℕ) → r ≡ refusal why
+        → DayBy (readFile file .verdict) promise slice peaks r slice peaks
+    day-refused promise slice peaks r told =
+        subst (λ (v : Verdict). DayBy v promise slice peaks r slice peaks) (sym refused) (told, refl, refl)
 
     pub peaks-kept : (day : Day) (peaks : List ℕ) → peaks ≡ peaksAfter (readFile file .verdict) day peaks
     peaks-kept day peaks = sym (ap (λ (v : Verdict). peaksAfter v day peaks) refused)
@@ -95,13 +98,26 @@ module _ (file : List ℕ) (reading : Reading) (same : reading ≡ readFile file
         subst (λ (v : Verdict). EarliestBy v (jobOf file) set r) (sym accepted)
         (answer, subst (λ (x : Reading). Answers (jobIn (x .job)) set answer) same told, number)
 
+    day-accepted : (promise : Job → Day → Type 0) (slice after peaks peaksThen : List ℕ) (answer : Day) (r : ℕ)
+        → promise (jobIn (reading .job)) answer → r ≡ plannedNumber answer
+        → peaksThen ≡ peaksBy (answer .verdict) (answer .peaks) peaks
+        → DayBy (readFile file .verdict) (promise (jobOf file)) slice peaks r after peaksThen
+    day-accepted promise slice after peaks peaksThen answer r told number put =
+        subst (λ (v : Verdict). DayBy v (promise (jobOf file)) slice peaks r after peaksThen) (sym accepted)
+        (answer, subst (λ (x : Reading). promise (jobIn (x .job)) answer) same told, number, put)
+
     pub plan-accepted : (slice after peaks peaksThen : List ℕ) (answer : Day) (r : ℕ)
         → Plans (jobIn (reading .job)) slice answer after → r ≡ plannedNumber answer
         → peaksThen ≡ peaksBy (answer .verdict) (answer .peaks) peaks
         → PlanAnswers file slice peaks r after peaksThen
-    plan-accepted slice after peaks peaksThen answer r told number put =
-        subst (λ (v : Verdict). PlanBy v (jobOf file) slice peaks r after peaksThen) (sym accepted)
-        (answer, subst (λ (x : Reading). Plans (jobIn (x .job)) slice answer after) same told, number, put)
+    plan-accepted slice after = day-accepted (λ J answer. Plans J slice answer after) slice after
+
+    pub replan-accepted : (plan : List ℕ) (minute goal : ℕ) (slice after peaks peaksThen : List ℕ) (answer : Day)
+        (r : ℕ) → Replans (jobIn (reading .job)) plan minute goal slice answer after → r ≡ plannedNumber answer
+        → peaksThen ≡ peaksBy (answer .verdict) (answer .peaks) peaks
+        → ReplanAnswers file plan minute goal slice peaks r after peaksThen
+    replan-accepted plan minute goal slice after =
+        day-accepted (λ J answer. Replans J plan minute goal slice answer after) slice after
 
     pub peaks-told : (plan peaks peaksThen : List ℕ) (answer : Day) → answer ≡ checkPlan (jobIn (reading .job)) plan
         → peaksThen ≡ peaksBy (answer .verdict) (answer .peaks) peaks → peaksThen ≡ peaksByCheck file plan peaks

@@ -2,7 +2,8 @@
 -- Assumes nothing.
 use Prim.Native.Nat.{ℕ, _≤_}
 use mathlib.Core.Path.{_≡_, refl, sym, ap, _∙_}
-use mathlib.Core.List.{List}
+use mathlib.Core.Bool.{Bool, true, false, cond}
+use mathlib.Core.List.{List, [], _∷_}
 use native.Mathlib.Omega.{arith}
 use lib.ListN.{length}
 use lib.Dec.{ltb}
@@ -13,7 +14,7 @@ use Rattle.job.specs.Refusal.{first}
 use Rattle.job.specs.Valid.{over, jobRows}
 use Rattle.job.specs.declared.Job as held
 use Rattle.job.specs.declared.refusal.Refusal.{Refusal}
-use Rattle.job.specs.declared.refusal.Refusal.the-variants.{NoPlan}
+use Rattle.job.specs.declared.refusal.Refusal.the-variants.{NoPlan, NoPlanWithKept}
 use Rattle.job.specs.declared.refusal.Verdict.{Verdict}
 use Rattle.job.specs.declared.refusal.Verdict.the-variants.{Pass, Refused}
 use Rattle.job.proofs.Passed.{passed}
@@ -25,10 +26,14 @@ use Rattle.jobfile.specs.File.{fileOf, decoded, fileRows}
 use Rattle.jobfile.specs.Answers.{readRows, readingOf, readFile, writeRows, writtenOf, writeFile}
 use Rattle.jobfile.proofs.Lengths.{file-fits}
 use Rattle.timeline.specs.declared.Day.{Day}
+use Rattle.timeline.specs.Step.{Step, stepsIn}
+use Rattle.timeline.specs.Accepted.{runRows}
 use Rattle.timeline.specs.Day.{noDay}
 use Rattle.timeline.proofs.PlanBytes.{few-steps-of-accepted}
-use Rattle.makespan.specs.Makespan.{Makespan, endsAt, noPlan, makespan}
+use Rattle.timeline.proofs.RunRows.{run-rows}
+use Rattle.makespan.specs.Makespan.{Makespan, endsAt, noPlan, begun, passes, makespanFrom, makespan}
 use Rattle.planner.specs.Plan.{planRefusals, PlansFor, PlansBy, Plans}
+use Rattle.replanner.specs.Replan.{replanRows, keptSteps, ReplansWith, ReplansBy, Replans}
 use Rattle.calls.specs.Answer.{ShortFile}
 
 verdict-read : (v : Verdict) (J : Job) → readingOf v J .verdict ≡ v
@@ -58,21 +63,63 @@ written-file-is-short job slice answer told n same =
     let size = w .1 in
     omega arith
 
--- a plan that is handed out has at most 32 steps, and no plan has none
+-- no plan has no steps
+few-without-day : (why : Refusal) (answer : Day) → answer ≡ noDay why → answer .steps ≤ 32
+few-without-day why answer told = let zero = ap (λ (d : Day). d .steps) told in omega arith
+
+-- a shortest plan that is handed out has at most 32 steps
+few-when-planned : (m : Makespan) (none : Refusal) (J : Job) (goal minute : ℕ) (K : List Step) (slice : List ℕ)
+    (answer : Day) (after : List ℕ) → PlansFor m none J goal minute K slice answer after → answer .steps ≤ 32
+few-when-planned (endsAt e) none J goal minute K slice answer after p =
+    let count = ap (λ (d : Day). d .steps) (p .answers) in
+    let few = few-steps-of-accepted J goal (p .bytes) (p .accepted) in
+    omega arith
+few-when-planned noPlan none J goal minute K slice answer after p = few-without-day none answer (p .answers)
+
 pub planned-steps-are-few : (J : Job) (slice : List ℕ) (answer : Day) (after : List ℕ) → Plans J slice answer after
     → answer .steps ≤ 32
 planned-steps-are-few J slice answer after plans = by-verdict (first (planRefusals J slice)) plans
   where
-    none : (why : Refusal) → answer ≡ noDay why → answer .steps ≤ 32
-    none why told = let zero = ap (λ (d : Day). d .steps) told in omega arith
-
-    by-makespan : (m : Makespan) → PlansFor m J slice answer after → answer .steps ≤ 32
-    by-makespan (endsAt e) p =
-        let count = ap (λ (d : Day). d .steps) (p .answers) in
-        let few = few-steps-of-accepted J (J .goal) (p .bytes) (p .accepted) in
-        omega arith
-    by-makespan noPlan p = none NoPlan (p .answers)
-
     by-verdict : (v : Verdict) → PlansBy v J slice answer after → answer .steps ≤ 32
-    by-verdict Pass p = by-makespan (makespan J (J .goal)) p
-    by-verdict (Refused why) p = none why (p .answers)
+    by-verdict Pass p =
+        few-when-planned (makespan J (J .goal)) NoPlan J (J .goal) 0 [] slice answer after p
+    by-verdict (Refused why) p = few-without-day why answer (p .answers)
+
+begun-no-more : (minute : ℕ) (P : List Step) → length (begun minute P) ≤ length P
+begun-no-more minute [] = omega arith
+begun-no-more minute (x ∷ P) = go (ltb (x .start) minute) (begun-no-more minute P)
+  where
+    go : (b : Bool) → length (begun minute P) ≤ length P
+        → length (cond b (x ∷ begun minute P) (begun minute P)) ≤ length (x ∷ P)
+    go true h = omega arith
+    go false h = omega arith
+
+module _ (J : Job) (current : List ℕ) (minute goal : ℕ) (slice : List ℕ) where
+  abbrev K : List Step
+  K = keptSteps J minute current
+
+  -- a current plan that passes 12 to 19 has at most 32 steps
+  kept-steps-are-few : first (replanRows J current goal slice) ≡ Pass → length K ≤ 32
+  kept-steps-are-few passes =
+      let behind-job = pass-of-append (jobRows J) _ passes .1 in
+      let behind-goal = first-pass _ _ _ behind-job .1 in
+      let runs = pass-of-append (runRows J current) _ behind-goal .0 in
+      let few = few-steps-of-accepted J 0 current (run-rows J current ∙ runs) in
+      let no-more = begun-no-more minute (stepsIn J current) in
+      omega arith
+
+  -- a shortest plan with the kept steps, and these alone
+  pub replanned-steps-are-few : (answer : Day) (after : List ℕ) → Replans J current minute goal slice answer after
+      → answer .steps ≤ 32
+  replanned-steps-are-few answer after replans = by-verdict (first (replanRows J current goal slice)) refl replans
+    where
+      with-kept : (alone : Bool) → length K ≤ 32 → ReplansWith alone J goal minute K slice answer after
+          → answer .steps ≤ 32
+      with-kept true few p = let count = ap (λ (d : Day). d .steps) (p .answers) in omega arith
+      with-kept false few p =
+          few-when-planned (makespanFrom J goal minute K) NoPlanWithKept J goal minute K slice answer after p
+
+      by-verdict : (v : Verdict) → first (replanRows J current goal slice) ≡ v
+          → ReplansBy v J goal minute K slice answer after → answer .steps ≤ 32
+      by-verdict Pass e p = with-kept (passes J goal K) (kept-steps-are-few e) p
+      by-verdict (Refused why) e p = few-without-day why answer (p .answers)

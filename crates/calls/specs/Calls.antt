@@ -16,6 +16,7 @@ use Rattle.earliest.specs.declared.EarliestTime.{EarliestTime}
 use Rattle.earliest.specs.Answer.{Answers}
 use Rattle.timeline.specs.declared.Day.{Day}
 use Rattle.planner.specs.Plan.{Plans}
+use Rattle.replanner.specs.Replan.{Replans}
 use Rattle.calls.specs.Answer.{done, refusal, writtenNumber, checkedNumber, timeNumber, plannedNumber}
 use Rattle.calls.specs.Answer.{peaksBy}
 use Rattle.calls.specs.Answer.{pricedNumber}
@@ -76,14 +77,20 @@ EarliestBy (Refused why) J set r = r ≡ refusal why
 abbrev pub EarliestAnswers : List ℕ → ℕ → ℕ → Type 0
 EarliestAnswers file set r = EarliestBy (readFile file .verdict) (jobOf file) set r
 
--- the number of a planner's answer of which its promise holds, with its peaks and the bytes left in the slice
-abbrev pub PlanBy : Verdict → Job → List ℕ → List ℕ → ℕ → List ℕ → List ℕ → Type 0
-PlanBy Pass J slice peaks r after peaksThen =
-    (answer : Day) × Plans J slice answer after × (r ≡ plannedNumber answer)
+-- the number of a day of which the promise of the inner call holds, with its peaks and the bytes left in the slice
+abbrev pub DayBy : Verdict → (Day → Type 0) → List ℕ → List ℕ → ℕ → List ℕ → List ℕ → Type 0
+DayBy Pass promise slice peaks r after peaksThen =
+    (answer : Day) × promise answer × (r ≡ plannedNumber answer)
     × (peaksThen ≡ peaksBy (answer .verdict) (answer .peaks) peaks)
-PlanBy (Refused why) J slice peaks r after peaksThen = (r ≡ refusal why) × (after ≡ slice) × (peaksThen ≡ peaks)
+DayBy (Refused why) promise slice peaks r after peaksThen = (r ≡ refusal why) × (after ≡ slice) × (peaksThen ≡ peaks)
 
 -- the answer to a file, a slice and an array for the peaks, and all that both then hold
 abbrev pub PlanAnswers : List ℕ → List ℕ → List ℕ → ℕ → List ℕ → List ℕ → Type 0
 PlanAnswers file slice peaks r after peaksThen =
-    PlanBy (readFile file .verdict) (jobOf file) slice peaks r after peaksThen
+    DayBy (readFile file .verdict) (λ answer. Plans (jobOf file) slice answer after) slice peaks r after peaksThen
+
+-- the same for a day that has begun: its current plan, the minute and the new goal
+abbrev pub ReplanAnswers : List ℕ → List ℕ → ℕ → ℕ → List ℕ → List ℕ → ℕ → List ℕ → List ℕ → Type 0
+ReplanAnswers file plan minute goal slice peaks r after peaksThen =
+    DayBy (readFile file .verdict) (λ answer. Replans (jobOf file) plan minute goal slice answer after) slice peaks r
+    after peaksThen

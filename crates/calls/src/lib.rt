@@ -7,7 +7,7 @@ ghost use Rattle.calls.specs.Answer.{packed, refusal, dayNumber, timeNum
 ghost use Rattle.calls.specs.Calls.{readAnswer, checkAnswer, peaksByCheck, rewriteAnswer, leftByRewrite};
 ghost use Rattle.calls.specs.Answer.{cost, pricedNumber, SmallPrice};
 ghost use Rattle.calls.specs.Calls.{priceAnswer, ratesIn};
-ghost use Rattle.calls.specs.Calls.{EarliestAnswers, PlanAnswers};
+ghost use Rattle.calls.specs.Calls.{EarliestAnswers, PlanAnswers, ReplanAnswers};
 use earliest::EarliestTime;
 use job::Job;
 use job::refusal::Refusal;
@@ -213,6 +213,31 @@ pub extern "C" fn ruhkevois_plan(file: &[u8], out: &mut [u8], peaks: &mut [u32; 
         return refused(why);
     }
     let day = planner::plan(reading.job, out);
+    put_peaks(peaks, day);
+    day_told(day, day.steps as u16)
+}
+
+// Replans the day of a file that has begun: writes a shortest plan for the new goal that keeps the steps of the current
+// plan begun before the minute to the front of the slice. Answers as the planner does, or the first refusal of 1 to 11,
+// 26, 24, 12 to 19 of the current plan, 21, 35. A refusal changes nothing.
+#[no_mangle]
+pub extern "C" fn ruhkevois_replan(
+    file: &[u8],
+    plan: &[u8],
+    minute: u32,
+    goal: u64,
+    out: &mut [u8],
+    peaks: &mut [u32; Job::POOLS],
+) -> u64
+    ensures { λ r. ⌜ ReplanAnswers (now (file .entry)) (now (plan .entry)) minute goal (now (out .entry))
+        (now (peaks .entry)) r (now (out .exit)) (now (peaks .exit)) ⌝ }
+{
+    let reading = reader::read(file);
+    let verdict = reading.verdict;
+    if let Verdict::Refused(why) = verdict {
+        return refused(why);
+    }
+    let day = replanner::replan(reading.job, plan, minute, goal, out);
     put_peaks(peaks, day);
     day_told(day, day.steps as u16)
 }

@@ -5,7 +5,6 @@ mod least; // for each fact the least minutes of an adder
 ghost use mathlib.Core.Path.{_≡_};
 ghost use mathlib.Core.Bool.{true};
 ghost use Prim.Native.Nat.{_≤_, _<_};
-ghost use mathlib.Core.Logic.{_⊎_};
 ghost use lib.ListN.{length};
 ghost use Rattle.facts.specs.FactSet.{has};
 ghost use Rattle.tables.specs.Tables.{Numbers};
@@ -17,6 +16,7 @@ use job::Job;
 use tables::Frame;
 use tables::layout::NumberTable;
 use tables::layout::SetTable;
+use tables::longer::longer;
 
 // No plan is longer than a day: a clique that takes more need not be added up further.
 const DAY: u64 = Job::DEADLINE as u64;
@@ -33,17 +33,6 @@ pub fn fill(sets: &mut [u64], numbers: &mut [u32], times: &[u32], frame: Frame, 
     least::fill(numbers, sets, frame.actions);
 }
 
-// The one of two facts with more minutes.
-fn longer(numbers: &[u32], p: u8, q: u8) -> u8
-    requires { ⌜ (length (now numbers) ≡ 1220) × (p < 64) × (q < 64) ⌝ }
-    ensures { λ r. ⌜ (r ≡ p) ⊎ (r ≡ q) ⌝ }
-{
-    if numbers[NumberTable::LEAST + p as usize] < numbers[NumberTable::LEAST + q as usize] {
-        return q;
-    }
-    p
-}
-
 // The fact of a set with the most minutes, 64 where the set is empty.
 fn longest(numbers: &[u32], set: u64) -> u8
     requires { ⌜ length (now numbers) ≡ 1220 ⌝ }
@@ -52,7 +41,7 @@ fn longest(numbers: &[u32], set: u64) -> u8
     let mut best = facts::next(set, 0);
     let mut q = best;
     while q < facts::BITS {
-        best = longer(numbers, best, q);
+        best = longer(numbers, NumberTable::LEAST, 1, best, q);
         q = facts::next(set, q + 1);
     }
     best

@@ -109,10 +109,6 @@ module _ (x y : ℕ) (same : SameTime x y) where
       ⊎-elim (λ e. ap (λ (n : ℕ). cond (ltb 530400 n) unreachable (at n)) e)
       (λ late. rw (lt-ltb 530400 x (late .0), lt-ltb 530400 y (late .1))) same
 
-  -- a time later than a finite one
-  pub later-than : (t : ℕ) → t < x → t ≤ 530400 → y ≤ t → ⊥
-  later-than t l finite m = ⊎-elim (λ e. omega arith) (λ late. let n = late .1 in omega arith) same
-
 pub same-time-as : (xs : List ℕ) (facts set set′ x : ℕ) → set ≡ set′ → SameTime x (setNumber xs set facts)
     → SameTime x (setNumber xs set′ facts)
 same-time-as xs facts set set′ x e h = rw (← e) h

@@ -30,12 +30,3 @@ bytes-fromBytes (b ∷ bs) h =
     let m : (b + 256 * fromBytes bs) % 256 ≡ b = omega arith in
     let d : (b + 256 * fromBytes bs) / 256 ≡ fromBytes bs = omega arith in
     rw (m, d, bytes-fromBytes bs (λ i. h (suc i)))
-
-pub number-lt : (bs : List ℕ) → Bytes bs → fromBytes bs < 256 ^ length bs
-unfolding fromBytes
-number-lt [] h = omega arith
-number-lt (b ∷ bs) h =
-    let e = pow-suc 256 (length bs) in
-    let l = h 0 in
-    let i = number-lt bs (λ j. h (suc j)) in
-    omega arith

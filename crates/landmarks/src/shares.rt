@@ -16,9 +16,6 @@ use tables::layout::SetTable;
 // Parts of a unit: a share of one unit among up to ten facts is a whole number of them.
 pub const SCALE: u64 = 2520;
 
-// A row has a number for each fact.
-const ROW_SIZE: usize = Job::FACTS as usize;
-
 // The largest share that an entry can have, and how many different ones there are.
 const LARGEST: u32 = 4_294_967_295;
 
@@ -64,7 +61,8 @@ fn within_at(sets: &[u64], numbers: &[u32], start: u64, row: usize, i: usize) ->
     ensures { λ r. ⌜ (r ≡ true → WithinAt (now (sets .entry)) (now (numbers .entry)) start row i) ⌝ }
 {
     let new = facts::difference(sets[i * SetTable::ROW + SetTable::ADDS], start);
-    sum(numbers, NumberTable::SHARES + row * ROW_SIZE, new) <= SCALE * weight(numbers, i, row)
+    let at = NumberTable::SHARES + row * NumberTable::SHARE_ROW;
+    sum(numbers, at, new) <= SCALE * weight(numbers, i, row)
 }
 
 // The same for every action.
@@ -137,7 +135,7 @@ fn put(numbers: &mut [u32], at: usize, number: u32)
     ensures { λ r. ⌜ PutFrom 64 at number (now (numbers .entry)) (now (numbers .exit)) ⌝ }
 {
     let mut k = 0;
-    while k < ROW_SIZE {
+    while k < NumberTable::SHARE_ROW {
         numbers[at + k] = number;
         k += 1;
     }
@@ -148,7 +146,7 @@ fn search(numbers: &mut [u32], sets: &[u64], actions: usize, start: u64, row: us
     requires { ⌜ (length (now sets) ≡ 384) × Numbers (now numbers) actions × (row < 9) ⌝ }
     ensures { λ r. ⌜ KeptBefore (rowAt row) 1220 (now (numbers .entry)) (now (numbers .exit)) ⌝ }
 {
-    let at = NumberTable::SHARES + row * ROW_SIZE;
+    let at = NumberTable::SHARES + row * NumberTable::SHARE_ROW;
     put(numbers, at, LARGEST);
     let mut i = 0;
     while i < actions {
@@ -167,7 +165,8 @@ fn fill_row(numbers: &mut [u32], sets: &[u64], actions: usize, start: u64, row: 
 {
     search(numbers, sets, actions, start, row);
     if !within(sets, numbers, actions, start, row) {
-        put(numbers, NumberTable::SHARES + row * ROW_SIZE, 0);
+        let at = NumberTable::SHARES + row * NumberTable::SHARE_ROW;
+        put(numbers, at, 0);
     }
 }
 

@@ -13,8 +13,8 @@ impl Pair {
     // How many rows the entries have, one for each fact.
     const ROWS: usize = 64;
 
-    // How many pairs there are of 64 facts.
-    pub const COUNT: usize = 2_080;
+    // How many pairs there are of 64 facts: 2,080.
+    pub const COUNT: usize = Pair::ROWS * (Pair::ROWS + 1) / 2;
 
     // How many pairs there are of so many facts. Their entries come first.
     pub fn count(facts: u8) -> usize

@@ -17,9 +17,6 @@ use tables::Frame;
 use tables::layout::NumberTable;
 use timeline::Plan;
 
-// A row of shares has one for each fact.
-const SHARE_ROW: usize = Job::FACTS as usize;
-
 // The most steps of a plan.
 const STEPS: u64 = Plan::STEPS as u64;
 
@@ -28,8 +25,8 @@ fn fits(numbers: &[u32], row: usize, missing: u64, used: u64, most: u64) -> bool
     requires { ⌜ (length (now numbers) ≡ 1220) × (row < 9) × (used ≤ 2 ^ 46) × (most ≤ 2 ^ 48) ⌝ }
     ensures { λ r. ⌜ r ≡ fits (now (numbers .entry)) row missing used most ⌝ }
 {
-    shares::sum(numbers, NumberTable::SHARES + row * SHARE_ROW, missing) + shares::SCALE * used
-        <= shares::SCALE * most
+    let at = NumberTable::SHARES + row * NumberTable::SHARE_ROW;
+    shares::sum(numbers, at, missing) + shares::SCALE * used <= shares::SCALE * most
 }
 
 // Whether the stores have enough left for what is missing.

@@ -15,16 +15,15 @@ use Rattle.timeline.specs.Step.{Step, strictlyRising}
 use Rattle.timeline.specs.From.{From, IsNew, IsKept}
 use Rattle.timeline.specs.Timeline.{end}
 use Rattle.timeline.specs.Accepted.{stepRows}
-use Rattle.timeline.specs.Places.{here, Member, EachStep, Permutation}
+use Rattle.timeline.specs.Places.{here, EachStep, Permutation}
 use Rattle.timeline.specs.Keeps.{OfJob, PlanOf}
 use Rattle.timeline.proofs.Places.{place-append}
 use Rattle.timeline.proofs.NewSteps.{new-from-minute}
 use Rattle.timeline.proofs.AcceptedSteps.{accepted-steps}
 use Rattle.timeline.proofs.Keeps.{keeps-of-accepted}
 use Rattle.timeline.proofs.JobSteps.{lasting-of-known}
-use Rattle.timeline.proofs.Permutations.{permutation-sym, permutation-each}
-use Rattle.timeline.proofs.Permutations.{permutation-keeps, permutation-length, permutation-of-members}
-use Rattle.timeline.proofs.Rising.{AllApart, rising-apart, apart-distinct}
+use Rattle.timeline.proofs.Permutations.{permutation-sym, permutation-each, permutation-keeps, permutation-length}
+use Rattle.timeline.proofs.Rising.{AllApart}
 use Rattle.regression.specs.DeadEnd.{NormalPlan, Until, Dead}
 use Rattle.regression.proofs.NormalPlans.{normal-plan-exists, normal-plan-apart, normal-plan-accepted}
 
@@ -45,18 +44,6 @@ module _ (J : Job) (b : From) (goal T : ℕ) where
       dead-when-none-left t l L
       (λ p.
       let accepted = normal-plan-accepted J b goal T d o (rising (normal-plan-apart J b goal T p)) p in
-      refused (accepted .0) (accepted .1))
-
-  -- R is rising, and has the steps of L
-  pub dead-when-refused-by-members : T ≤ J .deadline → (t : ℕ) → t ≤ b .minute → (L R : List Step)
-      → EachStep (λ x. Member x L) R → EachStep (λ x. Member x R) L → strictlyRising R ≡ true
-      → (first (stepRows J goal R) ≡ Pass → end R ≤ T → ⊥) → Dead J b goal T (Until b t) L
-  dead-when-refused-by-members d t l L R into back rising refused =
-      dead-when-none-left t l L
-      (λ p.
-      let apart = apart-distinct L (normal-plan-apart J b goal T p) in
-      let o = permutation-of-members R L (apart-distinct R (rising-apart R rising)) apart into back in
-      let accepted = normal-plan-accepted J b goal T d o rising p in
       refused (accepted .0) (accepted .1))
 
   -- ---- no plan

@@ -9,15 +9,14 @@ use native.Mathlib.Omega.{arith}
 use lib.Dec.{eqb}
 use borrow.Author.Tests.{eqb-true, eq-eqb, ne-eqb}
 use Rattle.facts.specs.FactSet.{has, union, difference, Subset}
-use Rattle.facts.proofs.Membership.{same-members}
 use Rattle.facts.proofs.SetLaws.{in-union-left, in-union-right, in-union-cases, in-difference, in-difference-parts}
 use Rattle.facts.proofs.SetLaws.{union-zero-left}
 use Rattle.job.specs.Job.{Job}
 use Rattle.timeline.specs.Step.{Step}
 use Rattle.timeline.specs.Timeline.{ifStops, addedAt, held}
-use Rattle.timeline.specs.Places.{Place, EachStep}
+use Rattle.timeline.specs.Places.{Place}
 use Rattle.timeline.specs.Keeps.{Keeps}
-use Rattle.timeline.proofs.Tests.{not-both, false-unless, same-test}
+use Rattle.timeline.proofs.Tests.{not-both, false-unless}
 use Rattle.timeline.proofs.Places.{unionOf-place}
 use Rattle.timeline.proofs.HeldFacts.{Added, held-comes-from}
 use Rattle.regression.specs.Wanted.{ifStarts, neededAt, wanted, wantedAt}
@@ -94,17 +93,6 @@ module _ (goal : ℕ) (P : List Step) (T : ℕ) where
         inr (parts .0, λ a. not-both (in-added P (suc t) n a) (parts .1)))
         (λ e. inl (needed-from P t n e))
         (in-union-cases (difference later (addedAt (suc t) P)) (neededAt t P) n both)
-
-  -- where no step starts at a minute and none stops at the next, the same is wanted at both
-  pub wanted-unchanged : (t : ℕ) → t < T → EachStep (λ x. x .start ≡ t → ⊥) P → EachStep (λ x. x .stop ≡ suc t → ⊥) P
-      → wantedAt goal P T t ≡ wantedAt goal P T (suc t)
-  wanted-unchanged t l starts stops =
-      same-members (wantedAt goal P T t) (wantedAt goal P T (suc t))
-      (λ n.
-      same-test (has (wantedAt goal P T t) n) _
-      (λ h.
-      ⊎-elim (λ d. absurd (starts (d .by) (d .rest) (d .place) (d .starts))) (λ c. c .0) (wanted-comes-from t n l h))
-      (λ h. wanted-when-not-added t n l h (λ a. stops (a .by) (a .rest) (a .place) (a .stops))))
 
 -- ---- a step changes nothing that is wanted at its stop or later
 module _ (goal T : ℕ) {x : Step} {Q P : List Step} (i : Place x Q P) (lasts : x .start < x .stop) where

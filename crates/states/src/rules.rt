@@ -1,7 +1,6 @@
 // Which actions may stop at the state's minute.
 ghost use mathlib.Core.Path.{_≡_};
 ghost use mathlib.Core.Bool.{true, false};
-ghost use mathlib.Core.Logic.{_⊎_};
 ghost use Prim.Native.Nat.{_+_, _<_};
 ghost use lib.ListN.{length};
 ghost use Rattle.facts.specs.FactSet.{has};
@@ -14,6 +13,7 @@ use crate::state::State;
 use tables::Frame;
 use tables::layout::NumberTable;
 use tables::layout::SetTable;
+use tables::longer::longer;
 use timeline::Plan;
 
 // Whether the sets of action i allow it to stop now: it adds a wanted fact that no other step provides, deletes none,
@@ -158,17 +158,6 @@ pub fn candidates(sets: &[u64], numbers: &[u32], frame: Frame, st: State, undeci
     found
 }
 
-// The one of two actions that lasts longer, the second where both last as long.
-fn longer(numbers: &[u32], i: u8, k: u8) -> u8
-    requires { ⌜ (length (now numbers) ≡ 1220) × (i < 64) × (k < 64) ⌝ }
-    ensures { λ r. ⌜ (r ≡ i) ⊎ (r ≡ k) ⌝ }
-{
-    if numbers[k as usize * NumberTable::ROW] < numbers[i as usize * NumberTable::ROW] {
-        return i;
-    }
-    k
-}
-
 // The candidate to take first: the longest, of equally long ones the last. Any would do; with this one the order of the
 // file's actions matters least (docs/DECISIONS.md).
 pub fn pick(numbers: &[u32], left: u64) -> u8
@@ -178,7 +167,7 @@ pub fn pick(numbers: &[u32], left: u64) -> u8
     let mut longest = facts::next(left, 0);
     let mut k = longest;
     while k < facts::BITS {
-        longest = longer(numbers, longest, k);
+        longest = longer(numbers, 0, NumberTable::ROW, k, longest);
         k = facts::next(left, k + 1);
     }
     longest

@@ -36,12 +36,15 @@ impl NumberTable {
     // Behind the rows the shares, a row of all facts for each store, then for each pool, and the last for steps.
     pub const SHARES: usize = NumberTable::ROW * Job::ACTIONS;
 
+    pub const SHARE_ROW: usize = Job::FACTS as usize;
+
     pub const STEPS_ROW: usize = Job::STORES + Job::POOLS;
 
     pub const SHARE_ROWS: usize = NumberTable::STEPS_ROW + 1;
 
     // Then the minute at which each pool opens, and for each fact the least minutes of an adder.
-    pub const OPENINGS: usize = NumberTable::SHARES + NumberTable::SHARE_ROWS * Job::FACTS as usize;
+    pub const OPENINGS: usize = NumberTable::SHARES
+        + NumberTable::SHARE_ROWS * NumberTable::SHARE_ROW;
 
     pub const LEAST: usize = NumberTable::OPENINGS + Job::POOLS;
 

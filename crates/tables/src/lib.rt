@@ -1,6 +1,7 @@
 // A job in tables of numbers, for the search to borrow; the steps that it has chosen.
 pub mod layout; // where the tables have what
 pub mod fill; // the tables of a job
+pub mod longer; // which of two has more minutes
 
 ghost use mathlib.Core.Path.{_≡_};
 ghost use Prim.Native.Nat.{_<_};

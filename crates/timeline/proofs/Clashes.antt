@@ -1,10 +1,10 @@
 -- Steps that share a minute without a clash, as facts, and the test of clashes read as such facts.
 -- Assumes nothing.
 use Prim.Native.Nat.{ℕ, _<_}
-use mathlib.Core.Path.{_≡_, refl, ap₂}
+use mathlib.Core.Path.{_≡_, ap₂}
 use mathlib.Core.Bool.{true, false, _&&_, _||_, and-comm, or-comm}
 use mathlib.Core.Logic.{⊎-elim}
-use mathlib.Core.List.{List, [], _∷_}
+use mathlib.Core.List.{List}
 use lib.Dec.{eqb, ltb}
 use borrow.Author.Tests.{eqb-false, ne-eqb, ltb-true, lt-ltb}
 use Rattle.lists.proofs.Bools.{and-left, and-right, or-left, or-right}
@@ -14,9 +14,9 @@ use Rattle.job.specs.Job.{Action}
 use Rattle.timeline.specs.Step.{Step, anyPair}
 use Rattle.timeline.specs.Timeline.{hinders, clash, overlap}
 use Rattle.timeline.specs.Accepted.{clashing}
-use Rattle.timeline.specs.Places.{Place, here, there}
+use Rattle.timeline.specs.Places.{Place}
 use Rattle.timeline.proofs.Tests.{not-both, false-unless, and-both, and-other-false, or-neither, eqb-sym}
-use Rattle.timeline.proofs.Places.{pair-none, any-of-none}
+use Rattle.timeline.proofs.Places.{pair-none}
 
 -- a deletes nothing that b needs, and nothing that b adds
 pub record Spares (a b : Action) : Type 0 where
@@ -91,11 +91,3 @@ not-clashing x y h =
     (λ e.
     let o = overlap-reads x y (and-left (overlap x y) (clash x y) e) in
     not-both (and-right (overlap x y) (clash x y) e) (h (o .0) (o .1)))
-
-pub test-of-no-clash : (P : List Step) → NoClash P → anyPair clashing P ≡ false
-test-of-no-clash [] h = refl
-test-of-no-clash (x ∷ P) h =
-    or-neither
-    (any-of-none (clashing x) P
-    (λ y R j. not-clashing x y (λ a b. compatible-no-clash x y (h x P here y R j a b))))
-    (test-of-no-clash P (λ y R j z W k. h y (x ∷ R) (there j) z (x ∷ W) (there k)))

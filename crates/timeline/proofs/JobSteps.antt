@@ -15,7 +15,7 @@ use Rattle.job.proofs.Table.{first-pass}
 use Rattle.timeline.specs.Step.{Step, noAction, stepOf, stepIn, stepsIn}
 use Rattle.timeline.specs.Timeline.{end}
 use Rattle.timeline.specs.Accepted.{Accepted, planRows, stepRows}
-use Rattle.timeline.specs.Places.{Member, EachStep}
+use Rattle.timeline.specs.Places.{EachStep}
 use Rattle.timeline.specs.Keeps.{Lasting, Keeps, OfJob}
 use Rattle.timeline.proofs.Places.{each-step}
 use Rattle.timeline.proofs.AcceptedSteps.{accepted-steps}
@@ -23,11 +23,6 @@ use Rattle.timeline.proofs.Keeps.{keeps-of-accepted}
 
 pub same-step : (J : Job) (x y : Step) → OfJob J x → OfJob J y → x .number ≡ y .number → x .start ≡ y .start → x ≡ y
 same-step J x y p q e f = p ∙ ap₂ (stepOf J) e f ∙ sym q
-
--- a member by number and start is a member
-pub member-by-number : (J : Job) (x y : Step) (Q : List Step) → OfJob J x → EachStep (OfJob J) Q → Member y Q
-    → x .number ≡ y .number → x .start ≡ y .start → Member x Q
-member-by-number J x y Q own owns m e f = rw (same-step J x y own (owns y (m .0) (m .1)) e f) m
 
 pub steps-last : (J : Job) (number start : ℕ) → Passed J → number < length (J .actions)
     → start < stepOf J number start .stop

@@ -1,17 +1,16 @@
 -- New and kept steps: every step is one of both, and none is both.
 -- Assumes nothing.
-use Prim.Native.Nat.{ℕ, _+_, _<_, _≤_}
+use Prim.Native.Nat.{ℕ, _+_, _≤_}
 use mathlib.Core.Path.{_≡_}
 use mathlib.Core.Bool.{true, or-true}
 use mathlib.Core.Logic.{_⊎_, inl, inr, ⊎-elim}
 use mathlib.Core.List.{List, _++_}
-use native.Mathlib.Nat.{eq-or-lt-of-le}
 use native.Mathlib.Omega.{arith}
 use lib.Dec.{eqb, ltb}
 use borrow.Author.Tests.{eqb-true, eq-eqb, ltb-true, lt-ltb}
 use Rattle.lists.proofs.Bools.{and-left, and-right}
 use Rattle.timeline.specs.Step.{Step}
-use Rattle.timeline.specs.From.{From, fromMinute, IsNew, IsKept, isKept, FitsFrom}
+use Rattle.timeline.specs.From.{From, IsNew, IsKept, isKept, FitsFrom}
 use Rattle.timeline.specs.Places.{EachStep}
 use Rattle.timeline.proofs.Tests.{or-cases, and-both, trichotomy, le-or-lt}
 use Rattle.timeline.proofs.Places.{append-cases}
@@ -35,10 +34,6 @@ module _ (b : From) (x : Step) where
   new-from-minute (inl n) = omega arith
   new-from-minute (inr n) = let e = n .0 in omega arith
 
-  pub kept-by-minute : IsKept b x → x .start ≤ b .minute
-  kept-by-minute (inl k) = omega arith
-  kept-by-minute (inr k) = let e = k .0 in omega arith
-
   -- a step a minute later is still new
   pub new-later : IsNew b x → IsNew b (later x)
   new-later new = let l = new-from-minute new in inl (omega arith)
@@ -58,18 +53,6 @@ module _ (b : From) (x : Step) where
   is-kept-when (inr k) =
       rw (and-both (eq-eqb (x .start) (b .minute) (k .0)) (lt-ltb (x .number) (b .number) (k .1)))
       (or-true (ltb (x .start) (b .minute)))
-
--- ---- from a minute on
-module _ (minute : ℕ) (x : Step) where
-  pub new-of-minute : minute ≤ x .start → IsNew (fromMinute minute) x
-  new-of-minute l = ⊎-elim (λ e. inr (omega arith, omega arith)) (λ m. inl m) (eq-or-lt-of-le l)
-
-  pub kept-of-minute : x .start < minute → IsKept (fromMinute minute) x
-  kept-of-minute l = inl l
-
-  pub kept-before-minute : IsKept (fromMinute minute) x → x .start < minute
-  kept-before-minute (inl k) = k
-  kept-before-minute (inr k) = let l = k .1 in absurd (omega arith)
 
 -- ---- a step that stops at minute t
 module _ (b : From) (number duration t : ℕ) where

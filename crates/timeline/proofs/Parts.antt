@@ -3,7 +3,6 @@
 use Prim.Native.Nat.{ℕ, _≤_}
 use mathlib.Core.Path.{_≡_, refl}
 use mathlib.Core.Bool.{Bool, false}
-use mathlib.Core.Logic.{⊎-elim}
 use mathlib.Core.List.{List, [], _∷_, _++_}
 use native.Mathlib.Omega.{arith}
 use lib.ListN.{length}
@@ -13,8 +12,7 @@ use Rattle.timeline.specs.Timeline.{inUse, storeUse, usedUp}
 use Rattle.timeline.specs.Accepted.{clashing}
 use Rattle.timeline.specs.Places.{Place, here, there, Member, EachStep}
 use Rattle.timeline.proofs.Tests.{or-neither}
-use Rattle.timeline.proofs.Places.{total-place, length-place, place-wider}
-use Rattle.timeline.proofs.Places.{split-place, any-of-none, pair-none, pairs-of-rest}
+use Rattle.timeline.proofs.Places.{total-place, length-place, place-wider, any-of-none, pair-none, pairs-of-rest}
 use Rattle.timeline.proofs.Clashes.{clashing-sym}
 use Rattle.timeline.proofs.Shares.{useAt}
 
@@ -64,10 +62,6 @@ pub part-whole : (P : List Step) → Part P P
 part-whole [] = nothing
 part-whole (x ∷ P) = one-more here (part-whole P)
 
-pub part-rest : {x : Step} {Q P : List Step} → Place x Q P → Part Q P
-part-rest {x} (here {Q}) = part-wider x (part-whole Q)
-part-rest (there i) = one-more here (part-rest i)
-
 pub part-left : (R K : List Step) → Part R (R ++ K)
 part-left [] K = nothing
 part-left (x ∷ R) K = one-more here (part-left R K)
@@ -75,17 +69,3 @@ part-left (x ∷ R) K = one-more here (part-left R K)
 pub part-right : (R K : List Step) → Part K (R ++ K)
 part-right [] K = part-whole K
 part-right (x ∷ R) K = part-wider x (part-right R K)
-
--- each two steps of P at different places differ
-abbrev pub Distinct : List Step → Type 0
-Distinct P = (x : Step) (Q : List Step) → Place x Q P → (y : Step) (R : List Step) → Place y R Q → y ≡ x → ⊥
-
-pub part-of-members : (R P : List Step) → Distinct R → EachStep (λ x. Member x P) R → Part R P
-part-of-members [] P distinct h = nothing
-part-of-members (x ∷ R) P distinct h =
-    let found = h x R here in
-    one-more (found .1)
-    (part-of-members R (found .0) (λ y Q j z W k. distinct y (x ∷ Q) (there j) z (x ∷ W) (there k))
-    (λ y Q j.
-    let r = h y (x ∷ Q) (there j) in
-    ⊎-elim (λ e. absurd (distinct x R here y Q j e)) (λ m. m) (split-place (found .1) (r .1))))

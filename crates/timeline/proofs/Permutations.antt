@@ -1,6 +1,6 @@
 -- The order of a plan's steps does not matter: what a plan keeps, it keeps in every order.
 -- Assumes nothing.
-use Prim.Native.Nat.{ℕ, suc, _+_, _<_, _≤_, max}
+use Prim.Native.Nat.{ℕ, suc, _+_, _<_, _≤_}
 use mathlib.Core.Path.{_≡_, refl, sym, ap, ap₂, _∙_}
 use mathlib.Core.Bool.{Bool, _||_}
 use mathlib.Core.List.{List, [], _∷_, _++_}
@@ -8,17 +8,16 @@ use native.Mathlib.Omega.{arith}
 use lib.ListN.{length}
 use Rattle.lists.specs.Lists.{any}
 use Rattle.job.specs.Job.{Job}
-use Rattle.timeline.specs.Step.{Step, anyPair, total, largest}
+use Rattle.timeline.specs.Step.{Step, anyPair, total}
 use Rattle.timeline.specs.Timeline.{held, storeUse}
 use Rattle.timeline.specs.Accepted.{clashing}
 use Rattle.timeline.specs.Places.{Place, here, there, Member, EachStep, Permutation, empty, next-step}
 use Rattle.timeline.specs.Keeps.{Keeps}
-use Rattle.timeline.proofs.Places.{any-place, total-place, largest-place}
+use Rattle.timeline.proofs.Places.{any-place, total-place}
 use Rattle.timeline.proofs.Places.{length-place, anyPair-place, place-wider, place-append}
 use Rattle.timeline.proofs.HeldFacts.{held-same-members}
 use Rattle.timeline.proofs.Clashes.{clashing-sym}
 use Rattle.timeline.proofs.Shares.{useAt}
-use Rattle.timeline.proofs.Parts.{Part, nothing, one-more, Distinct, part-length, part-of-members}
 
 -- ---- an equivalence
 pub permutation-refl : (P : List Step) → Permutation P P
@@ -67,24 +66,6 @@ permutation-member (next-step i k) (there j) = let r = permutation-member k j in
 pub permutation-each : (F : Step → Type 0) {R P : List Step} → Permutation R P → EachStep F P → EachStep F R
 permutation-each F k h x Q i = let r = permutation-member k i in h x (r .0) (r .1)
 
-pub permutation-part : {R P : List Step} → Permutation R P → Part R P
-permutation-part empty = nothing
-permutation-part (next-step i k) = one-more i (permutation-part k)
-
-pub permutation-of-part : {R P : List Step} → Part R P → length R ≡ length P → Permutation R P
-permutation-of-part {P = []} nothing e = empty
-permutation-of-part {P = x ∷ P} nothing e = absurd (omega arith)
-permutation-of-part (one-more i k) e =
-    let l = length-place i in next-step i (permutation-of-part k (omega arith))
-
-pub permutation-of-members : (R P : List Step) → Distinct R → Distinct P → EachStep (λ x. Member x P) R
-    → EachStep (λ x. Member x R) P → Permutation R P
-permutation-of-members R P r p into back =
-    let part = part-of-members R P r into in
-    let a = part-length part in
-    let b = part-length (part-of-members P R p back) in
-    permutation-of-part part (omega arith)
-
 -- ---- what is gathered is the same
 pub permutation-any : (test : Step → Bool) {R P : List Step} → Permutation R P → any test R ≡ any test P
 unfolding any
@@ -96,11 +77,6 @@ pub permutation-total : (f : Step → ℕ) {R P : List Step} → Permutation R P
 permutation-total f empty = refl
 permutation-total f (next-step {x} i k) =
     ap (λ (n : ℕ). f x + n) (permutation-total f k) ∙ sym (total-place f i)
-
-pub permutation-largest : (f : Step → ℕ) {R P : List Step} → Permutation R P → largest f R ≡ largest f P
-permutation-largest f empty = refl
-permutation-largest f (next-step {x} i k) =
-    ap (λ (n : ℕ). max (f x) n) (permutation-largest f k) ∙ sym (largest-place f i)
 
 pub permutation-length : {R P : List Step} → Permutation R P → length R ≡ length P
 permutation-length empty = refl

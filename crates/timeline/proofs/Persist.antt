@@ -1,8 +1,8 @@
 -- The needs of a step hold while it runs.
 -- Assumes nothing.
 use Prim.Native.Nat.{ℕ, zero, suc, _<_, _≤_}
-use mathlib.Core.Path.{_≡_, refl, ap}
-use mathlib.Core.Bool.{true, false}
+use mathlib.Core.Path.{_≡_, ap}
+use mathlib.Core.Bool.{true}
 use mathlib.Core.Logic.{⊎-elim}
 use mathlib.Core.List.{List}
 use native.Mathlib.Nat.{eq-or-lt-of-le}
@@ -13,7 +13,6 @@ use Rattle.timeline.specs.Step.{Step}
 use Rattle.timeline.specs.Timeline.{held}
 use Rattle.timeline.specs.Places.{Place}
 use Rattle.timeline.specs.Keeps.{Lasting, NeedsHold, Keeps}
-use Rattle.timeline.proofs.Tests.{not-both}
 use Rattle.timeline.proofs.Places.{split-place}
 use Rattle.timeline.proofs.HeldFacts.{NotDeleted, held-when-kept}
 use Rattle.timeline.proofs.Clashes.{NoClash, no-clash-of-test}
@@ -36,21 +35,6 @@ module _ (S : ℕ) (P : List Step) (lasting : Lasting P) (noClash : NoClash P) (
       held-when-kept S P t n (needs-hold-while-running x Q i t (omega arith) (omega arith) n h)
       (needs-not-deleted x Q i t (omega arith) (omega arith) n h))
       (eq-or-lt-of-le a)
-
-  -- at its stop, too, those that the step itself does not delete
-  pub needs-hold-at-stop : (x : Step) (Q : List Step) → Place x Q P → (n : ℕ) → has (x .action .needs) n ≡ true
-      → has (x .action .deletes) n ≡ false → has (held S P (x .stop)) n ≡ true
-  needs-hold-at-stop x Q i n h own = go (x .stop) refl
-    where
-      go : (t : ℕ) → x .stop ≡ t → has (held S P t) n ≡ true
-      go zero e = let l = lasting x Q i in absurd (omega arith)
-      go (suc t) e =
-          let l = lasting x Q i in
-          held-when-kept S P t n (needs-hold-while-running x Q i t (omega arith) (omega arith) n h)
-          (λ y R j s d.
-          ⊎-elim (λ q. not-both (rw q at d) own)
-          (λ r. let m = lasting y R j in noClash x Q i y (r .0) (r .1) (omega arith) (omega arith) .spared .needs n d h)
-          (split-place i j))
 
 -- of a plan that keeps the rules
 pub keeps-needs-hold : (J : Job) (T goal : ℕ) (P : List Step) → Keeps J T goal P → (x : Step) (Q : List Step)

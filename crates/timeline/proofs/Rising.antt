@@ -1,7 +1,7 @@
 -- Steps in strictly rising order of start, then number: two such lists with the same members are the same list.
 -- Assumes nothing.
 use Prim.Native.Nat.{_<_}
-use mathlib.Core.Path.{_≡_, refl, sym, ap, _∙_}
+use mathlib.Core.Path.{_≡_, refl, sym, _∙_}
 use mathlib.Core.Bool.{true, or-true}
 use mathlib.Core.Logic.{_⊎_, inl, inr, ⊎-elim}
 use mathlib.Core.List.{List, [], _∷_}
@@ -13,7 +13,6 @@ use Rattle.timeline.specs.Step.{Step, before, strictlyRising}
 use Rattle.timeline.specs.Places.{Place, here, there, Member, EachStep}
 use Rattle.timeline.proofs.Tests.{and-both, or-cases, trichotomy}
 use Rattle.timeline.proofs.Places.{split-place}
-use Rattle.timeline.proofs.Parts.{Distinct}
 
 -- ---- the order
 abbrev pub Before : Step → Step → Type 0
@@ -55,9 +54,6 @@ not-before-both x y h k = before-irreflexive x (before-trans x y x h k)
 abbrev pub Apart : Step → Step → Type 0
 Apart x y = x .start ≡ y .start → x .number ≡ y .number → ⊥
 
-pub before-apart : (x y : Step) → before x y ≡ true → Apart x y
-before-apart x y h e f = ⊎-elim (λ a. omega arith) (λ a. let l = a .1 in omega arith) (before-reads x y h)
-
 pub before-or-after : (x y : Step) → Apart x y → (before x y ≡ true) ⊎ (before y x ≡ true)
 before-or-after x y apart =
     ⊎-elim
@@ -87,16 +83,6 @@ rising-cons x (y ∷ P) h k = and-both (h y P here) k
 -- no two steps at different places have the same start and number
 abbrev pub AllApart : List Step → Type 0
 AllApart P = (x : Step) (Q : List Step) → Place x Q P → (y : Step) (R : List Step) → Place y R Q → Apart x y
-
-pub rising-apart : (P : List Step) → strictlyRising P ≡ true → AllApart P
-rising-apart (z ∷ P) h x Q here y R j = before-apart z y (rising-before z P h y R j)
-rising-apart (z ∷ P) h x Q (there {Q = W} i) y R here =
-    λ e f. before-apart z x (rising-before z P h x W i) (sym e) (sym f)
-rising-apart (z ∷ P) h x Q (there i) y R (there j) = rising-apart P (rising-rest z P h) x _ i y _ j
-
-pub apart-distinct : (P : List Step) → AllApart P → Distinct P
-apart-distinct P apart x Q i y R j e =
-    apart x Q i y R j (sym (ap (λ (z : Step). z .start) e)) (sym (ap (λ (z : Step). z .number) e))
 
 -- the first step of one list is the first of the other
 same-first : (x y : Step) (P Q : List Step) → strictlyRising (x ∷ P) ≡ true → strictlyRising (y ∷ Q) ≡ true

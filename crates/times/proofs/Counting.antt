@@ -52,9 +52,6 @@ module _ (n : ℕ) (f g : ℕ → ℕ → ℕ) (h : (p q : ℕ) → p ≤ q → 
   columns : (q : ℕ) → q < n → sumTo (suc q) (λ p. f p q) ≤ sumTo (suc q) (λ p. g p q)
   columns q l = sum-mono (suc q) (λ p. f p q) (λ p. g p q) (λ p m. h p q (omega arith) l)
 
-  table-mono : sumTo n (λ q. sumTo (suc q) (λ p. f p q)) ≤ sumTo n (λ q. sumTo (suc q) (λ p. g p q))
-  table-mono = sum-mono n (λ q. sumTo (suc q) (λ p. f p q)) (λ q. sumTo (suc q) (λ p. g p q)) columns
-
   table-same : sumTo n (λ q. sumTo (suc q) (λ p. g p q)) ≤ sumTo n (λ q. sumTo (suc q) (λ p. f p q))
       → (p q : ℕ) → p ≤ q → q < n → g p q ≤ f p q
   table-same e p q a b =

@@ -3,7 +3,6 @@
 use Prim.Native.Nat.{ℕ, _<_, _≤_}
 use mathlib.Core.Logic.{_⊎_, ⊎-elim}
 use Rattle.job.specs.Job.{Job}
-use Rattle.times.specs.Time.{unreachable}
 use Rattle.times.specs.Earliest.{Table, rightSide, Solves}
 use Rattle.times.specs.Choices.{By}
 use Rattle.times.specs.Entries.{AtLeastRightSide}
@@ -23,9 +22,6 @@ pub record Lowered (J : Job) (T U : Table) : Type 0 where
 pub solves-when-settled : (J : Job) (T : Table) → AtLeastRightSide J T → AtMostRightSide J T → Solves J T
 solves-when-settled J T least most p q a b =
     by-ext (T p q) (rightSide J T p q) (λ t. least p q t a b) (λ t. most p q t a b)
-
-pub at-least-at-first : (J : Job) → AtLeastRightSide J (λ p q. unreachable)
-at-least-at-first J p q t a b h = absurd h
 
 pub at-least-when-lowered : (J : Job) (T U : Table) → Lowered J T U → AtLeastRightSide J T → AtLeastRightSide J U
 at-least-when-lowered J T U lowered least p q t a b h =

@@ -2,14 +2,14 @@
 -- Assumes nothing.
 use Prim.Native.Nat.{ℕ, zero, suc, _/_, _%_, _^_}
 use mathlib.Core.Path.{_≡_, refl, sym, ap, _∙_}
-use mathlib.Core.Bool.{Bool, true, _||_}
+use mathlib.Core.Bool.{true}
 use mathlib.Core.Logic.{_⊎_, inl, inr, ⊎-elim}
 use native.Mathlib.Nat.{pow-succ'}
 use native.Mathlib.Omega.{arith}
 use lib.Dec.{eqb}
 use borrow.Author.Tests.{eqb-true, eq-eqb, ne-eqb}
 use Rattle.facts.specs.FactSet.{has, union, single}
-use Rattle.facts.proofs.Membership.{has-union, has-zero}
+use Rattle.facts.proofs.Membership.{has-zero}
 use Rattle.facts.proofs.SetLaws.{in-union-right, in-union-cases}
 use Rattle.timeline.proofs.Tests.{same-test}
 
@@ -29,9 +29,6 @@ has-single (suc q) (suc n) =
     eqb-suc n q =
         same-test (eqb n q) (eqb (suc n) (suc q)) (λ e. eq-eqb (suc n) (suc q) (ap suc (eqb-true n q e)))
         (λ e. let same = eqb-true (suc n) (suc q) e in eq-eqb n q (omega arith))
-
-pub has-with : (set q n : ℕ) → has (union set (single q)) n ≡ (has set n || eqb n q)
-has-with set q n = has-union set (single q) n ∙ ap (λ (b : Bool). has set n || b) (has-single q n)
 
 pub in-single : (q : ℕ) → has (single q) q ≡ true
 in-single q = has-single q q ∙ eq-eqb q q refl

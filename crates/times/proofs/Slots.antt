@@ -1,8 +1,7 @@
 -- The place of each two facts in the list of entries, and what writing one entry does to the table.
 -- Assumes nothing.
 use Prim.Native.Nat.{ℕ, zero, suc, _+_, _*_, _<_, _≤_}
-use mathlib.Core.Path.{_≡_, refl, ap}
-use mathlib.Core.Bool.{Bool, true, false, cond, _&&_}
+use mathlib.Core.Path.{_≡_, ap}
 use mathlib.Core.Logic.{_⊎_, inl, inr, ⊎-elim}
 use mathlib.Core.List.{List}
 use native.Mathlib.Nat.{le-refl, eq-or-lt-of-le}
@@ -65,13 +64,3 @@ same-pair-or-other r s p q =
     ⊎-elim (λ f. inl (eqb-true r p e, eqb-true s q f)) (λ f. inr (λ z. eqb-false s q f (z .1))) (decided (eqb s q)))
     (λ e. inr (λ z. eqb-false r p e (z .0)))
     (decided (eqb r p))
-
-pub table-after-set : (xs : List ℕ) (p q v r s : ℕ) → p ≤ q → r ≤ s → entryOf p q < length xs
-    → tableIn (set xs (entryOf p q) v) r s ≡ cond (eqb r p && eqb s q) (timeIn v) (tableIn xs r s)
-table-after-set xs p q v r s a b l = go (eqb r p) (eqb s q) refl refl
-  where
-    go : (x y : Bool) → eqb r p ≡ x → eqb s q ≡ y
-        → tableIn (set xs (entryOf p q) v) r s ≡ cond (x && y) (timeIn v) (tableIn xs r s)
-    go true true e f = rw (eqb-true r p e, eqb-true s q f) (table-at-entry-set xs p q v l)
-    go true false e f = table-at-other-entry xs p q v r s a b (λ z. eqb-false s q f (z .1))
-    go false y e f = table-at-other-entry xs p q v r s a b (λ z. eqb-false r p e (z .0))

@@ -2,7 +2,7 @@
 -- Assumes nothing.
 use Rattle.job.specs.Job.{jobIn}
 use Rattle.calls.proofs.Fitting.{planned-steps-are-few}
-use Rattle.calls.proofs.CallLaws.{plan-refused, plan-accepted}
+use Rattle.calls.proofs.CallLaws.{day-refused, plan-accepted}
 use native.Mathlib.Omega.{arith}
 use borrow.Author.Needs.{needs}
 use Rattle.calls.proofs.ruhkevois_plan.Statement.{statement}
@@ -20,7 +20,7 @@ refused-requires c κs = search needs
 returns : tie.Need-returns
 returns c =
     let c-read = c .before .before .before .before .read in
-    plan-refused _ _ (c-read .ensures .answers) _ (c .before .before .verdict .given .1) _ _ _ (c .refused .ensures)
+    day-refused _ _ (c-read .ensures .answers) _ (c .before .before .verdict .given .1) _ _ _ _ (c .refused .ensures)
 
 enum-told : tie.Need-enum-told
 enum-told c = search needs
@@ -50,11 +50,12 @@ same-length c = search needs
 returns-2 : tie.Need-returns-2
 returns-2 c =
     let at8 = c .before .before .before .before .before .before .before .before in
+    let c-args = at8 .before .before .before .before .before .args in
     let c-read = at8 .before .before .read in
-    let c-enum-told = c .before .before .before .before .before .before .before .before .enum-told in
+    let c-enum-told = at8 .enum-told in
     let c-plan = c .before .before .before .before .before .before .plan in
-    plan-accepted _ _ (c-read .ensures .answers) (c-enum-told .given .1) _ _ _ _ _ _ (c-plan .ensures) (c .day-told .ensures)
-    (c .before .before .put-peaks .ensures)
+    plan-accepted _ _ (c-read .ensures .answers) (c-enum-told .given .1) (c-args .out .now) _ (c-args .peaks .now) _
+    (c-plan .result) _ (c-plan .ensures) (c .day-told .ensures) (c .before .before .put-peaks .ensures)
 
 pub ruhkevois-plan-spec : {M : Type 1} → statement M
 ruhkevois-plan-spec =

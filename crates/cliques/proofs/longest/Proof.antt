@@ -25,7 +25,7 @@ loop-holds c = let next = c .next .ensures in (next .within, next .found, omega 
 longer-requires : tie.Need-longer-requires Inv-loop μ-loop
 longer-requires c κs =
     let c-pre = c .before .before .before .before .pre in
-    let inv = c .before .loop .inv in let low = inv .2 in (c-pre, omega arith, omega arith)
+    let inv = c .before .loop .inv in let low = inv .2 in (c-pre, omega arith, omega arith, omega arith)
 
 add-next : tie.Need-add-next Inv-loop μ-loop
 add-next c = omega arith

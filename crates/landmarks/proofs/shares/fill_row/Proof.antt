@@ -17,17 +17,15 @@ within-requires c κs =
     let h = c-pre in
     (h .0, numbers-kept _ _ _ _ (omega arith) (c-search .ensures) (h .1), h .2)
 
-mul-put : tie.Need-mul-put
-mul-put c =
+mul-at : tie.Need-mul-at
+mul-at c =
     let at8 = c .before .before .before .before .before .before .before .before in
-    let c-pre = at8 .before .before .pre in
-    let h = c-pre in omega arith
+    let h = at8 .before .pre in omega arith
 
-add-put : tie.Need-add-put
-add-put c =
+add-at : tie.Need-add-at
+add-at c =
     let at8 = c .before .before .before .before .before .before .before .before in
-    let c-pre = at8 .before .before .pre in
-    let h = c-pre in omega arith
+    let h = at8 .before .pre in omega arith
 
 put-requires : tie.Need-put-requires
 put-requires c κs =
@@ -71,8 +69,8 @@ fill-row-spec =
     (tie.spec
     search-requires
     within-requires
-    mul-put
-    add-put
+    mul-at
+    add-at
     put-requires
     same-length
     returns

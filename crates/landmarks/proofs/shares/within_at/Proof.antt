@@ -22,11 +22,11 @@ shared-slice-read-difference c = let h = c .before .before .before .pre in omega
 difference-requires : tie.Need-difference-requires
 difference-requires c κs = tt
 
-mul-sum : tie.Need-mul-sum
-mul-sum c = search needs
+mul-at : tie.Need-mul-at
+mul-at c = search needs
 
-add-sum : tie.Need-add-sum
-add-sum c = search needs
+add-at : tie.Need-add-at
+add-at c = search needs
 
 sum-requires : tie.Need-sum-requires
 sum-requires c κs =
@@ -57,8 +57,8 @@ within-at-spec =
     mul-difference-2
     shared-slice-read-difference
     difference-requires
-    mul-sum
-    add-sum
+    mul-at
+    add-at
     sum-requires
     weight-requires
     mul-result

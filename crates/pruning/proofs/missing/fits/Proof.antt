@@ -8,11 +8,11 @@ use borrow.Author.Needs.{needs}
 use Rattle.pruning.proofs.missing.fits.Statement.{statement}
 use Rattle.pruning.proofs.missing.fits.Tie as tie
 
-mul-sum : tie.Need-mul-sum
-mul-sum c = search needs
+mul-at : tie.Need-mul-at
+mul-at c = search needs
 
-add-sum : tie.Need-add-sum
-add-sum c = search needs
+add-at : tie.Need-add-at
+add-at c = search needs
 
 sum-requires : tie.Need-sum-requires
 sum-requires c κs = let h = c .before .pre in (h .0, omega arith)
@@ -33,4 +33,4 @@ returns c =
 
 pub fits-spec : {M : Type 1} → statement M
 fits-spec =
-    tie.close (tie.spec mul-sum add-sum sum-requires mul-result add-result mul-result-2 returns)
+    tie.close (tie.spec mul-at add-at sum-requires mul-result add-result mul-result-2 returns)

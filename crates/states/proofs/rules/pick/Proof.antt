@@ -29,7 +29,7 @@ loop-holds c =
 longer-requires : tie.Need-longer-requires Inv-loop μ-loop
 longer-requires c κs =
     let c-pre = c .before .before .before .before .pre in
-    (c-pre .0, c .before .loop .inv .2, c .loop-test .taken)
+    (c-pre .0, omega arith, c .loop-test .taken, c .before .loop .inv .2)
 
 add-next : tie.Need-add-next Inv-loop μ-loop
 add-next c = omega arith
@@ -46,8 +46,8 @@ loop-again c =
     let next = c .next2 .ensures in
     let inv = c-loop .inv in
     let here = c .before .before .loop-test .taken in
-    ⊎-elim (λ same. (next .within, next .found, rw same (inv .2), rw same (inv .3)))
-    (λ same. (next .within, next .found, rw same here, rw same (inv .1 here))) (c .before .longer .ensures)
+    ⊎-elim (λ same. (next .within, next .found, rw same here, rw same (inv .1 here)))
+    (λ same. (next .within, next .found, rw same (inv .2), rw same (inv .3))) (c .before .longer .ensures)
 
 returns : tie.Need-returns Inv-loop μ-loop
 returns c = (c .before .loop .inv .2, c .before .loop .inv .3)
