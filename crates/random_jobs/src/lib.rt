@@ -2,7 +2,7 @@
 // uses more of a pool or store than there is (26). What stands beyond the counts is drawn as well, since it is to be
 // ignored.
 mod actions; // the actions of a job
-mod draw; // random numbers and sets of facts
+pub mod draw; // random numbers and sets of facts
 
 ghost use Prim.Native.Nat.{_≤_, _<_};
 use job::Counts;

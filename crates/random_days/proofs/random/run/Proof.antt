@@ -11,11 +11,20 @@ Inv-loop seeds totals₀ seed₀ totals seed = Unit {0}
 abbrev μ-loop : tie.MeasureT-loop
 μ-loop seeds totals₀ seed₀ totals seed = seeds - seed
 
+none-requires : tie.Need-none-requires Inv-loop μ-loop
+none-requires c κs = search needs
+
 loop-holds : tie.Need-loop-holds Inv-loop μ-loop
 loop-holds c = search needs
 
-counted-requires : tie.Need-counted-requires Inv-loop μ-loop
-counted-requires c κs = search needs
+random-job-requires : tie.Need-random-job-requires Inv-loop μ-loop
+random-job-requires c κs = search needs
+
+compare-requires : tie.Need-compare-requires Inv-loop μ-loop
+compare-requires c κs = search needs
+
+with-requires : tie.Need-with-requires Inv-loop μ-loop
+with-requires c κs = search needs
 
 add-seed : tie.Need-add-seed Inv-loop μ-loop
 add-seed c = search needs
@@ -35,8 +44,11 @@ run-spec =
     (tie.spec
     Inv-loop
     μ-loop
+    none-requires
     loop-holds
-    counted-requires
+    random-job-requires
+    compare-requires
+    with-requires
     add-seed
     loop-less
     loop-again

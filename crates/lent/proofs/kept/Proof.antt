@@ -1,10 +1,10 @@
--- `compare::kept` is safe and ends. The measure is the number of bytes left.
+-- `kept` is safe and ends. The measure is the number of bytes left.
 -- Assumes nothing.
 use Prim.Native.Nat.{_-_}
 use lib.ListN.{length}
 use borrow.Author.Needs.{needs}
-use Rattle.random_days.proofs.compare.kept.Statement.{statement}
-use Rattle.random_days.proofs.compare.kept.Tie as tie
+use Rattle.lent.proofs.kept.Statement.{statement}
+use Rattle.lent.proofs.kept.Tie as tie
 
 abbrev Inv-loop : tie.InvT-loop
 Inv-loop slice from i₀ i = Unit {0}
