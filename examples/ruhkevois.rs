@@ -1,7 +1,8 @@
 //! The calls for Rust: safe functions over the exported ones, with answers taken apart.
 //! Copy this file into your program.
 
-mod exported {
+/// The calls as the library has them.
+pub mod exported {
     extern "C" {
         pub fn ruhkevois_read(file: *const u8, length: usize) -> u64;
         pub fn ruhkevois_rewrite(file: *const u8, length: usize, out: *mut u8, room: usize) -> u64;

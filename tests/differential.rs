@@ -8,27 +8,14 @@ mod plain;
 mod plain_price;
 mod plain_replan;
 mod replans;
+#[allow(dead_code)]
+#[path = "../examples/ruhkevois.rs"]
+mod ruhkevois;
 mod simple_planner;
 use cases::Random;
 use plain::Job;
 use plain_price::Rates;
-
-extern "C" {
-    fn ruhkevois_read(file: *const u8, length: usize) -> u64;
-    fn ruhkevois_rewrite(file: *const u8, length: usize, out: *mut u8, room: usize) -> u64;
-    fn ruhkevois_check(file: *const u8, length: usize, plan: *const u8, bytes: usize, peaks: *mut u32) -> u64;
-    fn ruhkevois_price(
-        file: *const u8,
-        length: usize,
-        plan: *const u8,
-        bytes: usize,
-        pools: *const u32,
-        stores: *const u32,
-        evening: u32,
-    ) -> u64;
-    fn ruhkevois_earliest(file: *const u8, length: usize, set: u64) -> u64;
-    fn ruhkevois_plan(file: *const u8, length: usize, out: *mut u8, room: usize, peaks: *mut u32) -> u64;
-}
+use ruhkevois::exported::*;
 
 const UNREACHABLE: u64 = 2;
 

@@ -2,21 +2,8 @@
 use crate::cases::{self, Random};
 use crate::plain::Job;
 use crate::plain_replan::{self, Asked, Day};
+use crate::ruhkevois::exported::ruhkevois_replan;
 use crate::{done, expected, refused, Case, Lent};
-
-extern "C" {
-    fn ruhkevois_replan(
-        file: *const u8,
-        length: usize,
-        plan: *const u8,
-        bytes: usize,
-        minute: u32,
-        goal: u64,
-        out: *mut u8,
-        room: usize,
-        peaks: *mut u32,
-    ) -> u64;
-}
 
 /// The kinds of minutes: a minute is of the first kind that fits.
 const MINUTES: [&str; 8] =
