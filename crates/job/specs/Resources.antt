@@ -1,9 +1,10 @@
 -- What an action takes of pools and stores, and for how long. Whatever a rule about resources changes, changes here:
 -- everything above goes by these names.
 -- Assumes nothing.
-use Prim.Native.Nat.{ℕ}
+use Prim.Native.Nat.{ℕ, _<_}
+use mathlib.Core.Path.{_≡_}
 use mathlib.Core.List.{List}
-use lib.ListN.{getD}
+use lib.ListN.{length, getD}
 use Rattle.job.specs.declared.Action as act
 use Rattle.job.specs.declared.Job as held
 use Rattle.job.specs.Job.{Action, Job}
@@ -21,6 +22,10 @@ unfoldable pub storeCap : Job → ℕ → ℕ
 storeCap J store = getD (J .stores) store 0
 
 -- ---- the same in a value, place by place
+
+-- the numbers are the handovers of the job's pools
+abbrev pub HandoversOf : Job → List ℕ → Type 0
+HandoversOf J handovers = (pool : ℕ) → pool < length (J .pools) → getD handovers pool 0 ≡ handover J pool
 
 -- what a step of the action uses up of each store
 abbrev pub chargedIn : held.Job → act.Action → List ℕ

@@ -1,8 +1,16 @@
-// What an action takes of the stores, and how much of them may be used up.
+// What an action takes of pools and stores: how long shares of pools stay in use, how much of the stores is used up.
 ghost use mathlib.Core.Path.{_≡_};
-ghost use Rattle.job.specs.Resources.{chargedIn, allowedIn};
+ghost use Rattle.job.specs.Job.{jobIn};
+ghost use Rattle.job.specs.Resources.{HandoversOf, chargedIn, allowedIn};
 use crate::Action;
 use crate::Job;
+
+// How many minutes a share of each pool stays in use after its step.
+pub fn handovers(job: Job) -> [u8; Job::POOLS]
+    ensures { λ r. ⌜ HandoversOf (jobIn job) r ⌝ }
+{
+    [0u8; Job::POOLS]
+}
 
 // What a step of the action uses up of each store.
 pub fn charged(job: Job, action: Action) -> [u32; Job::STORES]
