@@ -1,5 +1,6 @@
 mod Latest
 mod Entries
+mod FactsLeft
 pub mod SetTimes
 mod ChoiceLaws
 mod Longer

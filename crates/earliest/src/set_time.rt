@@ -54,12 +54,14 @@ fn row_by(table: &[u32], set: u64, high: u8, limit: u32) -> bool
     ensures { λ r. ⌜ (r ≡ false → limit < rowNumber (now (table .entry)) set high (suc high)) ⌝ }
 {
     let first = pairs::entry(0, high);
-    let mut low = facts::next(set, 0);
+    let mut left = set;
+    let mut low = facts::next(left, 0);
     while low <= high {
         if limit < table[first + low as usize] {
             return false;
         }
-        low = facts::next(set, low + 1);
+        left = facts::difference(left, facts::single(low));
+        low = facts::next(left, 0);
     }
     true
 }
@@ -69,12 +71,14 @@ pub fn by(table: &[u32], facts: u8, set: u64, limit: u32) -> bool
     requires { ⌜ (length (now table) ≡ 2080) × (facts ≤ 64) ⌝ }
     ensures { λ r. ⌜ (r ≡ false → limit < setNumber (now (table .entry)) set facts) ⌝ }
 {
-    let mut high = facts::next(set, 0);
+    let mut left = set;
+    let mut high = facts::next(left, 0);
     while high < facts {
         if !row_by(table, set, high, limit) {
             return false;
         }
-        high = facts::next(set, high + 1);
+        left = facts::difference(left, facts::single(high));
+        high = facts::next(left, 0);
     }
     true
 }

@@ -7,12 +7,11 @@ use mathlib.Core.Logic.{_⊎_, inl, inr, ⊎-elim}
 use mathlib.Core.List.{List}
 use native.Mathlib.Nat.{eq-or-lt-of-le}
 use native.Mathlib.Omega.{arith}
-use lib.Bits.{bitAnd, and-le-l, and-le-r}
-use lib.Dec.{eqb}
-use borrow.Author.Tests.{eqb-true, eqb-false, not-true}
-use Rattle.facts.specs.FactSet.{has, difference, single, subset, meets, Subset, NextFact}
+use lib.Bits.{bitAnd, and-le-r}
+use borrow.Author.Tests.{eqb-true}
+use Rattle.facts.specs.FactSet.{has, single, subset, Subset, NextFact}
 use Rattle.facts.proofs.Membership.{has-zero, some-member, subset-decides, word-within}
-use Rattle.facts.proofs.SetLaws.{in-union-left, in-union-right, in-union-cases, in-both-meets}
+use Rattle.facts.proofs.SetLaws.{in-union-left, in-union-right, in-union-cases}
 use Rattle.timeline.proofs.Tests.{not-both, false-unless, le-or-lt}
 use Rattle.times.proofs.Singles.{in-single, only-in-single}
 use Rattle.tables.specs.declared.Frame.{Frame}
@@ -91,13 +90,4 @@ unfolding subset
 subset-at-most a b inside =
     let same = eqb-true (bitAnd a b) a (subset-decides a b .complete inside) in
     let most = and-le-r a b in
-    omega arith
-
-pub less-without : (set i : ℕ) → has set i ≡ true → difference set (single i) < set
-unfolding difference meets
-less-without set i member =
-    let some = eqb-false (bitAnd set (single i)) 0
-    (not-true (eqb (bitAnd set (single i)) 0) (in-both-meets set (single i) i member (in-single i))) in
-    let most = and-le-l set (single i) in
-    let positive : bitAnd set (single i) ≡ 0 → ⊥ = some in
     omega arith

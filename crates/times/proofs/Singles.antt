@@ -1,16 +1,17 @@
--- The set of one fact: its members, and those of a set joined with it.
+-- The set of one fact: its members, those of a set joined with it, and a set without it.
 -- Assumes nothing.
-use Prim.Native.Nat.{ℕ, zero, suc, _/_, _%_, _^_}
+use Prim.Native.Nat.{ℕ, zero, suc, _/_, _%_, _^_, _<_}
 use mathlib.Core.Path.{_≡_, refl, sym, ap, _∙_}
 use mathlib.Core.Bool.{true}
 use mathlib.Core.Logic.{_⊎_, inl, inr, ⊎-elim}
 use native.Mathlib.Nat.{pow-succ'}
 use native.Mathlib.Omega.{arith}
+use lib.Bits.{bitAnd, and-le-l}
 use lib.Dec.{eqb}
-use borrow.Author.Tests.{eqb-true, eq-eqb, ne-eqb}
-use Rattle.facts.specs.FactSet.{has, union, single}
+use borrow.Author.Tests.{eqb-true, eqb-false, eq-eqb, ne-eqb, not-true}
+use Rattle.facts.specs.FactSet.{has, union, difference, meets, single}
 use Rattle.facts.proofs.Membership.{has-zero}
-use Rattle.facts.proofs.SetLaws.{in-union-right, in-union-cases}
+use Rattle.facts.proofs.SetLaws.{in-union-right, in-union-cases, in-both-meets}
 use Rattle.timeline.proofs.Tests.{same-test}
 
 pub has-single : (q n : ℕ) → has (single q) n ≡ eqb n q
@@ -42,3 +43,13 @@ in-with set q = in-union-right set (single q) q (in-single q)
 pub in-with-cases : (set q n : ℕ) → has (union set (single q)) n ≡ true → (has set n ≡ true) ⊎ (n ≡ q)
 in-with-cases set q n h =
     ⊎-elim (λ e. inl e) (λ e. inr (only-in-single q n e)) (in-union-cases set (single q) n h)
+
+-- the set without a member is a smaller number
+pub less-without : (set i : ℕ) → has set i ≡ true → difference set (single i) < set
+unfolding difference meets
+less-without set i member =
+    let some = eqb-false (bitAnd set (single i)) 0
+    (not-true (eqb (bitAnd set (single i)) 0) (in-both-meets set (single i) i member (in-single i))) in
+    let most = and-le-l set (single i) in
+    let positive : bitAnd set (single i) ≡ 0 → ⊥ = some in
+    omega arith

@@ -10,7 +10,8 @@ use Rattle.job.specs.Job.{Job}
 use Rattle.tables.specs.Tables.{chosen}
 use Rattle.leaf.specs.declared.Answer.{Answer}
 use Rattle.states.specs.States.{Stands, DeadFor, MayStop, OpenIn}
-use Rattle.states.proofs.CandidateLaws.{subset-at-most, less-without}
+use Rattle.states.proofs.CandidateLaws.{subset-at-most}
+use Rattle.times.proofs.Singles.{less-without}
 use Rattle.search.specs.Search.{TaskOf}
 use Rattle.search.proofs.Completeness.{dead-past-barred, dead-either}
 use Rattle.search.proofs.Steps.{starts-in-time, ready-back, fresh-back, stands-back, dead-when-back}
