@@ -1,7 +1,6 @@
 // The calls, and what is printed of their answers.
 use crate::Record;
-use crate::lent;
-use crate::lent::front;
+use crate::lending;
 use crate::peaks;
 use crate::rates;
 use crate::replans;
@@ -10,13 +9,13 @@ use job::Job;
 use job::refusal::Refusal;
 use job::refusal::Verdict;
 use jobfile::Written;
+use lent::front;
 use libc::STDOUT_FILENO;
 use made_jobs::parts::same_everywhere;
 use output::number;
 use output::text;
 use price::Priced;
 use timeline::Day;
-use timeline::Plan;
 
 fn refused(why: Refusal) {
     text(b"refused ");
@@ -74,8 +73,8 @@ fn answer_asked(job: Job, call: u8, set: u64, plan: &[u8]) {
 
 // The job is written into a slice of so many bytes.
 fn print_rewritten(job: Job, file: &[u8], length: usize) {
-    let mut slice = [lent::FILL; lent::ROOM];
-    match lent::write(&mut slice, length, job) {
+    let mut slice = [lent::FILL; lending::ROOM];
+    match lending::write(&mut slice, length, job) {
         Written::Length(size) => {
             number(size as u64);
             choose(
@@ -94,9 +93,9 @@ fn print_rewritten(job: Job, file: &[u8], length: usize) {
 
 // The bytes that the writer makes, from one place up to another, in hexadecimal digits.
 fn print_bytes(job: Job, from: usize, to: usize) {
-    let mut slice = [lent::FILL; lent::ROOM];
-    lent::write(&mut slice, lent::ROOM, job);
-    digits(lent::rest(front(&slice, to), from));
+    let mut slice = [lent::FILL; lending::ROOM];
+    lending::write(&mut slice, lending::ROOM, job);
+    digits(lending::rest(front(&slice, to), from));
 }
 
 fn digits(bytes: &[u8]) {
@@ -121,7 +120,7 @@ fn print_end(end: u32) {
 fn print_no_day(why: Refusal, day: Day) {
     refused(why);
     choose(
-        peaks::same(day, Day::refused(why)),
+        lent::same_peaks(day, Day::refused(why)),
         b"",
         b", peaks not zero",
     );
@@ -140,7 +139,11 @@ fn print_checked(job: Job, day: Day) {
 
 // The price of a plan, before which its rates stand.
 fn priced(job: Job, given: &[u8]) -> Priced {
-    price::price(job, rates::rates_in(given), lent::rest(given, rates::BYTES))
+    price::price(
+        job,
+        rates::rates_in(given),
+        lending::rest(given, rates::BYTES),
+    )
 }
 
 fn print_price(price: Priced) {
@@ -163,34 +166,10 @@ fn print_time(time: EarliestTime) {
     }
 }
 
-// Whether the checker accepts the plan for the goal, with the end and the peaks that are told of it.
-fn accepted(job: Job, goal: u64, plan: &[u8], told: Day) -> bool {
-    let day = checker::check_for(job, goal, plan);
-    let verdict = day.verdict;
-    match verdict {
-        Verdict::Pass => (day.end == told.end) & peaks::same(day, told),
-        Verdict::Refused(_) => false,
-    }
-}
-
-// The day's steps at the front of the slice.
-pub fn steps_in(slice: &[u8], day: Day) -> &[u8] {
-    if Plan::STEPS < day.steps {
-        return slice;
-    }
-    front(slice, day.steps * Plan::STEP)
-}
-
-// Whether the day's steps stand at the front of the slice and are accepted as told, and the rest is as before.
-fn handed_out(job: Job, goal: u64, slice: &[u8], day: Day) -> bool {
-    let plan = steps_in(slice, day);
-    accepted(job, goal, plan, day) & lent::kept(slice, plan.len())
-}
-
 // The planner is lent a slice of so many bytes.
 fn print_plan(job: Job, length: usize) {
-    let mut slice = [lent::FILL; lent::ROOM];
-    let day = lent::plan(&mut slice, length, job);
+    let mut slice = [lent::FILL; lending::ROOM];
+    let day = lending::plan(&mut slice, length, job);
     print_day(job, job.goal, &slice, day);
 }
 
@@ -212,5 +191,9 @@ fn print_handed_out(job: Job, goal: u64, slice: &[u8], day: Day) {
     number(day.steps as u64);
     text(b" steps");
     peaks::print(job, day);
-    choose(handed_out(job, goal, slice, day), b"", b", wrong bytes");
+    choose(
+        lent::handed_out(job, goal, slice, day, day.end),
+        b"",
+        b", wrong bytes",
+    );
 }

@@ -1,13 +1,13 @@
 // Runs the records in the file `records`, which tests/records makes from the tables in tests/tables: one call a record.
 // Prints a line for each, its title and the answer, under headings with the document's sentence.
 mod calls; // the calls and their answers
-mod lent; // a lent slice, and what it holds afterwards
+mod lending; // the slices that are lent
 mod peaks; // the peaks of a day
 mod rates; // the rates of a price
 mod replans; // begun days, planned anew
 
+use lending::rest;
 use lent::front;
-use lent::rest;
 
 // The bytes of a record's head, and room for the longest body.
 const HEAD: usize = 16;

@@ -27,10 +27,3 @@ pub fn print(job: Job, day: Day) {
     print_one(2 < pools, peaks[2]);
     print_one(3 < pools, peaks[3]);
 }
-
-// Whether two days have the same peaks.
-pub fn same(a: Day, b: Day) -> bool {
-    let p = a.peaks;
-    let q = b.peaks;
-    (p[0] == q[0]) & (p[1] == q[1]) & (p[2] == q[2]) & (p[3] == q[3])
-}

@@ -1,12 +1,12 @@
 // Begun days, planned anew.
 use crate::Record;
 use crate::calls::print_day;
-use crate::calls::steps_in;
-use crate::lent;
-use crate::lent::front;
-use crate::lent::rest;
+use crate::lending;
+use crate::lending::rest;
 use job::Job;
 use job::refusal::Verdict;
+use lent::first_steps;
+use lent::front;
 use output::number;
 use output::text;
 use timeline::Day;
@@ -24,12 +24,12 @@ fn minute_in(given: &[u8]) -> u32 {
 
 // The replanner is lent a slice of so many bytes.
 pub fn print(job: Job, record: Record, given: &[u8]) {
-    let mut slice = [lent::FILL; lent::ROOM];
+    let mut slice = [lent::FILL; lending::ROOM];
     let current = rest(given, MINUTE);
     let minute = minute_in(given);
-    let day = lent::replan(&mut slice, record.room, job, current, minute, record.set);
+    let day = lending::replan(&mut slice, record.room, job, current, minute, record.set);
     print_day(job, record.set, &slice, day);
-    print_kept(current, minute, steps_in(&slice, day), day);
+    print_kept(current, minute, first_steps(&slice, day.steps), day);
 }
 
 // How many steps are kept, where there is a day.

@@ -39,7 +39,7 @@ pub fn kept(slice: &[u8], from: usize) -> bool {
 }
 
 // Whether two days have the same peaks.
-fn same_peaks(a: Day, b: Day) -> bool {
+pub fn same_peaks(a: Day, b: Day) -> bool {
     let p = a.peaks;
     let q = b.peaks;
     (p[0] == q[0]) & (p[1] == q[1]) & (p[2] == q[2]) & (p[3] == q[3])

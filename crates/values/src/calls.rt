@@ -9,9 +9,7 @@ use price::Priced;
 use price::Rates;
 use timeline::Day;
 
-// What a byte of a lent slice holds before, and the bytes of the longest slice.
-pub const FILL: u8 = 170;
-
+// The bytes of the longest slice that is lent.
 pub const ROOM: usize = 4_200;
 
 // The number of a refusal, 0 for none.
@@ -60,18 +58,6 @@ fn rates_over() -> Rates {
     }
 }
 
-// Whether every byte is as before.
-fn kept(slice: &[u8]) -> bool {
-    let mut i = 0;
-    while i < slice.len() {
-        if slice[i] != FILL {
-            return false;
-        }
-        i += 1;
-    }
-    true
-}
-
 // The writer and the planner, lent the same slice.
 fn lend(job: Job, slice: &mut [u8]) {
     show(b"write ", written(writer::write(job, slice)));
@@ -88,10 +74,10 @@ fn lend_front(job: Job, slice: &mut [u8], length: usize) {
 }
 
 // The same, and whether the slice is as before.
-fn lent(job: Job, length: usize) {
-    let mut slice = [FILL; ROOM];
+fn lend_filled(job: Job, length: usize) {
+    let mut slice = [lent::FILL; ROOM];
     lend_front(job, &mut slice, length);
-    if kept(&slice) {
+    if lent::kept(&slice, 0) {
         text(b", slice kept");
     } else {
         text(b", slice changed");
@@ -114,7 +100,7 @@ fn show_day(call: &[u8], day: Day) {
 // The refusal of each call: with a slice of so many bytes, this plan and this set.
 pub fn refusals(case: &[u8], job: Job, length: usize, plan: &[u8], set: u64) {
     output::name(case);
-    lent(job, length);
+    lend_filled(job, length);
     show_day(b", check ", checker::check(job, plan));
     show_day(b", check for ", checker::check_for(job, set, plan));
     show(b", price ", priced(price::price(job, rates_over(), plan)));

@@ -4,18 +4,10 @@ use crate::filled::filled;
 use crate::jobs;
 use job::Job;
 use jobfile::Written;
+use lent::front;
 use made_jobs::days;
 use made_jobs::parts::same_everywhere;
 use output::text;
-
-// The first bytes, so many, or all where there are fewer.
-fn front(bytes: &[u8], length: usize) -> &[u8] {
-    if length <= bytes.len() {
-        &bytes[0..length]
-    } else {
-        bytes
-    }
-}
 
 // The length of the file that is written; 0 where the writer refuses.
 fn write(job: Job, out: &mut [u8]) -> usize {

@@ -1,22 +1,10 @@
-// A slice that is lent to the writer, the planner or the replanner, and what it holds afterwards.
+// A slice that is lent to the writer, the planner or the replanner.
 use job::Job;
 use jobfile::Written;
 use timeline::Day;
 
-// What a byte of the slice holds before.
-pub const FILL: u8 = 170;
-
 // The bytes of the longest slice.
 pub const ROOM: usize = 4_200;
-
-// The first bytes, so many, or all where there are fewer.
-pub fn front(bytes: &[u8], length: usize) -> &[u8] {
-    if length <= bytes.len() {
-        &bytes[0..length]
-    } else {
-        bytes
-    }
-}
 
 // The bytes from a place on, or all where it is past the end.
 pub fn rest(bytes: &[u8], from: usize) -> &[u8] {
@@ -25,18 +13,6 @@ pub fn rest(bytes: &[u8], from: usize) -> &[u8] {
     } else {
         bytes
     }
-}
-
-// Whether every byte from a place on is as before.
-pub fn kept(slice: &[u8], from: usize) -> bool {
-    let mut i = from;
-    while i < slice.len() {
-        if slice[i] != FILL {
-            return false;
-        }
-        i += 1;
-    }
-    true
 }
 
 // The writer with the first bytes of a slice, so many.
