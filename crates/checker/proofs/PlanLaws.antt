@@ -2,7 +2,6 @@
 -- Assumes nothing.
 use Prim.Native.Nat.{ℕ}
 use mathlib.Core.Path.{_≡_, refl, sym, ap, _∙_}
-use mathlib.Core.Bool.{true, false, true≢false}
 use mathlib.Core.List.{List}
 use lib.ListN.{length}
 use Rattle.lists.proofs.Tabulate.{length-tabulate}
@@ -21,16 +20,10 @@ use Rattle.timeline.specs.Accepted.{stepRows, planRows}
 use Rattle.timeline.specs.Timeline.{peaks}
 use Rattle.timeline.specs.Day.{noDay, dayOf}
 use Rattle.timeline.specs.Value.{stepAt, stepsOf}
-use Rattle.timeline.proofs.DayLaws.{reply-of-day}
+use Rattle.timeline.proofs.DayLaws.{refused-not-passed, reply-of-day}
 use Rattle.checker.specs.declared.Checked.{Checked}
 use Rattle.checker.specs.declared.CheckedPlan.{CheckedPlan}
 use Rattle.checker.specs.Check.{checkRows, checkPlan, Checks, checkedOf, dayBy, Decodes, ChecksPlan}
-
--- a refused plan is no plan
-pub not-passed : (day : Day) (why : Refusal) → day ≡ noDay why → day .verdict ≡ Pass → ⊥
-not-passed day why d p =
-    let e : true ≡ false = cc in
-    true≢false e
 
 day-by-checked : (v : Verdict) (J : Job) (P : List Step) → dayBy (checkedOf v P) (length P) (peaks J P) ≡ dayOf v J P
 day-by-checked Pass J P = refl
@@ -42,7 +35,7 @@ module _ (job : held.Job) (goal : ℕ) (bytes : List ℕ) (r : CheckedPlan) wher
   checks-refused why d h =
       record {
         day = d ∙ sym (ap (λ (v : Verdict). dayOf v (jobIn job) (stepsIn (jobIn job) bytes)) h);
-        plan = λ p. absurd (not-passed (r .day) why d p);
+        plan = λ p. absurd (refused-not-passed (r .day) why d p);
       }
 
   -- the tests of the steps decide, once the bytes are decoded

@@ -3,21 +3,16 @@
 use Prim.Native.Nat.{ℕ, _<_}
 use mathlib.Core.Path.{_≡_}
 use mathlib.Core.Bool.{false}
-use mathlib.Core.List.{List, [], _∷_}
+use mathlib.Core.List.{List}
 use lib.ListN.{length}
 use borrow.Author.Tests.{leb-false}
 use Rattle.lists.specs.Lists.{any, Each}
 use Rattle.job.specs.Job.{Job}
 use Rattle.job.specs.Passed.{Passed}
-use Rattle.timeline.specs.Step.{Step, stepsIn}
+use Rattle.timeline.specs.Step.{stepsIn}
 use Rattle.timeline.specs.Accepted.{unknown}
-use Rattle.timeline.specs.Places.{EachStep}
-use Rattle.timeline.proofs.Places.{each-here, each-rest, none-of-any}
+use Rattle.timeline.proofs.Places.{each-of-steps, none-of-any}
 use Rattle.timeline.proofs.JobSteps.{lasting-of-known, steps-in-bytes}
-
-pub each-of-steps : (F : Step → Type 0) (P : List Step) → EachStep F P → Each F P
-each-of-steps F [] h = tt
-each-of-steps F (x ∷ P) h = (each-here F x P h, each-of-steps F P (each-rest F x P h))
 
 pub known-steps-last : (J : Job) (bytes : List ℕ) → Passed J → any (unknown J) (stepsIn J bytes) ≡ false
     → Each (λ x. x .start < x .stop) (stepsIn J bytes)

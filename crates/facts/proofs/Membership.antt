@@ -13,6 +13,7 @@ use lib.Bits.{bitAnd, bitOr, and-step, or-step, and-le-l}
 use lib.Pow.{pow-mono, pow-pos}
 use borrow.Author.Tests.{leb-false, le-leb, lt-leb, eqb-true, eqb-false, eq-eqb, ne-eqb, not-true}
 use Rattle.lists.specs.Answer.{Decides}
+use Rattle.lists.proofs.Answers.{decides-iff}
 use Rattle.facts.specs.FactSet.{has, union, difference, subset, Subset, meets, Disjoint, foreign, Within}
 use Rattle.facts.proofs.Digits.{digit, lowest-digit, by-digits}
 
@@ -87,9 +88,6 @@ same-decides a b =
       sound = λ e n. ap (λ (set : ℕ). has set n) (eqb-true a b e);
       complete = λ h. eq-eqb a b (same-members a b h);
     }
-
-decides-iff : {x : Bool} {P Q : Type 0} → Decides x P → (P → Q) → (Q → P) → Decides x Q
-decides-iff d f g = record { sound = λ e. f (d .sound e); complete = λ q. d .complete (g q) }
 
 both-agree : (x y z : Bool) → (x ≡ true → y ≡ z) → (x && y) ≡ (x && z)
 both-agree true y z h = h refl

@@ -24,8 +24,5 @@ _and_ {a} {b} p q =
 pub _also_ : {P Q : Type 0} → P → Q → P × Q
 _also_ p q = (p, q)
 
-pub decides-iff : {a : Bool} {P Q : Type 0} → Decides a P → (P → Q) → (Q → P) → Decides a Q
-decides-iff d there back = record { sound = λ h. there (d .sound h); complete = λ q. d .complete (back q) }
-
 pub decides-not : {a : Bool} {P : Type 0} → Decides a P → a ≡ false → P → ⊥
 decides-not d h p = let z : _≡_ {A = ℕ} 0 1 = cc (d .complete p) in omega arith

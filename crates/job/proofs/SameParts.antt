@@ -11,7 +11,8 @@ use Rattle.job.specs.declared.Action as act
 use Rattle.job.specs.declared.Counts.{Counts}
 use Rattle.job.specs.declared.Job as held
 use Rattle.job.specs.Job.{Job, actionIn, jobIn}
-use Rattle.job.proofs.Answers.{equal, _and_, _also_, decides-iff}
+use Rattle.lists.proofs.Answers.{decides-iff}
+use Rattle.job.proofs.Answers.{equal, _and_, _also_}
 use Rattle.job.proofs.Agree.{same-count}
 
 pub same-counts : (n m : Counts)

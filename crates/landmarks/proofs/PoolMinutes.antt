@@ -11,7 +11,7 @@ use Rattle.job.specs.Job.{Job}
 use Rattle.timeline.specs.Step.{Step, total}
 use Rattle.timeline.specs.Timeline.{inUse}
 use Rattle.timeline.proofs.Tests.{le-or-lt}
-use Rattle.timeline.proofs.Places.{total-mono}
+use Rattle.timeline.proofs.Places.{total-of-sums, total-mono}
 use Rattle.timeline.proofs.Shares.{useAt, share-when, use-of-share}
 use Rattle.landmarks.specs.Landmarks.{minutesIn}
 
@@ -28,10 +28,6 @@ over-at-most m (suc n) most f h =
 total-of-zeros : (P : List Step) → total (λ x. 0) P ≡ 0
 total-of-zeros [] = refl
 total-of-zeros (x ∷ P) = let rest = total-of-zeros P in omega arith
-
-total-of-sums : (f g : Step → ℕ) (P : List Step) → total (λ x. f x + g x) P ≡ total f P + total g P
-total-of-sums f g [] = refl
-total-of-sums f g (x ∷ P) = let rest = total-of-sums f g P in omega arith
 
 -- sums over minutes and over steps are the same sum
 over-total : (m n : ℕ) (g : ℕ → Step → ℕ) (P : List Step)

@@ -3,3 +3,4 @@ pub mod Tabulate
 pub mod Any
 pub mod Inside
 pub mod Below
+pub mod Answers

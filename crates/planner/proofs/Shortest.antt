@@ -23,16 +23,13 @@ use Rattle.timeline.specs.Step.{Step}
 use Rattle.timeline.specs.declared.Day.{Day}
 use Rattle.timeline.specs.Accepted.{Accepted}
 use Rattle.timeline.specs.Day.{Told, noDay, tells}
+use Rattle.timeline.proofs.DayLaws.{refused-not-passed}
 use Rattle.timeline.proofs.Tests.{not-both}
 use Rattle.timeline.proofs.PlanBytes.{few-steps-of-accepted}
 use Rattle.makespan.specs.Makespan.{Makespan, endsAt, noPlan, Counts, LeastEnd, makespan, makespanFrom}
 use Rattle.makespan.proofs.LeastEnds.{BegunSteps, least-end-of-makespan, none-accepted-when-no-plan}
 use Rattle.makespan.proofs.LeastEnds.{every-plan-counts, nothing-begun}
 use Rattle.planner.specs.Plan.{planRefusals, HandsOut, PlansFor, PlansBy, Plans}
-
--- an answer that refuses tells of no plan
-pub refused-not-passed : (answer : Day) (why : Refusal) → answer ≡ noDay why → answer .verdict ≡ Pass → ⊥
-refused-not-passed answer why told h = let z : _≡_ {A = ℕ} 0 1 = cc in omega arith
 
 -- an answer that tells of a plan refuses nothing, and a refusal is its own
 told-not-refused : (answer : Day) (told : Told) (why : Refusal) → answer ≡ tells told → answer .verdict ≡ Refused why

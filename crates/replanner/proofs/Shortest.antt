@@ -19,12 +19,13 @@ use Rattle.timeline.specs.Timeline.{end}
 use Rattle.timeline.specs.Accepted.{Accepted, runRows}
 use Rattle.timeline.specs.declared.Day.{Day}
 use Rattle.timeline.specs.Day.{toldOf, tells}
+use Rattle.timeline.proofs.DayLaws.{refused-not-passed}
 use Rattle.timeline.proofs.RunRows.{run-rows}
 use Rattle.makespan.specs.Makespan.{Makespan, passes, Counts, makespan, makespanFrom}
 use Rattle.makespan.proofs.LeastEnds.{BegunSteps, makespan-of-least-end, every-plan-counts}
 use Rattle.planner.specs.Plan.{HandsOut, PlansFor}
 use Rattle.planner.proofs.Shortest.{Shortest, shortest-by-makespan, none-by-makespan, shortest-when-accepted}
-use Rattle.planner.proofs.Shortest.{refused-not-passed, refusals-same, hasNumber, never-first}
+use Rattle.planner.proofs.Shortest.{refusals-same, hasNumber, never-first}
 use Rattle.replanner.specs.Replan.{replanRows, keptSteps, HandsOutKept, ReplansWith, ReplansBy, Replans}
 use Rattle.replanner.proofs.Begun.{begun-of-accepted, accepted-alone, counts-alone, least-alone}
 

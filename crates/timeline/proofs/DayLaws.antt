@@ -6,13 +6,19 @@ use mathlib.Core.List.{List}
 use native.Mathlib.Omega.{arith}
 use lib.ListN.{length}
 use Rattle.lists.proofs.Tabulate.{length-tabulate}
+use Rattle.job.specs.declared.refusal.Refusal.{Refusal}
 use Rattle.job.specs.declared.refusal.Verdict.{Verdict}
 use Rattle.job.specs.declared.refusal.Verdict.the-variants.{Pass, Refused}
 use Rattle.job.specs.Job.{Job}
 use Rattle.job.specs.Refusal.{replyBy}
 use Rattle.timeline.specs.Step.{Step, stepsIn}
 use Rattle.timeline.specs.Timeline.{end, peaks}
-use Rattle.timeline.specs.Day.{Told, toldOf, dayOf, dayReply}
+use Rattle.timeline.specs.declared.Day.{Day}
+use Rattle.timeline.specs.Day.{Told, toldOf, noDay, dayOf, dayReply}
+
+-- an answer that refuses tells of no plan
+pub refused-not-passed : (answer : Day) (why : Refusal) → answer ≡ noDay why → answer .verdict ≡ Pass → ⊥
+refused-not-passed answer why told h = let z : _≡_ {A = ℕ} 0 1 = cc in omega arith
 
 pub reply-of-day : (v : Verdict) (J : Job) (P : List Step) → dayReply (dayOf v J P) ≡ replyBy v (toldOf J P)
 reply-of-day Pass J P = refl

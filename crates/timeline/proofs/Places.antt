@@ -65,6 +65,10 @@ pub each-step : (F : Step → Type 0) (P : List Step) → Each F P → EachStep 
 each-step F (y ∷ P) e x Q here = e .0
 each-step F (y ∷ P) e x Q (there {Q = R} i) = each-step F P (e .1) x R i
 
+pub each-of-steps : (F : Step → Type 0) (P : List Step) → EachStep F P → Each F P
+each-of-steps F [] h = tt
+each-of-steps F (x ∷ P) h = (each-here F x P h, each-of-steps F P (each-rest F x P h))
+
 -- ---- some step passes a test
 module _ (test : Step → Bool) where
   pub any-place : {x : Step} {Q P : List Step} → Place x Q P → any test P ≡ (test x || any test Q)
@@ -104,6 +108,10 @@ total-place f (there i) = let e = total-place f i in omega arith
 pub total-append : (f : Step → ℕ) (P K : List Step) → total f (P ++ K) ≡ total f P + total f K
 total-append f [] K = omega arith
 total-append f (x ∷ P) K = let e = total-append f P K in omega arith
+
+pub total-of-sums : (f g : Step → ℕ) (P : List Step) → total (λ x. f x + g x) P ≡ total f P + total g P
+total-of-sums f g [] = refl
+total-of-sums f g (x ∷ P) = let rest = total-of-sums f g P in omega arith
 
 pub total-mono : (f g : Step → ℕ) (P : List Step) → EachStep (λ x. f x ≤ g x) P → total f P ≤ total g P
 total-mono f g [] h = omega arith

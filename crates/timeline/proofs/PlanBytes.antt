@@ -3,13 +3,12 @@
 use Prim.Native.Nat.{ℕ, _*_, _/_, _%_, _<_, _≤_}
 use mathlib.Core.Path.{_≡_, sym, ap, ap₂, _∙_}
 use mathlib.Core.Bool.{false, not}
-use mathlib.Core.List.{List, [], _∷_}
+use mathlib.Core.List.{List}
 use native.Mathlib.Omega.{arith}
 use lib.Dec.{eqb}
 use lib.ListN.{length, take, length-append}
 use lib.Seq.{take-at, drop-at, take-all}
 use borrow.Author.Tests.{eq-eqb, le-ltb, ltb-false}
-use Rattle.lists.specs.Lists.{Each}
 use Rattle.lists.proofs.Bools.{or-right}
 use Rattle.lists.proofs.Tabulate.{length-tabulate, each-all}
 use Rattle.encoding.specs.Bytes.{fromBytes, toBytes, part}
@@ -22,10 +21,10 @@ use Rattle.job.specs.declared.refusal.Verdict.the-variants.{Pass}
 use Rattle.job.proofs.Table.{first-next, first-pass}
 use Rattle.timeline.specs.Step.{Step, stepOf, stepIn, stepsIn, stepBytes, planBytes}
 use Rattle.timeline.specs.Accepted.{Accepted, wrongSize, stepRows, planRows}
-use Rattle.timeline.specs.Places.{EachStep, here}
+use Rattle.timeline.specs.Places.{EachStep}
 use Rattle.timeline.specs.Keeps.{OfJob}
 use Rattle.timeline.proofs.Tests.{or-neither}
-use Rattle.timeline.proofs.Places.{each-rest}
+use Rattle.timeline.proofs.Places.{each-of-steps}
 use Rattle.timeline.proofs.AcceptedSteps.{accepted-steps}
 use Rattle.timeline.proofs.JobSteps.{lasting-of-known}
 
@@ -59,12 +58,8 @@ pub bytes-of-steps : (J : Job) (P : List Step) → EachStep (OfJob J) P → Each
 unfolding stepsIn planBytes
 bytes-of-steps J P own numbers starts =
     split-joined 3 (stepIn J) stepBytes P (omega arith) (each-all length-step-bytes P)
-    (each (λ x. stepIn J (stepBytes x) ≡ x) P
+    (each-of-steps (λ x. stepIn J (stepBytes x) ≡ x) P
     (λ x Q i. step-read-back J x (own x Q i) (numbers x Q i) (starts x Q i)))
-  where
-    each : (F : Step → Type 0) (P : List Step) → EachStep F P → Each F P
-    each F [] h = tt
-    each F (x ∷ P) h = (h x P here, each F P (each-rest F x P h))
 
 -- steps that pass, at most 32 of them, are an accepted plan in bytes
 pub accepted-bytes-of-steps : (J : Job) (goal : ℕ) (P : List Step) → Passed J → EachStep (OfJob J) P → length P ≤ 32

@@ -7,7 +7,7 @@ use Rattle.timeline.specs.Day.{tells}
 use Rattle.timeline.specs.Value.{stepsOf}
 use Rattle.checker.specs.Check.{dayBy}
 use Rattle.checker.specs.declared.Checked.{Checked}
-use Rattle.checker.proofs.PlanLaws.{not-passed}
+use Rattle.timeline.proofs.DayLaws.{refused-not-passed}
 use borrow.Author.Needs.{needs}
 use Rattle.checker.proofs.with_day.Statement.{statement}
 use Rattle.checker.proofs.with_day.Tie as tie
@@ -31,7 +31,7 @@ returns c =
     let most = peaks (jobIn (c-args .job)) (stepsOf (c-args .plan)) in (
       c .refused-plan .ensures
           ∙ sym (ap (λ (x : Checked). dayBy x (c-args .plan .length) most) (c .before .before .checked .given .1)),
-      λ p. absurd (not-passed _ _ (c .refused-plan .ensures) p),
+      λ p. absurd (refused-not-passed _ _ (c .refused-plan .ensures) p),
     )
 
 returns-2 : tie.Need-returns-2
