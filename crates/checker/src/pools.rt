@@ -23,7 +23,7 @@ use timeline::Step;
 fn freed(stop: u32, handover: u8, minute: u32) -> bool
     ensures { λ r. ⌜ r ≡ leb (stop + handover) minute ⌝ }
 {
-    job::wide(stop) + handover as u64 <= job::wide(minute)
+    job::wide(stop) + (handover as u64) <= job::wide(minute)
 }
 
 // What the step has of the pool in the minute.
