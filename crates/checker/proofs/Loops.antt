@@ -6,13 +6,17 @@ use mathlib.Core.Bool.{Bool, true, false, _&&_, _||_}
 use mathlib.Core.List.{List, [], _∷_, _++_, append-assoc}
 use native.Mathlib.Decide.{decLt}
 use native.Mathlib.Omega.{arith}
+use lib.ListN.{getD}
 use Rattle.lists.specs.Lists.{tabulate, any}
 use Rattle.lists.proofs.Bools.{absurd}
 use Rattle.lists.proofs.Tabulate.{tabulate-snoc}
 use Rattle.lists.proofs.Any.{any-append}
 use Rattle.facts.specs.FactSet.{union}
 use Rattle.facts.proofs.SetLaws.{union-assoc, union-zero-left, union-zero-right}
+use Rattle.job.specs.declared.Counts.{Counts}
+use Rattle.timeline.specs.declared.Plan.{Plan}
 use Rattle.timeline.specs.Step.{Step, before, strictlyRising, anyPair, total, largest, unionOf}
+use Rattle.timeline.specs.Value.{beyondStep, stepOfValue, stepAt}
 
 total-snoc : (f : Step → ℕ) (P : List Step) (x : Step) → total f (P ++ (x ∷ [])) ≡ total f P + f x
 total-snoc f [] x = omega arith
@@ -151,3 +155,13 @@ module _ (at : ℕ → Step) where
         | yes l ↦ let i = largest-at f n k l in omega arith
         | no l ↦ let q : k ≡ n = omega arith in rw q (omega arith)
       ]
+
+-- ── the steps of a plan by value, with one step more ──
+pub one-more-step : (plan : Plan) (n : Counts) → plan .counts ≡ n → (charge : Step → ℕ) (i sum r : ℕ)
+    → sum ≡ total charge (tabulate i (stepAt plan)) → r ≡ charge (stepOfValue n (getD (plan .steps) i beyondStep))
+    → sum + r ≡ total charge (tabulate (i + 1) (stepAt plan))
+one-more-step plan n same charge i sum r s h =
+    let x = getD (plan .steps) i beyondStep in
+    let here = h ∙ ap (λ (k : Counts). charge (stepOfValue k x)) (sym same) in
+    let more = total-more (stepAt plan) charge i in
+    omega arith

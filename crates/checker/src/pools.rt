@@ -1,7 +1,8 @@
 // How much of each pool is in use: test 17, and the peaks.
 ghost use mathlib.Core.Path.{_≡_};
 ghost use mathlib.Core.List.{[], _∷_};
-ghost use Prim.Native.Nat.{max, _≤_, _<_};
+ghost use Prim.Native.Nat.{max, _+_, _≤_, _<_};
+ghost use lib.Dec.{leb};
 ghost use lib.ListN.{length};
 ghost use Rattle.lists.specs.Lists.{anyBelow};
 ghost use Rattle.job.specs.Job.{jobIn, Fits};
@@ -18,31 +19,38 @@ use job::refusal::Verdict;
 use timeline::Plan;
 use timeline::Step;
 
+// Whether a share is free again in the minute: the handover long after its step.
+fn freed(stop: u32, handover: u8, minute: u32) -> bool
+    ensures { λ r. ⌜ r ≡ leb (stop + handover) minute ⌝ }
+{
+    job::wide(stop) + (handover as u64) <= job::wide(minute)
+}
+
 // What the step has of the pool in the minute.
-fn share(step: Step, pool: usize, minute: u32) -> u64
+fn share(step: Step, pool: usize, handover: u8, minute: u32) -> u64
     requires { ⌜ pool < 4 ⌝ }
-    ensures { λ r. ⌜ Share step pool minute r ⌝ }
+    ensures { λ r. ⌜ Share step pool handover minute r ⌝ }
 {
     let action = step.action;
     if minute < step.start {
         return 0;
     }
-    if step.stop <= minute {
+    if freed(step.stop, handover, minute) {
         return 0;
     }
     job::wide(action.pools[pool])
 }
 
 // How much of the pool is in use in the minute.
-fn in_use(plan: Plan, pool: usize, minute: u32) -> u64
+fn in_use(plan: Plan, pool: usize, handover: u8, minute: u32) -> u64
     requires { ⌜ (plan .length ≤ 32) × (plan .counts .pools ≤ 4) × (pool < plan .counts .pools) ⌝ }
-    ensures { λ r. ⌜ InUse plan pool minute r ⌝ }
+    ensures { λ r. ⌜ InUse plan pool handover minute r ⌝ }
 {
     let mut sum: u64 = 0;
     let mut i = 0;
     while i < plan.length {
         let step = plan.steps[i];
-        sum += share(step, pool, minute);
+        sum += share(step, pool, handover, minute);
         i += 1;
     }
     sum
@@ -59,30 +67,31 @@ fn larger(a: u64, b: u64) -> u64
 }
 
 // The most of the pool that is in use in a minute. The use is largest where a step starts.
-fn peak(plan: Plan, pool: usize) -> u64
+fn peak(plan: Plan, pool: usize, handover: u8) -> u64
     requires { ⌜ (plan .length ≤ 32) × (plan .counts .pools ≤ 4) × (pool < plan .counts .pools) ⌝ }
-    ensures { λ r. ⌜ PeakOf plan pool r ⌝ }
+    ensures { λ r. ⌜ PeakOf plan pool handover r ⌝ }
 {
     let mut most: u64 = 0;
     let mut i = 0;
     while i < plan.length {
         let step = plan.steps[i];
-        most = larger(most, in_use(plan, pool, step.start));
+        most = larger(most, in_use(plan, pool, handover, step.start));
         i += 1;
     }
     most
 }
 
-// Test 17: in each minute the running steps use no more of each pool than there is.
+// Test 17: in each minute the steps use no more of each pool than there is.
 pub fn within(plan: Plan, job: Job) -> Verdict
     requires { ⌜ (plan .length ≤ 32) × (plan .counts ≡ job .counts) × Fits (job .counts) ⌝ }
     ensures { λ r. ⌜ r ≡ first
         (PoolExceeded when anyBelow (length (jobIn job .pools)) (exceedsPool (jobIn job) (stepsOf plan)) ∷ []) ⌝ }
 {
     let counts = job.counts;
+    let handovers = job::resources::handovers(job);
     let mut k = 0;
     while k < counts.pools {
-        if job::wide(job.pools[k]) < peak(plan, k) {
+        if job::wide(job.pools[k]) < peak(plan, k, handovers[k]) {
             return Verdict::Refused(Refusal::PoolExceeded);
         }
         k += 1;
@@ -96,10 +105,11 @@ pub fn peaks(plan: Plan, job: Job) -> [u32; Job::POOLS]
     ensures { λ r. ⌜ r ≡ peaks (jobIn job) (stepsOf plan) ⌝ }
 {
     let counts = job.counts;
+    let handovers = job::resources::handovers(job);
     let mut out = [0u32; Job::POOLS];
     let mut k = 0;
     while k < counts.pools {
-        out[k] = peak(plan, k) as u32;
+        out[k] = peak(plan, k, handovers[k]) as u32;
         k += 1;
     }
     out

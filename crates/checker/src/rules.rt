@@ -12,10 +12,9 @@ ghost use Rattle.job.specs.Valid.{over};
 ghost use Rattle.job.specs.declared.refusal.Refusal.the-variants.{StepOrder, AfterDeadline, Clash};
 ghost use Rattle.job.specs.declared.refusal.Refusal.the-variants.{StoreExceeded};
 ghost use Rattle.timeline.specs.Step.{before, strictlyRising, anyPair};
-ghost use Rattle.timeline.specs.Timeline.{end};
+ghost use Rattle.timeline.specs.Timeline.{end, usedUp};
 ghost use Rattle.timeline.specs.Accepted.{clashing, exceedsStore};
 ghost use Rattle.timeline.specs.Value.{stepOfValue, stepAt, stepsOf};
-ghost use Rattle.checker.specs.Leaf.{UsedUp};
 use job::Counts;
 use job::Job;
 use job::refusal::Refusal;
@@ -106,31 +105,33 @@ pub fn clashes(plan: Plan) -> Verdict
 }
 
 // How much of the store all steps use up.
-fn used_up(plan: Plan, store: usize) -> u64
-    requires { ⌜ (plan .length ≤ 32) × (plan .counts .stores ≤ 4) × (store < plan .counts .stores) ⌝ }
-    ensures { λ r. ⌜ UsedUp plan store r ⌝ }
+fn used_up(plan: Plan, job: Job, store: usize) -> u64
+    requires { ⌜ (plan .length ≤ 32) × (plan .counts ≡ job .counts)
+        × (job .counts .stores ≤ 4) × (store < job .counts .stores) ⌝ }
+    ensures { λ r. ⌜ r ≡ usedUp (jobIn job) store (stepsOf plan) ⌝ }
 {
     let mut sum: u64 = 0;
     let mut i = 0;
     while i < plan.length {
         let step = plan.steps[i];
-        let action = step.action;
-        sum += job::wide(action.stores[store]);
+        let amounts = job::resources::charged(job, step.action);
+        sum += job::wide(amounts[store]);
         i += 1;
     }
     sum
 }
 
-// Test 18: over the plan the steps use up no more of each store than there is.
+// Test 18: over the plan the steps use up no more of each store than is allowed.
 pub fn stores(plan: Plan, job: Job) -> Verdict
     requires { ⌜ (plan .length ≤ 32) × (plan .counts ≡ job .counts) × Fits (job .counts) ⌝ }
     ensures { λ r. ⌜ r ≡ first
         (StoreExceeded when anyBelow (length (jobIn job .stores)) (exceedsStore (jobIn job) (stepsOf plan)) ∷ []) ⌝ }
 {
     let counts = job.counts;
+    let limits = job::resources::allowed(job);
     let mut k = 0;
     while k < counts.stores {
-        if job::wide(job.stores[k]) < used_up(plan, k) {
+        if job::wide(limits[k]) < used_up(plan, job, k) {
             return Verdict::Refused(Refusal::StoreExceeded);
         }
         k += 1;

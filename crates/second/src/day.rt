@@ -9,6 +9,7 @@ pub struct Day {
     pub goal: u64,
     pub counts: Counts,
     pub pools: [u32; Job::POOLS],
+    pub handovers: [u8; Job::POOLS],
     pub actions: [Action; Day::ACTIONS],
 }
 
@@ -20,10 +21,12 @@ impl Day {
     pub const STEPS: u32 = 32;
 }
 
-// The state of a day in a minute. An action clashes with itself, so at most one step of each action runs.
+// The state of a day in a minute. An action clashes with itself, so at most one step of each action runs, and at most
+// one ends in a minute.
 pub struct State {
     pub facts: u64,
     pub minutes: [u32; Day::ACTIONS], // how long each action still runs, 0 where it doesn't run
+    pub ended: [u32; Day::ACTIONS], // bit k: whether a step of the action ended k minutes ago, for k up to 31
     pub stores: [u32; Job::STORES], // what is left of each store
     pub steps: u32, // how many steps may still start
 }
@@ -64,7 +67,23 @@ fn clashes(day: Day, state: State, number: usize) -> bool
     false
 }
 
-// What the running steps leave free of the pool.
+// What is left of an amount after the uses of an action's steps that ended less than the handover ago. A handover is at
+// most 30 minutes.
+fn less_handed_over(amount: u32, used: u32, ended: u32, handover: u8) -> u32 {
+    let mut left = amount;
+    let mut bits = ended;
+    let mut k = 0;
+    while k < handover {
+        if bits % 2 == 1 {
+            left = less(left, used);
+        }
+        bits = bits / 2;
+        k += 1;
+    }
+    left
+}
+
+// What the running steps, and those that ended less than its handover ago, leave free of the pool.
 fn free(day: Day, state: State, pool: usize) -> u32
     requires { ⌜ pool < 4 ⌝ }
 {
@@ -72,9 +91,11 @@ fn free(day: Day, state: State, pool: usize) -> u32
     let mut i = 0;
     while i < Day::ACTIONS {
         let action = day.actions[i];
+        let used = action.pools[pool];
         if 0 < state.minutes[i] {
-            amount = less(amount, action.pools[pool]);
+            amount = less(amount, used);
         }
+        amount = less_handed_over(amount, used, state.ended[i], day.handovers[pool]);
         i += 1;
     }
     amount
@@ -158,6 +179,12 @@ pub fn started(day: Day, mut state: State, number: usize) -> State
     state
 }
 
+// In which of the last minutes a step of an action ended, one minute later.
+fn a_minute_later(ended: u32, ends: bool) -> u32 {
+    let before = ended << 1;
+    if ends { before | 1 } else { before }
+}
+
 // The state one minute later: what the steps ending then delete goes, and what they add comes.
 pub fn tick(day: Day, mut state: State) -> State {
     let mut deletes: u64 = 0;
@@ -165,11 +192,13 @@ pub fn tick(day: Day, mut state: State) -> State {
     let mut i = 0;
     while i < Day::ACTIONS {
         let action = day.actions[i];
-        if state.minutes[i] == 1 {
+        let ends = state.minutes[i] == 1;
+        if ends {
             deletes = deletes | action.deletes;
             adds = adds | action.adds;
         }
         state.minutes[i] = less(state.minutes[i], 1);
+        state.ended[i] = a_minute_later(state.ended[i], ends);
         i += 1;
     }
     state.facts = (state.facts ^ (state.facts & deletes)) | adds;

@@ -104,6 +104,7 @@ fn before(job: Job) -> State {
     State {
         facts: job.start,
         minutes: [0u32; Day::ACTIONS],
+        ended: [0u32; Day::ACTIONS],
         stores,
         steps: Day::STEPS,
     }
@@ -115,6 +116,7 @@ fn before(job: Job) -> State {
 pub fn shortest_from(job: Job, plan: &[u8], minute: u16, goal: u64) -> Makespan {
     let counts = job.counts;
     let pools = job.pools;
+    let handovers = job::resources::handovers(job);
     if Day::ACTIONS < counts.actions {
         return Makespan::TooLarge;
     }
@@ -125,6 +127,7 @@ pub fn shortest_from(job: Job, plan: &[u8], minute: u16, goal: u64) -> Makespan 
         goal,
         counts,
         pools,
+        handovers,
         actions: actions(job),
     };
     let state = before(job);

@@ -6,6 +6,7 @@ use mathlib.Core.Bool.{cond}
 use lib.ListN.{getD}
 use Rattle.lists.specs.Lists.{tabulate}
 use Rattle.job.specs.Job.{Job}
+use Rattle.job.specs.Resources.{handover}
 use Rattle.timeline.specs.Timeline.{hasShare, inUse}
 use Rattle.timeline.specs.Value.{stepAt}
 use Rattle.checker.proofs.Loops.{total-more}
@@ -14,17 +15,17 @@ use Rattle.checker.proofs.pools.in_use.Statement.{statement}
 use Rattle.checker.proofs.pools.in_use.Tie as tie
 
 abbrev Inv-loop : tie.InvT-loop
-Inv-loop pool minute plan sum₀ i₀ sum i =
+Inv-loop pool wait minute plan sum₀ i₀ sum i =
     (i ≤ plan .length)
     × (sum ≤ i * 4294967296)
-    × ((J : Job) → sum ≡ inUse J pool minute (tabulate i (stepAt plan)))
+    × ((J : Job) → handover J pool ≡ wait → sum ≡ inUse J pool minute (tabulate i (stepAt plan)))
 
 abbrev μ-loop : tie.MeasureT-loop
-μ-loop pool minute plan sum₀ i₀ sum i = plan .length - i
+μ-loop pool wait minute plan sum₀ i₀ sum i = plan .length - i
 
 loop-holds : tie.Need-loop-holds Inv-loop μ-loop
 unfolding tabulate
-loop-holds c = (omega arith, omega arith, λ J. refl)
+loop-holds c = (omega arith, omega arith, λ J e. refl)
 
 mul-step : tie.Need-mul-step Inv-loop μ-loop
 mul-step c = omega arith
@@ -55,8 +56,8 @@ loop-again c =
     let s = c .share .ensures .small in (
       omega arith,
       omega arith,
-      λ J.
-          rw (l .inv .2 J, c .share .ensures .counts J (p .counts) (c-pre .2))
+      λ J e.
+          rw (l .inv .2 J e, c .share .ensures .counts J (p .counts) e (c-pre .2))
           (sym (total-more (stepAt p) (λ x. cond (hasShare J (a .pool) (a .minute) x)
           (getD (x .action .pools) (a .pool) 0) 0)
           (l .i))),
@@ -65,8 +66,8 @@ loop-again c =
 returns : tie.Need-returns Inv-loop μ-loop
 returns c =
     let c-loop = c .before .loop in
-    let e : c-loop .i ≡ c .before .before .args .t1 .length = omega arith in
-    λ J. rw e at (c-loop .inv .2 J)
+    let q : c-loop .i ≡ c .before .before .args .t1 .length = omega arith in
+    λ J e. rw q at (c-loop .inv .2 J e)
 
 pub in-use-spec : {M : Type 1} → statement M
 in-use-spec =

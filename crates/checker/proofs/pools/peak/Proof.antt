@@ -5,6 +5,7 @@ use mathlib.Core.Path.{_≡_, refl, sym, ap₂, _∙_}
 use Prim.Native.Nat.{max}
 use Rattle.lists.specs.Lists.{tabulate}
 use Rattle.job.specs.Job.{Job}
+use Rattle.job.specs.Resources.{handover}
 use Rattle.timeline.specs.Step.{Step, largest}
 use Rattle.timeline.specs.Timeline.{inUse}
 use Rattle.timeline.specs.Value.{stepAt, stepsOf}
@@ -21,15 +22,16 @@ abbrev usedAt : Job → Plan → ℕ → Step → ℕ
 usedAt J plan pool x = inUse J pool (x .start) (stepsOf plan)
 
 abbrev Inv-loop : tie.InvT-loop
-Inv-loop pool plan most₀ i₀ most i =
-    (i ≤ plan .length) × ((J : Job) → most ≡ largest (usedAt J plan pool) (tabulate i (stepAt plan)))
+Inv-loop pool wait plan most₀ i₀ most i =
+    (i ≤ plan .length)
+    × ((J : Job) → handover J pool ≡ wait → most ≡ largest (usedAt J plan pool) (tabulate i (stepAt plan)))
 
 abbrev μ-loop : tie.MeasureT-loop
-μ-loop pool plan most₀ i₀ most i = plan .length - i
+μ-loop pool wait plan most₀ i₀ most i = plan .length - i
 
 loop-holds : tie.Need-loop-holds Inv-loop μ-loop
 unfolding tabulate
-loop-holds c = (omega arith, λ J. refl)
+loop-holds c = (omega arith, λ J e. refl)
 
 mul-step : tie.Need-mul-step Inv-loop μ-loop
 mul-step c = omega arith
@@ -54,8 +56,8 @@ loop-again c =
     let c-args = c .before .before .before .before .before .args in
     let c-loop = c .before .before .before .before .loop in (
       omega arith,
-      λ J.
-          c .larger .ensures ∙ ap₂ max (c-loop .inv .1 J) (c .before .in-use .ensures J)
+      λ J e.
+          c .larger .ensures ∙ ap₂ max (c-loop .inv .1 J e) (c .before .in-use .ensures J e)
           ∙ sym (largest-more (stepAt (c-args .t1)) (usedAt J (c-args .t1) (c-args .pool)) (c-loop .i)),
     )
 
@@ -64,7 +66,7 @@ returns c =
     let c-args = c .before .before .args in
     let c-loop = c .before .loop in
     let q : c-loop .i ≡ c-args .t1 .length = omega arith in
-    λ J. rw q at (c-loop .inv .1 J) ∙ sym (peak-at-start J (c-args .pool) (stepsOf (c-args .t1)))
+    λ J e. rw q at (c-loop .inv .1 J e) ∙ sym (peak-at-start J (c-args .pool) (stepsOf (c-args .t1)))
 
 pub peak-spec : {M : Type 1} → statement M
 peak-spec =

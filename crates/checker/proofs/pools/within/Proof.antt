@@ -24,10 +24,14 @@ use Rattle.checker.proofs.pools.within.Statement.{statement}
 use Rattle.checker.proofs.pools.within.Tie as tie
 
 abbrev Inv-loop : tie.InvT-loop
-Inv-loop plan job counts k₀ k = (k ≤ counts .pools) × (anyBelow k (exceedsPool (jobIn job) (stepsOf plan)) ≡ false)
+Inv-loop plan job counts handovers k₀ k =
+    (k ≤ counts .pools) × (anyBelow k (exceedsPool (jobIn job) (stepsOf plan)) ≡ false)
 
 abbrev μ-loop : tie.MeasureT-loop
-μ-loop plan job counts k₀ k = counts .pools - k
+μ-loop plan job counts handovers k₀ k = counts .pools - k
+
+handovers-requires : tie.Need-handovers-requires Inv-loop μ-loop
+handovers-requires c κs = search needs
 
 loop-holds : tie.Need-loop-holds Inv-loop μ-loop
 loop-holds c = (omega arith, refl)
@@ -41,16 +45,21 @@ element-copy-out-wide c = omega arith
 wide-requires : tie.Need-wide-requires Inv-loop μ-loop
 wide-requires c κs = search needs
 
+array-read-peak : tie.Need-array-read-peak Inv-loop μ-loop
+array-read-peak c = omega arith
+
 peak-requires : tie.Need-peak-requires Inv-loop μ-loop
 peak-requires c κs =
-    let c-pre = c .before .before .before .before .before .before .pre in
+    let c-pre = c .before .before .before .before .before .before .before .pre in
     let h = c-pre in
     let e = ap (λ (n : Counts). n .pools) (h .1) in
     (h .0, omega arith, omega arith)
 
 returns : tie.Need-returns Inv-loop μ-loop
 returns c =
-    let c-args = c .before .before .before .before .before .before .before .before .args in
+    let at8 = c .before .before .before .before .before .before .before .before in
+    let c-args = at8 .before .args in
+    let c-handovers = c .before .before .before .before .before .before .before .handovers in
     let c-loop = c .before .before .before .before .before .before .loop in
     let c-if1 = c .before .before .before .before .if1 in
     let j = c-args .t2 in
@@ -58,7 +67,7 @@ returns c =
     let k = c-loop .k in
     let available = getD-tabulate (j .counts .pools) (λ i. getD (j .pools) i 0) k 0 (c-if1 .taken) in
     let cap = available ∙ sym (c .before .before .wide .ensures .0) in
-    let most = c .before .peak .ensures (jobIn j) in
+    let most = c .before .peak .ensures (jobIn j) (sym (c-handovers .ensures k (rw length-tabulate (c-if1 .taken)))) in
     let over = c .if2 .taken in
     let exceeds = exceeds-by-peak (jobIn j) k P (getD (jobIn j .pools) k 0)
     ∙ lt-ltb (getD (jobIn j .pools) k 0) (peak (jobIn j) k P) (omega arith) in
@@ -73,7 +82,9 @@ loop-less c = omega arith
 
 loop-again : tie.Need-loop-again Inv-loop μ-loop
 loop-again c =
-    let c-args = c .before .before .before .before .before .before .before .before .args in
+    let at8 = c .before .before .before .before .before .before .before .before in
+    let c-args = at8 .before .args in
+    let c-handovers = c .before .before .before .before .before .before .before .handovers in
     let c-loop = c .before .before .before .before .before .before .loop in
     let c-if1 = c .before .before .before .before .if1 in
     let j = c-args .t2 in
@@ -81,7 +92,7 @@ loop-again c =
     let k = c-loop .k in
     let available = getD-tabulate (j .counts .pools) (λ i. getD (j .pools) i 0) k 0 (c-if1 .taken) in
     let cap = available ∙ sym (c .before .before .wide .ensures .0) in
-    let most = c .before .peak .ensures (jobIn j) in
+    let most = c .before .peak .ensures (jobIn j) (sym (c-handovers .ensures k (rw length-tabulate (c-if1 .taken)))) in
     let enough = c .if2 .left in
     let suffices = exceeds-by-peak (jobIn j) k P (getD (jobIn j .pools) k 0)
     ∙ le-ltb (getD (jobIn j .pools) k 0) (peak (jobIn j) k P) (omega arith) in
@@ -90,7 +101,7 @@ loop-again c =
 returns-2 : tie.Need-returns-2 Inv-loop μ-loop
 unfolding first
 returns-2 c =
-    let c-args = c .before .before .before .before .args in
+    let c-args = c .before .before .before .before .before .args in
     let c-loop = c .before .before .loop in
     let j = c-args .t2 in
     let q : c-loop .k ≡ j .counts .pools = omega arith in
@@ -104,10 +115,12 @@ within-spec =
     (tie.spec
     Inv-loop
     μ-loop
+    handovers-requires
     loop-holds
     mul-wide
     element-copy-out-wide
     wide-requires
+    array-read-peak
     peak-requires
     returns
     add-k

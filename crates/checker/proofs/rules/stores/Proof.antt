@@ -1,19 +1,18 @@
 -- `stores` meets its contract: none of the first k stores is exceeded.
 -- Assumes nothing.
-use Prim.Native.Nat.{_-_, _≤_}
+use Prim.Native.Nat.{ℕ, _-_, _≤_}
 use mathlib.Core.Path.{_≡_, refl, sym, ap, _∙_}
 use mathlib.Core.Bool.{true, false}
-use mathlib.Core.List.{[]}
+use mathlib.Core.List.{List, []}
 use lib.ListN.{length, getD}
 use borrow.Author.Tests.{lt-ltb, le-ltb}
 use Rattle.lists.specs.Lists.{anyBelow}
 use Rattle.lists.proofs.Below.{below-more, below-found}
-use Rattle.lists.proofs.Tabulate.{getD-tabulate, length-tabulate}
-use Rattle.job.specs.Resources.{storeCap}
-use Rattle.job.specs.declared.Counts.{Counts}
+use Rattle.lists.proofs.Tabulate.{length-tabulate}
 use Rattle.job.specs.declared.refusal.Refusal.the-variants.{StoreExceeded}
 use Rattle.job.specs.Job.{jobIn}
 use Rattle.job.specs.Refusal.{first}
+use Rattle.job.proofs.ResourceLaws.{allowed-is}
 use Rattle.job.proofs.Table.{first-here, first-next}
 use Rattle.timeline.specs.Accepted.{exceedsStore}
 use Rattle.timeline.specs.Value.{stepsOf}
@@ -23,10 +22,14 @@ use Rattle.checker.proofs.rules.stores.Statement.{statement}
 use Rattle.checker.proofs.rules.stores.Tie as tie
 
 abbrev Inv-loop : tie.InvT-loop
-Inv-loop plan job counts k₀ k = (k ≤ counts .stores) × (anyBelow k (exceedsStore (jobIn job) (stepsOf plan)) ≡ false)
+Inv-loop plan job counts limits k₀ k =
+    (k ≤ counts .stores) × (anyBelow k (exceedsStore (jobIn job) (stepsOf plan)) ≡ false)
 
 abbrev μ-loop : tie.MeasureT-loop
-μ-loop plan job counts k₀ k = counts .stores - k
+μ-loop plan job counts limits k₀ k = counts .stores - k
+
+allowed-requires : tie.Need-allowed-requires Inv-loop μ-loop
+allowed-requires c κs = search needs
 
 loop-holds : tie.Need-loop-holds Inv-loop μ-loop
 loop-holds c = (omega arith, refl)
@@ -34,8 +37,8 @@ loop-holds c = (omega arith, refl)
 mul-wide : tie.Need-mul-wide Inv-loop μ-loop
 mul-wide c = omega arith
 
-element-copy-out-wide : tie.Need-element-copy-out-wide Inv-loop μ-loop
-element-copy-out-wide c = omega arith
+array-read-wide : tie.Need-array-read-wide Inv-loop μ-loop
+array-read-wide c = omega arith
 
 wide-requires : tie.Need-wide-requires Inv-loop μ-loop
 wide-requires c κs = search needs
@@ -43,26 +46,21 @@ wide-requires c κs = search needs
 used-up-requires : tie.Need-used-up-requires Inv-loop μ-loop
 used-up-requires c κs =
     let c-pre = c .before .before .before .before .before .before .pre in
-    let h = c-pre in
-    let e = ap (λ (n : Counts). n .stores) (h .1) in
-    (h .0, omega arith, omega arith)
+    (c-pre .0, c-pre .1, omega arith, omega arith)
 
 returns : tie.Need-returns Inv-loop μ-loop
-unfolding storeCap
 returns c =
     let c-args = c .before .before .before .before .before .before .before .before .args in
-    let c-loop = c .before .before .before .before .before .before .loop in
-    let c-if1 = c .before .before .before .before .if1 in
-    let j = c-args .t2 in
+    let c-allowed = c .before .before .before .before .before .before .allowed in
+    let c-loop = c .before .before .before .before .before .loop in
+    let c-if1 = c .before .before .before .if1 in
+    let j = c-args .job in
     let test = exceedsStore (jobIn j) (stepsOf (c-args .plan)) in
     let k = c-loop .k in
-    let cap = getD-tabulate (j .counts .stores) (λ i. getD (j .stores) i 0) k 0 (c-if1 .taken) in
-    let e : test k ≡ true =
-    lt-ltb _ _ (rw (
-      c .before .used-up .ensures (jobIn j),
-      c .before .before .wide .ensures .0
-          ∙ sym cap,
-    ) at (c .if2 .taken)) in
+    let cap = c .before .before .wide .ensures .0
+    ∙ ap (λ (l : List ℕ). getD l k 0) (c-allowed .ensures)
+    ∙ allowed-is j k (c-if1 .taken) in
+    let e : test k ≡ true = lt-ltb _ _ (rw (c .before .used-up .ensures, cap) at (c .if2 .taken)) in
     sym (first-here StoreExceeded _ []
     (rw length-tabulate (below-found (j .counts .stores) test k (c-if1 .taken) e)))
 
@@ -73,29 +71,26 @@ loop-less : tie.Need-loop-less Inv-loop μ-loop
 loop-less c = omega arith
 
 loop-again : tie.Need-loop-again Inv-loop μ-loop
-unfolding storeCap
 loop-again c =
     let c-args = c .before .before .before .before .before .before .before .before .args in
-    let c-loop = c .before .before .before .before .before .before .loop in
-    let c-if1 = c .before .before .before .before .if1 in
-    let j = c-args .t2 in
+    let c-allowed = c .before .before .before .before .before .before .allowed in
+    let c-loop = c .before .before .before .before .before .loop in
+    let c-if1 = c .before .before .before .if1 in
+    let j = c-args .job in
     let test = exceedsStore (jobIn j) (stepsOf (c-args .plan)) in
     let k = c-loop .k in
-    let cap = getD-tabulate (j .counts .stores) (λ i. getD (j .stores) i 0) k 0 (c-if1 .taken) in
-    let e : test k ≡ false =
-    le-ltb _ _ (rw (
-      c .before .used-up .ensures (jobIn j),
-      c .before .before .wide .ensures .0
-          ∙ sym cap,
-    ) at (c .if2 .left)) in
+    let cap = c .before .before .wide .ensures .0
+    ∙ ap (λ (l : List ℕ). getD l k 0) (c-allowed .ensures)
+    ∙ allowed-is j k (c-if1 .taken) in
+    let e : test k ≡ false = le-ltb _ _ (rw (c .before .used-up .ensures, cap) at (c .if2 .left)) in
     (omega arith, below-more k test ∙ rw (e, c-loop .inv .1))
 
 returns-2 : tie.Need-returns-2 Inv-loop μ-loop
 unfolding first
 returns-2 c =
-    let c-args = c .before .before .before .before .args in
+    let c-args = c .before .before .before .before .before .args in
     let c-loop = c .before .before .loop in
-    let j = c-args .t2 in
+    let j = c-args .job in
     let q : c-loop .k ≡ j .counts .stores = omega arith in
     let none : anyBelow (length (jobIn j .stores)) (exceedsStore (jobIn j) (stepsOf (c-args .plan))) ≡ false =
     rw length-tabulate (rw q at (c-loop .inv .1)) in
@@ -107,9 +102,10 @@ stores-spec =
     (tie.spec
     Inv-loop
     μ-loop
+    allowed-requires
     loop-holds
     mul-wide
-    element-copy-out-wide
+    array-read-wide
     wide-requires
     used-up-requires
     returns

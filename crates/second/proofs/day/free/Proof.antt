@@ -26,20 +26,32 @@ mul-action c = search needs
 element-copy-out-action : tie.Need-element-copy-out-action Inv-loop μ-loop
 element-copy-out-action c = search needs
 
+mul-used : tie.Need-mul-used Inv-loop μ-loop
+mul-used c = search needs
+
+element-copy-out-used : tie.Need-element-copy-out-used Inv-loop μ-loop
+element-copy-out-used c = search needs
+
 mul-if1 : tie.Need-mul-if1 Inv-loop μ-loop
 mul-if1 c = search needs
 
 element-copy-out-if1 : tie.Need-element-copy-out-if1 Inv-loop μ-loop
 element-copy-out-if1 c = search needs
 
-mul-less : tie.Need-mul-less Inv-loop μ-loop
-mul-less c = search needs
-
-element-copy-out-less : tie.Need-element-copy-out-less Inv-loop μ-loop
-element-copy-out-less c = search needs
-
 less-requires : tie.Need-less-requires Inv-loop μ-loop
 less-requires c κs = search needs
+
+mul-less-handed-over : tie.Need-mul-less-handed-over Inv-loop μ-loop
+mul-less-handed-over c = search needs
+
+element-copy-out-less-handed-over : tie.Need-element-copy-out-less-handed-over Inv-loop μ-loop
+element-copy-out-less-handed-over c = search needs
+
+element-copy-out-less-handed-over-2 : tie.Need-element-copy-out-less-handed-over-2 Inv-loop μ-loop
+element-copy-out-less-handed-over-2 c = search needs
+
+less-handed-over-requires : tie.Need-less-handed-over-requires Inv-loop μ-loop
+less-handed-over-requires c κs = search needs
 
 add-i : tie.Need-add-i Inv-loop μ-loop
 add-i c = search needs
@@ -64,11 +76,15 @@ free-spec =
     loop-holds
     mul-action
     element-copy-out-action
+    mul-used
+    element-copy-out-used
     mul-if1
     element-copy-out-if1
-    mul-less
-    element-copy-out-less
     less-requires
+    mul-less-handed-over
+    element-copy-out-less-handed-over
+    element-copy-out-less-handed-over-2
+    less-handed-over-requires
     add-i
     loop-less
     loop-again

@@ -20,11 +20,11 @@ mul-action c = search needs
 element-copy-out-action : tie.Need-element-copy-out-action Inv-loop μ-loop
 element-copy-out-action c = search needs
 
-mul-if1 : tie.Need-mul-if1 Inv-loop μ-loop
-mul-if1 c = search needs
+mul-ends : tie.Need-mul-ends Inv-loop μ-loop
+mul-ends c = search needs
 
-element-copy-out-if1 : tie.Need-element-copy-out-if1 Inv-loop μ-loop
-element-copy-out-if1 c = search needs
+element-copy-out-ends : tie.Need-element-copy-out-ends Inv-loop μ-loop
+element-copy-out-ends c = search needs
 
 mul-less : tie.Need-mul-less Inv-loop μ-loop
 mul-less c = search needs
@@ -40,6 +40,21 @@ mul-state c = search needs
 
 element-write-state : tie.Need-element-write-state Inv-loop μ-loop
 element-write-state c = search needs
+
+mul-a-minute-later : tie.Need-mul-a-minute-later Inv-loop μ-loop
+mul-a-minute-later c = search needs
+
+element-copy-out-a-minute-later : tie.Need-element-copy-out-a-minute-later Inv-loop μ-loop
+element-copy-out-a-minute-later c = search needs
+
+a-minute-later-requires : tie.Need-a-minute-later-requires Inv-loop μ-loop
+a-minute-later-requires c κs = search needs
+
+mul-state-2 : tie.Need-mul-state-2 Inv-loop μ-loop
+mul-state-2 c = search needs
+
+element-write-state-2 : tie.Need-element-write-state-2 Inv-loop μ-loop
+element-write-state-2 c = search needs
 
 add-i : tie.Need-add-i Inv-loop μ-loop
 add-i c = search needs
@@ -62,13 +77,18 @@ tick-spec =
     loop-holds
     mul-action
     element-copy-out-action
-    mul-if1
-    element-copy-out-if1
+    mul-ends
+    element-copy-out-ends
     mul-less
     element-copy-out-less
     less-requires
     mul-state
     element-write-state
+    mul-a-minute-later
+    element-copy-out-a-minute-later
+    a-minute-later-requires
+    mul-state-2
+    element-write-state-2
     add-i
     loop-less
     loop-again
