@@ -10,8 +10,6 @@ ghost use Prim.Native.Nat.{_<_};
 // How many facts a set can have: the bits of a word.
 pub const BITS: u8 = 64;
 
-const WORD: u32 = BITS as u32;
-
 // The set of all of them.
 pub const ALL: u64 = 18_446_744_073_709_551_615;
 
@@ -95,9 +93,6 @@ pub fn next(set: u64, from: u8) -> u8
     if BITS <= from {
         return BITS;
     }
-    let rest = set >> from;
-    if rest == 0 {
-        return BITS;
-    }
-    from + (u64::trailing_zeros(rest) % WORD) as u8
+    let above = (set >> from) << from;
+    u64::trailing_zeros(above) as u8
 }
