@@ -57,7 +57,8 @@ struct Minute {
     added: u64,  // what the steps that stop now add
 }
 
-/// What the chosen steps use: of each pool in the minute before and in the minute now, and of each store over all.
+/// What the chosen steps use: of each store over all; of each pool in the last minute of the share of a step that stops
+/// now, and in the minute in which that share is free again. Without handovers: in the minute before, and now.
 #[derive(Clone, Copy, Default)]
 struct Uses {
     before: [u64; 4],
@@ -85,19 +86,18 @@ impl State {
     }
 }
 
-/// The sums with the amounts added, where they count.
-fn plus(sums: &mut [u64; 4], amounts: &[u64; 4], counts: bool) {
-    if counts {
-        for k in 0..4 {
-            sums[k] += amounts[k];
-        }
+/// The sums with the amounts added, each where it counts.
+fn plus(sums: &mut [u64; 4], amounts: &[u64; 4], counts: impl Fn(usize) -> bool) {
+    for k in 0..4 {
+        sums[k] += if counts(k) { amounts[k] } else { 0 };
     }
 }
 
-/// The search for plans of a job: its tables, what has begun and what the kept steps add, the rules left out, the
-/// horizon, the nodes so far, and the number of nodes and the instant at which it gives up.
+/// The search for plans of a job: its handovers and tables, what has begun and what the kept steps add, the rules left
+/// out, the horizon, the nodes so far, and the number of nodes and the instant at which it gives up.
 struct Search<'a> {
     job: &'a Job,
+    handovers: [u32; 4],
     rows: Vec<Row>,
     landmarks: Landmarks,
     times: Times,
@@ -139,9 +139,9 @@ impl Search<'_> {
         if stop == t {
             at.added |= row.adds;
         }
-        plus(&mut uses.before, &row.pools, start < t && t <= stop);
-        plus(&mut uses.now, &row.pools, start <= t && t < stop);
-        plus(&mut uses.spent, &row.stores, true);
+        plus(&mut uses.before, &row.pools, |k| start < t + self.handovers[k] && t <= stop);
+        plus(&mut uses.now, &row.pools, |k| start <= t + self.handovers[k] && t < stop);
+        plus(&mut uses.spent, &row.stores, |_| true);
     }
 
     /// The state with these steps at a minute, where nothing is wanted.
@@ -182,19 +182,11 @@ impl Search<'_> {
         !exceeds(&self.job.pool, &st.uses.before, &row.pools) && !exceeds(&self.job.store, &st.uses.spent, &row.stores)
     }
 
-    /// What the chosen steps use of each pool in minute t.
-    fn uses_at(&self, st: &State, t: u32) -> [u64; 4] {
-        let mut sums = [0; 4];
-        for step in st.steps() {
-            plus(&mut sums, &self.row(step).pools, step.start as u32 <= t && t < self.stop(step));
-        }
-        sums
-    }
-
-    /// Whether an action can run in the last minute of a kept step: they do not clash, and the pools suffice.
+    /// Whether an action can run beside a kept step that stops meanwhile: they do not clash, and the pools suffice in
+    /// the last minute of its shares.
     fn runs_beside(&self, st: &State, row: &Row, step: &Step) -> bool {
-        let last = self.stop(step) - 1;
-        row.clashes >> step.action & 1 == 0 && !exceeds(&self.job.pool, &self.uses_at(st, last), &row.pools)
+        let at_stop = self.stand(st.steps(), self.stop(step));
+        row.clashes >> step.action & 1 == 0 && !exceeds(&self.job.pool, &at_stop.uses.before, &row.pools)
     }
 
     /// Whether an action that stops at the state's minute can run beside each kept step that stops meanwhile.
@@ -246,10 +238,17 @@ impl Search<'_> {
         starts.filter(|&s| from <= s && s < st.minute).all(|s| self.times.by(self.needs_at(st, s), s))
     }
 
-    /// The event minute before: the last start of a chosen step, or the first free minute.
+    /// The events of a step: its start and, for each pool, the stop of a step whose share is free again then.
+    fn events(&self, step: &Step) -> impl Iterator<Item = u32> + '_ {
+        let start = step.start as u32;
+        let of_pools = self.handovers[..self.job.pools].iter().map(move |handover| start.saturating_sub(*handover));
+        std::iter::once(start).chain(of_pools)
+    }
+
+    /// The event minute before: the last event of a chosen step, or the first free minute.
     fn event(&self, st: &State) -> u32 {
-        let starts = st.steps().iter().map(|step| step.start as u32);
-        starts.filter(|&s| s < st.minute).fold(self.begun.first, u32::max)
+        let events = st.steps().iter().flat_map(|step| self.events(step));
+        events.filter(|&s| s < st.minute).fold(self.begun.first, u32::max)
     }
 
     /// What steps add.
@@ -466,7 +465,9 @@ fn search(job: &Job, begun: &Begun, way: &Way) -> (Result<Option<u32>, Late>, u6
     let landmarks = Landmarks::new(job, &rows, &times);
     let (without, most) = (way.without, way.nodes.unwrap_or(u64::MAX));
     let (given, horizon, nodes) = (0, 0, 0);
-    let mut search = Search { job, rows, landmarks, times, begun, given, without, horizon, nodes, most, until };
+    let handovers = [0, 1, 2, 3].map(|k| job.handover(k));
+    let mut search =
+        Search { job, handovers, rows, landmarks, times, begun, given, without, horizon, nodes, most, until };
     search.given = search.adds(begun.kept.iter());
     (search.shortest(), search.nodes)
 }

@@ -263,25 +263,37 @@ fn grown_plans(case: &mut Case, r: &mut Random, job: Job) {
 fn some_file(r: &mut Random, kind: u64, job: Job) -> Vec<u8> {
     match kind {
         0 => cases::damage(r, cases::file(&job)),
+        1 if r.one_in(3) => cases::with_fifth_body(r, &job),
         1 => cases::resize_bodies(r, cases::file(&job)),
         2 => cases::file(&cases::at_a_limit(r, job)),
         3 => {
             let longest = if r.one_in(4) { 5000 } else { 100 };
             let length = r.below(longest) as usize;
-            r.bytes(length)
+            cases::any_bytes(r, length)
         }
         _ => cases::file(&job),
     }
+}
+
+/// A small job, half of the time with a goal that some plan reaches.
+fn small_job(r: &mut Random) -> Job {
+    let mut job = cases::job(r, &cases::SMALL);
+    if r.one_in(2) {
+        job.goal = cases::reachable_goal(r, &job);
+    }
+    job
 }
 
 fn one_case(case: &mut Case) {
     let mut r = Random::new(case.seed);
     let size = r.below(8);
     let is_small = size > 1;
-    let mut job = cases::job(&mut r, [&cases::LARGE, &cases::ROOMY, &cases::SMALL][size.min(2) as usize]);
-    if is_small && r.one_in(2) {
-        job.goal = cases::reachable_goal(&mut r, &job);
-    }
+    let job = match size {
+        0 => cases::job(&mut r, &cases::LARGE),
+        1 => cases::job(&mut r, &cases::ROOMY),
+        2 | 3 => cases::errands(&mut r),
+        _ => small_job(&mut r),
+    };
     let kind = r.below(10);
     if kind == 4 {
         grown_plans(case, &mut r, job);
@@ -302,7 +314,7 @@ const ALL_SEEN: u64 = 100_000;
 
 /// The numbers of the table that were never told.
 fn never_told(refusals: &[u64]) -> Vec<usize> {
-    (1..=26).chain([35]).filter(|&number| refusals[number] == 0).collect()
+    (1..=27).chain([35]).filter(|&number| refusals[number] == 0).collect()
 }
 
 fn main() {
