@@ -2,6 +2,7 @@
 //! begun days, through the C interface. A difference prints the seed of its case and ends with status 1.
 //! Arguments: number of cases, first seed.
 mod cases;
+mod handovers;
 #[allow(dead_code)]
 #[path = "../bench/plain.rs"]
 mod plain;
@@ -36,7 +37,8 @@ fn expected(end: Result<u64, u64>) -> u64 {
 }
 
 /// What was seen: refusals by number (0: done), prices by their bits, accepted plans and planned ones by their steps,
-/// days by the number of pools that are in use at some minute, days with a pool of which all is in use, and replans.
+/// days by the number of pools that are in use at some minute, days with a pool of which all is in use, what handovers
+/// changed, and replans.
 struct Seen {
     refusals: [u64; 36],
     prices: [u64; 65],
@@ -44,6 +46,7 @@ struct Seen {
     planned: [u64; 33],
     pools: [u64; 5],
     full: u64,
+    handovers: handovers::Seen,
     replans: replans::Seen,
 }
 
@@ -137,6 +140,9 @@ impl Case<'_> {
         self.same("check", answer, expected(want));
         self.same_peaks("peaks of check", peaks, job.as_ref().ok().filter(|_| want.is_ok()), plan);
         self.seen.accepted[if answer & 255 == 0 { plan.len() / 3 } else { 0 }] += 1;
+        if let Ok(job) = job {
+            self.seen.handovers.checked(job, plan, want);
+        }
     }
 
     /// The call is lent rates of any values behind the job's pools and stores.
@@ -191,7 +197,11 @@ impl Case<'_> {
         let want = match job {
             Err(number) => refused(*number),
             Ok(_) if room < 96 => refused(21),
-            Ok(job) => simple_planner::least_end(job).map_or(refused(22), |end| done(end as u64, answer >> 48)),
+            Ok(job) => {
+                let least = simple_planner::least_end(job);
+                self.seen.handovers.planned(job, least);
+                least.map_or(refused(22), |end| done(end as u64, answer >> 48))
+            }
         };
         self.same("plan", answer, want);
         let plan = self.handed_out("plan", &lent, answer, job)?;
@@ -327,6 +337,7 @@ fn main() {
         planned: [0; 33],
         pools: [0; 5],
         full: 0,
+        handovers: handovers::Seen::default(),
         replans: replans::Seen::none(),
     };
     for seed in first..first + count {
@@ -337,6 +348,7 @@ fn main() {
     println!("plans accepted, by steps: {}", counts(&seen.accepted));
     println!("plans written, by steps: {}", counts(&seen.planned));
     println!("days, by pools in use: {}; all of a pool x {}", counts(&seen.pools), seen.full);
+    seen.handovers.print();
     seen.replans.print();
     let never = never_told(&seen.refusals);
     assert!(count < ALL_SEEN || never.is_empty(), "in {count} cases none was refused by {never:?}");
