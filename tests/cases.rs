@@ -123,8 +123,8 @@ fn scarce_pools(r: &mut Random, job: &mut Job) {
     }
 }
 
-/// A small job with an action for each fact, most of which are wanted, and scarce pools: which step waits for whose share
-/// decides when the day ends.
+/// A small job with an action for each fact, most of which are wanted, and scarce pools: which step waits for whose
+/// share decides when the day ends.
 pub fn errands(r: &mut Random) -> Job {
     let mut job = job(r, &SMALL);
     job.facts = 2 + r.below(4) as u8;

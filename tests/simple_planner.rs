@@ -46,7 +46,8 @@ fn started(job: &Job, state: &State, i: usize) -> State {
     next
 }
 
-/// The amounts of a pool that are handed over a minute later: also those of the steps ending then, for the whole handover.
+/// The amounts of a pool that are handed over a minute later: also those of the steps ending then, which have the whole
+/// handover left.
 fn hand_over(amounts: &mut Vec<u32>, ending: u32) {
     if !amounts.is_empty() {
         amounts.remove(0);
