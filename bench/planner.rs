@@ -86,18 +86,20 @@ impl State {
     }
 }
 
-/// The sums with the amounts added, each where it counts.
-fn plus(sums: &mut [u64; 4], amounts: &[u64; 4], counts: impl Fn(usize) -> bool) {
+/// The sums with the amounts added of those pools whose handover is longer than this.
+fn plus(sums: &mut [u64; 4], amounts: &[u64; 4], handovers: &[i32; 4], longer: i32) {
     for k in 0..4 {
-        sums[k] += if counts(k) { amounts[k] } else { 0 };
+        sums[k] += if longer < handovers[k] { amounts[k] } else { 0 };
     }
 }
 
-/// The search for plans of a job: its handovers and tables, what has begun and what the kept steps add, the rules left
-/// out, the horizon, the nodes so far, and the number of nodes and the instant at which it gives up.
+/// The search for plans of a job: its handovers, pool by pool, and how long before a start there are events; its tables;
+/// what has begun and what the kept steps add; the rules left out, the horizon, the nodes so far, and the number of nodes
+/// and the instant at which it gives up.
 struct Search<'a> {
     job: &'a Job,
-    handovers: [u32; 4],
+    handovers: [i32; 4],
+    waits: Vec<u32>,
     rows: Vec<Row>,
     landmarks: Landmarks,
     times: Times,
@@ -139,9 +141,16 @@ impl Search<'_> {
         if stop == t {
             at.added |= row.adds;
         }
-        plus(&mut uses.before, &row.pools, |k| start < t + self.handovers[k] && t <= stop);
-        plus(&mut uses.now, &row.pools, |k| start <= t + self.handovers[k] && t < stop);
-        plus(&mut uses.spent, &row.stores, |_| true);
+        let early = start as i32 - t as i32;
+        if t <= stop {
+            plus(&mut uses.before, &row.pools, &self.handovers, early);
+        }
+        if t < stop {
+            plus(&mut uses.now, &row.pools, &self.handovers, early - 1);
+        }
+        for k in 0..4 {
+            uses.spent[k] += row.stores[k];
+        }
     }
 
     /// The state with these steps at a minute, where nothing is wanted.
@@ -238,17 +247,17 @@ impl Search<'_> {
         starts.filter(|&s| from <= s && s < st.minute).all(|s| self.times.by(self.needs_at(st, s), s))
     }
 
-    /// The events of a step: its start and, for each pool, the stop of a step whose share is free again then.
-    fn events(&self, step: &Step) -> impl Iterator<Item = u32> + '_ {
-        let start = step.start as u32;
-        let of_pools = self.handovers[..self.job.pools].iter().map(move |handover| start.saturating_sub(*handover));
-        std::iter::once(start).chain(of_pools)
-    }
-
-    /// The event minute before: the last event of a chosen step, or the first free minute.
+    /// The event minute before: the last event of a chosen step, or the first free minute. The events of a step are its
+    /// start and, for each pool, the stop of a step whose share is free again then.
     fn event(&self, st: &State) -> u32 {
-        let events = st.steps().iter().flat_map(|step| self.events(step));
-        events.filter(|&s| s < st.minute).fold(self.begun.first, u32::max)
+        let mut latest = self.begun.first;
+        for step in st.steps() {
+            for wait in &self.waits {
+                let event = (step.start as u32).saturating_sub(*wait);
+                latest = if event < st.minute { latest.max(event) } else { latest };
+            }
+        }
+        latest
     }
 
     /// What steps add.
@@ -457,6 +466,14 @@ impl Search<'_> {
     }
 }
 
+/// The different handovers of the job's pools, and none: so long before a start are events.
+fn waits(job: &Job) -> Vec<u32> {
+    let mut waits: Vec<u32> = (0..job.pools).map(|k| job.handover(k)).chain([0]).collect();
+    waits.sort();
+    waits.dedup();
+    waits
+}
+
 /// The least end of a plan of the job that keeps what has begun, none where there is no plan, or Late; and the nodes.
 fn search(job: &Job, begun: &Begun, way: &Way) -> (Result<Option<u32>, Late>, u64) {
     let until = way.nodes.is_none().then(|| Instant::now() + LIMIT);
@@ -465,9 +482,9 @@ fn search(job: &Job, begun: &Begun, way: &Way) -> (Result<Option<u32>, Late>, u6
     let landmarks = Landmarks::new(job, &rows, &times);
     let (without, most) = (way.without, way.nodes.unwrap_or(u64::MAX));
     let (given, horizon, nodes) = (0, 0, 0);
-    let handovers = [0, 1, 2, 3].map(|k| job.handover(k));
+    let (handovers, waits) = ([0, 1, 2, 3].map(|k| job.handover(k) as i32), waits(job));
     let mut search =
-        Search { job, handovers, rows, landmarks, times, begun, given, without, horizon, nodes, most, until };
+        Search { job, handovers, waits, rows, landmarks, times, begun, given, without, horizon, nodes, most, until };
     search.given = search.adds(begun.kept.iter());
     (search.shortest(), search.nodes)
 }

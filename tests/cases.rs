@@ -230,7 +230,10 @@ pub fn damage(r: &mut Random, mut file: Vec<u8>) -> Vec<u8> {
             file[at] = file[at].wrapping_add(r.below(9) as u8).wrapping_sub(4);
         }
         4 => file[0] = if contents == 20 { 16 } else { 20 },
-        5 => file.truncate((12 + r.below(12)) as usize),
+        5 => {
+            file.truncate(12 + r.below(12) as usize);
+            file[1] = r.one_in(4) as u8;
+        }
         _ => {
             for _ in 0..1 + r.below(3) {
                 let at = r.below(file.len() as u64) as usize;
