@@ -176,8 +176,15 @@ pub fn file(job: &Job) -> Vec<u8> {
     [contents(&sizes), bodies.concat()].concat()
 }
 
+/// The lengths of a file's bodies, and all that stands behind the contents.
+pub fn parts(file: &[u8]) -> (Vec<usize>, Vec<u8>) {
+    let entries = plain::form_of(file).entries();
+    let size = |k: usize| u16::from_le_bytes([file[4 * k + 2], file[4 * k + 3]]) as usize;
+    ((0..entries).map(size).collect(), file[4 * entries..].to_vec())
+}
+
 /// The contents of a file with bodies of these lengths.
-fn contents(sizes: &[usize]) -> Vec<u8> {
+pub fn contents(sizes: &[usize]) -> Vec<u8> {
     let mut bytes = Vec::new();
     let mut at = 4 * sizes.len();
     for size in sizes {
@@ -247,9 +254,7 @@ pub fn damage(r: &mut Random, mut file: Vec<u8>) -> Vec<u8> {
 /// The contents say other lengths, which still fit the file: bodies that no job has. The file has as many entries as
 /// before, or one more or fewer; that one's bytes belong to the actions.
 pub fn resize_bodies(r: &mut Random, file: Vec<u8>) -> Vec<u8> {
-    let entries = plain::form_of(&file).entries();
-    let size = |k: usize| u16::from_le_bytes([file[4 * k + 2], file[4 * k + 3]]) as usize;
-    let mut sizes: Vec<usize> = (0..entries).map(size).collect();
+    let (mut sizes, bytes) = parts(&file);
     if r.one_in(4) {
         sizes.resize(5, 0);
     } else if r.one_in(8) {
@@ -259,7 +264,7 @@ pub fn resize_bodies(r: &mut Random, file: Vec<u8>) -> Vec<u8> {
     let moved = sizes[from].min(r.below(9) as usize);
     sizes[from] -= moved;
     sizes[to] += moved;
-    [contents(&sizes), file[4 * entries..].to_vec()].concat()
+    [contents(&sizes), bytes].concat()
 }
 
 /// Any bytes, of which some begin with the offset of a form; or any few bodies behind contents that have their lengths.
@@ -279,11 +284,10 @@ pub fn any_bytes(r: &mut Random, length: usize) -> Vec<u8> {
 
 /// A file with five entries, the last for a body of any few bytes.
 pub fn with_fifth_body(r: &mut Random, job: &Job) -> Vec<u8> {
-    let file = file(&Job { form: Form::Four, ..copy(job) });
-    let size = |k: usize| u16::from_le_bytes([file[4 * k + 2], file[4 * k + 3]]) as usize;
-    let length = r.below(7) as usize;
-    let fifth: Vec<u8> = (0..length).map(|_| r.below(32) as u8).collect();
-    [contents(&[size(0), size(1), size(2), size(3), length]), file[16..].to_vec(), fifth].concat()
+    let (mut sizes, bytes) = parts(&file(&Job { form: Form::Four, ..copy(job) }));
+    let fifth: Vec<u8> = (0..r.below(7)).map(|_| r.below(32) as u8).collect();
+    sizes.push(fifth.len());
+    [contents(&sizes), bytes, fifth].concat()
 }
 
 fn bytes_of(steps: &[(u16, u8)]) -> Vec<u8> {

@@ -1,7 +1,8 @@
 //! Compares the calls with an independent implementation in plain Rust, on random jobs, files, sets, plans, rates and
-//! begun days, through the C interface. A difference prints the seed of its case and ends with status 1.
-//! Arguments: number of cases, first seed.
+//! begun days, through the C interface. Before those it goes through files of either form one by one, as seed 0.
+//! A difference prints the seed of its case and ends with status 1. Arguments: number of cases, first seed.
 mod cases;
+mod forms;
 mod handovers;
 #[allow(dead_code)]
 #[path = "../bench/plain.rs"]
@@ -340,6 +341,9 @@ fn main() {
         handovers: handovers::Seen::default(),
         replans: replans::Seen::none(),
     };
+    for (place, file) in forms::every_file().iter().enumerate() {
+        every_call(&mut Case { seed: 0, seen: &mut seen }, &mut Random::new(place as u64), file, false);
+    }
     for seed in first..first + count {
         one_case(&mut Case { seed, seen: &mut seen });
     }
