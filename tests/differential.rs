@@ -270,13 +270,13 @@ fn grown_plans(case: &mut Case, r: &mut Random, job: Job) {
     }
 }
 
-/// A file with a job within the limits, one at a limit or beyond, one that is damaged, or any bytes.
+/// A file with a job within the limits, one at up to three limits or beyond, one that is damaged, or any bytes.
 fn some_file(r: &mut Random, kind: u64, job: Job) -> Vec<u8> {
     match kind {
         0 => cases::damage(r, cases::file(&job)),
         1 if r.one_in(3) => cases::with_fifth_body(r, &job),
         1 => cases::resize_bodies(r, cases::file(&job)),
-        2 => cases::file(&cases::at_a_limit(r, job)),
+        2 => cases::file(&(0..=r.below(3)).fold(job, |job, _| cases::at_a_limit(r, job))),
         3 => {
             let longest = if r.one_in(4) { 5000 } else { 100 };
             let length = r.below(longest) as usize;
