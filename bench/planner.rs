@@ -93,9 +93,9 @@ fn plus(sums: &mut [u64; 4], amounts: &[u64; 4], handovers: &[i32; 4], longer: i
     }
 }
 
-/// The search for plans of a job: its handovers, pool by pool, and how long before a start there are events; its tables;
-/// what has begun and what the kept steps add; the rules left out, the horizon, the nodes so far, and the number of nodes
-/// and the instant at which it gives up.
+/// The search for plans of a job: its handovers, pool by pool, and how long before a start there are events; its
+/// tables; what has begun and what the kept steps add; the rules left out, the horizon, the nodes so far, and the number
+/// of nodes and the instant at which it gives up.
 struct Search<'a> {
     job: &'a Job,
     handovers: [i32; 4],

@@ -1,5 +1,5 @@
-//! Files of either form, gone through one by one: every length, every byte of the contents, every handover, and bodies of
-//! other lengths behind contents that say so.
+//! Files of either form, gone through one by one: every length, every byte of the contents, every handover, and bodies
+//! of other lengths behind contents that say so.
 use crate::cases::{self, Random};
 use crate::plain::{self, Form, Job};
 

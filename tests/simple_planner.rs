@@ -6,8 +6,8 @@ use std::collections::HashSet;
 const STEPS: u8 = 32;
 
 /// What plans have reached at a minute: the facts that hold, the running actions with the minutes left of each, the
-/// amounts of pools that are handed over (those that are free in a minute, in two, and so on), the amounts of stores used
-/// up, and the number of steps.
+/// amounts of pools that are handed over (those that are free in a minute, in two, and so on), the amounts of stores
+/// used up, and the number of steps.
 #[derive(Clone, PartialEq, Eq, Hash)]
 struct State {
     facts: u64,
