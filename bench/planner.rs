@@ -121,6 +121,13 @@ impl Search<'_> {
         step.start as u32 + self.row(step).duration
     }
 
+    /// Adds a step's uses of pools in the last minute of the share of a step that stops at minute t.
+    fn join_before(&self, sums: &mut [u64; 4], step: &Step, t: u32) {
+        if t <= self.stop(step) {
+            plus(sums, &self.row(step).pools, &self.handovers, step.start as i32 - t as i32);
+        }
+    }
+
     /// Adds a step to the sets and sums of the state's minute.
     fn join(&self, st: &mut State, step: &Step) {
         let row = self.row(step);
@@ -141,12 +148,9 @@ impl Search<'_> {
         if stop == t {
             at.added |= row.adds;
         }
-        let early = start as i32 - t as i32;
-        if t <= stop {
-            plus(&mut uses.before, &row.pools, &self.handovers, early);
-        }
+        self.join_before(&mut uses.before, step, t);
         if t < stop {
-            plus(&mut uses.now, &row.pools, &self.handovers, early - 1);
+            plus(&mut uses.now, &row.pools, &self.handovers, start as i32 - t as i32 - 1);
         }
         for k in 0..4 {
             uses.spent[k] += row.stores[k];
@@ -191,16 +195,30 @@ impl Search<'_> {
         !exceeds(&self.job.pool, &st.uses.before, &row.pools) && !exceeds(&self.job.store, &st.uses.spent, &row.stores)
     }
 
-    /// Whether an action can run beside a kept step that stops meanwhile: they do not clash, and the pools suffice in
-    /// the last minute of its shares.
-    fn runs_beside(&self, st: &State, row: &Row, step: &Step) -> bool {
-        let at_stop = self.stand(st.steps(), self.stop(step));
-        row.clashes >> step.action & 1 == 0 && !exceeds(&self.job.pool, &at_stop.uses.before, &row.pools)
+    /// What the chosen steps use of each pool in the last minute of the share of a step that stops at minute t.
+    fn uses_before(&self, st: &State, t: u32) -> [u64; 4] {
+        let mut sums = [0; 4];
+        st.steps().iter().for_each(|step| self.join_before(&mut sums, step, t));
+        sums
     }
 
-    /// Whether an action that stops at the state's minute can run beside each kept step that stops meanwhile.
+    /// Whether an action from a start on can run beside a kept step: where that stops meanwhile, they do not clash; in
+    /// the last minute of each of its shares that the action's own meets, the pool suffices.
+    fn runs_beside(&self, st: &State, row: &Row, start: u32, step: &Step) -> bool {
+        let stop = self.stop(step);
+        let uses = self.uses_before(st, stop);
+        let suffices = |k: usize| uses[k] + row.pools[k] <= self.job.pool[k] as u64;
+        let meets = |k: usize| (start as i32) < stop as i32 + self.handovers[k];
+        !(start < stop && row.clashes >> step.action & 1 == 1) && (0..self.job.pools).all(|k| !meets(k) || suffices(k))
+    }
+
+    /// Whether an action that stops at the state's minute can run beside each kept step that stops before, and whose
+    /// shares last into it.
     fn beside_kept(&self, st: &State, row: &Row) -> bool {
-        self.kept_within(st.minute - row.duration, st.minute - 1).all(|step| self.runs_beside(st, row, step))
+        let start = st.minute - row.duration;
+        let longest = self.waits[self.waits.len() - 1];
+        let mut kept = self.kept_within(start.saturating_sub(longest), st.minute - 1);
+        kept.all(|step| self.runs_beside(st, row, start, step))
     }
 
     /// Whether an action may stop at the state's minute.
