@@ -32,6 +32,7 @@ fn largest() -> Vec<u8> {
         stores: [1, 1, 1, 1],
     };
     let job = plain::Job {
+        form: plain::Form::Four,
         facts: 64,
         deadline: 1440,
         start: 0,
@@ -41,6 +42,7 @@ fn largest() -> Vec<u8> {
         pool: [1, 2, 3, 4],
         store: [1_000_000; 4],
         actions: (0..64).map(action).collect(),
+        handovers: [0; 4],
     };
     let mut out = vec![0; 4096];
     let n = plain::write(&job, &mut out).unwrap();

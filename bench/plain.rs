@@ -11,7 +11,21 @@ pub struct Action {
     pub stores: [u32; 4],
 }
 
+/// Which entries the contents of a job's file have: four, or five, the last for the handovers.
+#[derive(Clone, Copy, PartialEq, Eq)]
+pub enum Form {
+    Four,
+    Five,
+}
+
+impl Form {
+    pub fn entries(self) -> usize {
+        if self == Form::Five { 5 } else { 4 }
+    }
+}
+
 pub struct Job {
+    pub form: Form,
     pub facts: u8,
     pub deadline: u16,
     pub start: u64,
@@ -21,6 +35,14 @@ pub struct Job {
     pub pool: [u32; 4],
     pub store: [u32; 4],
     pub actions: Vec<Action>,
+    pub handovers: [u8; 4], // of a file with five entries
+}
+
+impl Job {
+    /// How many minutes a share of a pool stays in use after its step.
+    pub fn handover(&self, pool: usize) -> u32 {
+        if self.form == Form::Five { self.handovers[pool] as u32 } else { 0 }
+    }
 }
 
 fn u16_at(b: &[u8], at: usize) -> usize {
@@ -47,13 +69,20 @@ pub fn foreign(facts: u8, set: u64) -> bool {
     facts < 64 && set >> facts != 0
 }
 
+/// The form of a file: first offset 20 means five entries, anything else four.
+pub fn form_of(b: &[u8]) -> Form {
+    if b.len() >= 2 && u16_at(b, 0) == 20 { Form::Five } else { Form::Four }
+}
+
 pub fn read(b: &[u8]) -> Result<Job, u64> {
-    if b.len() < 16 || b.len() > 4096 {
+    let form = form_of(b);
+    let contents = 4 * form.entries();
+    if b.len() < contents || b.len() > 4096 {
         return Err(1);
     }
-    let mut at = 16;
-    let mut size = [0; 4];
-    for k in 0..4 {
+    let mut at = contents;
+    let mut size = [0; 5];
+    for k in 0..form.entries() {
         if u16_at(b, 4 * k) != at {
             return Err(2);
         }
@@ -68,14 +97,18 @@ pub fn read(b: &[u8]) -> Result<Job, u64> {
     if size[0] != 19 || size[1] % 4 != 0 || size[1] > 16 || size[2] % 4 != 0 || size[2] > 16 {
         return Err(3);
     }
-    if size[3] % one != 0 || size[3] / one > 64 {
+    if size[3] % one != 0 || size[3] / one > 64 || form == Form::Five && size[4] != pools {
         return Err(3);
     }
-    let head = &b[16..35];
-    let pool_at = 35;
+    let head = &b[contents..contents + 19];
+    let pool_at = contents + 19;
     let store_at = pool_at + size[1];
     let action_at = store_at + size[2];
+    let handover_at = action_at + size[3];
+    let mut handovers = [0; 4];
+    handovers[..size[4]].copy_from_slice(&b[handover_at..]);
     let job = Job {
+        form,
         facts: head[0],
         deadline: u16_at(head, 1) as u16,
         start: u64_at(head, 3),
@@ -84,7 +117,7 @@ pub fn read(b: &[u8]) -> Result<Job, u64> {
         stores,
         pool: amounts(&b[pool_at..store_at]),
         store: amounts(&b[store_at..action_at]),
-        actions: b[action_at..]
+        actions: b[action_at..handover_at]
             .chunks_exact(one)
             .map(|x| Action {
                 duration: x[0],
@@ -95,6 +128,7 @@ pub fn read(b: &[u8]) -> Result<Job, u64> {
                 stores: amounts(&x[25 + 4 * pools..]),
             })
             .collect(),
+        handovers,
     };
     validate(&job)?;
     Ok(job)
@@ -112,6 +146,9 @@ fn validate(j: &Job) -> Result<(), u64> {
     }
     if j.pool.iter().chain(&j.store).any(|&x| x > 1_000_000) {
         return Err(7);
+    }
+    if (0..j.pools).any(|k| j.handover(k) > 30) {
+        return Err(27);
     }
     if j.actions.iter().any(|a| a.duration == 0) {
         return Err(8);
@@ -135,22 +172,24 @@ fn validate(j: &Job) -> Result<(), u64> {
 pub fn write(j: &Job, out: &mut [u8]) -> Result<usize, u64> {
     validate(j)?;
     let one = 25 + 4 * j.pools + 4 * j.stores;
-    let sizes = [19, 4 * j.pools, 4 * j.stores, j.actions.len() * one];
-    let length = 16 + sizes.iter().sum::<usize>();
+    let sizes = [19, 4 * j.pools, 4 * j.stores, j.actions.len() * one, j.pools];
+    let entries = j.form.entries();
+    let length = 4 * entries + sizes[..entries].iter().sum::<usize>();
     if out.len() < length {
         return Err(23);
     }
-    let mut at = 16;
-    for k in 0..4 {
+    let mut at = 4 * entries;
+    for k in 0..entries {
         out[4 * k..4 * k + 2].copy_from_slice(&(at as u16).to_le_bytes());
         out[4 * k + 2..4 * k + 4].copy_from_slice(&(sizes[k] as u16).to_le_bytes());
         at += sizes[k];
     }
-    out[16] = j.facts;
-    out[17..19].copy_from_slice(&j.deadline.to_le_bytes());
-    out[19..27].copy_from_slice(&j.start.to_le_bytes());
-    out[27..35].copy_from_slice(&j.goal.to_le_bytes());
-    let mut at = 35;
+    let mut at = 4 * entries;
+    out[at] = j.facts;
+    out[at + 1..at + 3].copy_from_slice(&j.deadline.to_le_bytes());
+    out[at + 3..at + 11].copy_from_slice(&j.start.to_le_bytes());
+    out[at + 11..at + 19].copy_from_slice(&j.goal.to_le_bytes());
+    at += 19;
     let amounts = |out: &mut [u8], at: &mut usize, xs: &[u32]| {
         for x in xs {
             out[*at..*at + 4].copy_from_slice(&x.to_le_bytes());
@@ -168,6 +207,7 @@ pub fn write(j: &Job, out: &mut [u8]) -> Result<usize, u64> {
         amounts(out, &mut at, &a.pools[..j.pools]);
         amounts(out, &mut at, &a.stores[..j.stores]);
     }
+    out[at..length].copy_from_slice(&j.handovers[..length - at]);
     Ok(length)
 }
 
@@ -203,9 +243,11 @@ pub fn check(j: &Job, plan: &[u8]) -> Result<u64, u64> {
         }
     }
     let end = steps.iter().map(|s| s.2).max().unwrap_or(0);
-    for t in 0..end {
-        for k in 0..j.pools {
-            let used: u64 = steps.iter().filter(|s| s.1 <= t && t < s.2).map(|s| s.3.pools[k] as u64).sum();
+    for k in 0..j.pools {
+        let handover = j.handover(k);
+        let in_use = |s: &&(usize, u32, u32, &Action), t: u32| s.1 <= t && t < s.2 + handover;
+        for t in 0..end + handover {
+            let used: u64 = steps.iter().filter(|s| in_use(s, t)).map(|s| s.3.pools[k] as u64).sum();
             if used > j.pool[k] as u64 {
                 return Err(17);
             }
@@ -235,11 +277,12 @@ pub fn check(j: &Job, plan: &[u8]) -> Result<u64, u64> {
 
 /// The most of each pool that is in use in any minute, 0 for a pool that the job lacks: of a plan that is accepted.
 pub fn peaks(j: &Job, plan: &[u8]) -> [u32; 4] {
-    let mut minutes = vec![[0; 4]; j.deadline as usize];
+    let mut minutes = vec![[0; 4]; j.deadline as usize + 30];
     for step in plan.chunks_exact(3) {
         let a = &j.actions[step[0] as usize];
-        for in_use in minutes.iter_mut().skip(u16_at(step, 1)).take(a.duration as usize) {
-            (0..j.pools).for_each(|k| in_use[k] += a.pools[k]);
+        for k in 0..j.pools {
+            let lasts = a.duration as usize + j.handover(k) as usize;
+            minutes.iter_mut().skip(u16_at(step, 1)).take(lasts).for_each(|in_use| in_use[k] += a.pools[k]);
         }
     }
     [0, 1, 2, 3].map(|k| minutes.iter().map(|in_use| in_use[k]).max().unwrap_or(0))

@@ -57,7 +57,8 @@ struct Minute {
     added: u64,  // what the steps that stop now add
 }
 
-/// What the chosen steps use: of each pool in the minute before and in the minute now, and of each store over all.
+/// What the chosen steps use: of each store over all; of each pool in the last minute of the share of a step that stops
+/// now, and in the minute in which that share is free again. Without handovers: in the minute before, and now.
 #[derive(Clone, Copy, Default)]
 struct Uses {
     before: [u64; 4],
@@ -85,19 +86,20 @@ impl State {
     }
 }
 
-/// The sums with the amounts added, where they count.
-fn plus(sums: &mut [u64; 4], amounts: &[u64; 4], counts: bool) {
-    if counts {
-        for k in 0..4 {
-            sums[k] += amounts[k];
-        }
+/// The sums with the amounts added of those pools whose handover is longer than this.
+fn plus(sums: &mut [u64; 4], amounts: &[u64; 4], handovers: &[i32; 4], longer: i32) {
+    for k in 0..4 {
+        sums[k] += if longer < handovers[k] { amounts[k] } else { 0 };
     }
 }
 
-/// The search for plans of a job: its tables, what has begun and what the kept steps add, the rules left out, the
-/// horizon, the nodes so far, and the number of nodes and the instant at which it gives up.
+/// The search for plans of a job: its handovers, pool by pool, and how long before a start there are events; its
+/// tables; what has begun and what the kept steps add; the rules left out, the horizon, the nodes so far, and the number
+/// of nodes and the instant at which it gives up.
 struct Search<'a> {
     job: &'a Job,
+    handovers: [i32; 4],
+    waits: Vec<u32>,
     rows: Vec<Row>,
     landmarks: Landmarks,
     times: Times,
@@ -117,6 +119,13 @@ impl Search<'_> {
 
     fn stop(&self, step: &Step) -> u32 {
         step.start as u32 + self.row(step).duration
+    }
+
+    /// Adds a step's uses of pools in the last minute of the share of a step that stops at minute t.
+    fn join_before(&self, sums: &mut [u64; 4], step: &Step, t: u32) {
+        if t <= self.stop(step) {
+            plus(sums, &self.row(step).pools, &self.handovers, step.start as i32 - t as i32);
+        }
     }
 
     /// Adds a step to the sets and sums of the state's minute.
@@ -139,9 +148,13 @@ impl Search<'_> {
         if stop == t {
             at.added |= row.adds;
         }
-        plus(&mut uses.before, &row.pools, start < t && t <= stop);
-        plus(&mut uses.now, &row.pools, start <= t && t < stop);
-        plus(&mut uses.spent, &row.stores, true);
+        self.join_before(&mut uses.before, step, t);
+        if t < stop {
+            plus(&mut uses.now, &row.pools, &self.handovers, start as i32 - t as i32 - 1);
+        }
+        for k in 0..4 {
+            uses.spent[k] += row.stores[k];
+        }
     }
 
     /// The state with these steps at a minute, where nothing is wanted.
@@ -182,24 +195,30 @@ impl Search<'_> {
         !exceeds(&self.job.pool, &st.uses.before, &row.pools) && !exceeds(&self.job.store, &st.uses.spent, &row.stores)
     }
 
-    /// What the chosen steps use of each pool in minute t.
-    fn uses_at(&self, st: &State, t: u32) -> [u64; 4] {
+    /// What the chosen steps use of each pool in the last minute of the share of a step that stops at minute t.
+    fn uses_before(&self, st: &State, t: u32) -> [u64; 4] {
         let mut sums = [0; 4];
-        for step in st.steps() {
-            plus(&mut sums, &self.row(step).pools, step.start as u32 <= t && t < self.stop(step));
-        }
+        st.steps().iter().for_each(|step| self.join_before(&mut sums, step, t));
         sums
     }
 
-    /// Whether an action can run in the last minute of a kept step: they do not clash, and the pools suffice.
-    fn runs_beside(&self, st: &State, row: &Row, step: &Step) -> bool {
-        let last = self.stop(step) - 1;
-        row.clashes >> step.action & 1 == 0 && !exceeds(&self.job.pool, &self.uses_at(st, last), &row.pools)
+    /// Whether an action from a start on can run beside a kept step: where that stops meanwhile, they do not clash; in
+    /// the last minute of each of its shares that the action's own meets, the pool suffices.
+    fn runs_beside(&self, st: &State, row: &Row, start: u32, step: &Step) -> bool {
+        let stop = self.stop(step);
+        let uses = self.uses_before(st, stop);
+        let suffices = |k: usize| uses[k] + row.pools[k] <= self.job.pool[k] as u64;
+        let meets = |k: usize| (start as i32) < stop as i32 + self.handovers[k];
+        !(start < stop && row.clashes >> step.action & 1 == 1) && (0..self.job.pools).all(|k| !meets(k) || suffices(k))
     }
 
-    /// Whether an action that stops at the state's minute can run beside each kept step that stops meanwhile.
+    /// Whether an action that stops at the state's minute can run beside each kept step that stops before, and whose
+    /// shares last into it.
     fn beside_kept(&self, st: &State, row: &Row) -> bool {
-        self.kept_within(st.minute - row.duration, st.minute - 1).all(|step| self.runs_beside(st, row, step))
+        let start = st.minute - row.duration;
+        let longest = self.waits[self.waits.len() - 1];
+        let mut kept = self.kept_within(start.saturating_sub(longest), st.minute - 1);
+        kept.all(|step| self.runs_beside(st, row, start, step))
     }
 
     /// Whether an action may stop at the state's minute.
@@ -246,10 +265,17 @@ impl Search<'_> {
         starts.filter(|&s| from <= s && s < st.minute).all(|s| self.times.by(self.needs_at(st, s), s))
     }
 
-    /// The event minute before: the last start of a chosen step, or the first free minute.
+    /// The event minute before: the last event of a chosen step, or the first free minute. The events of a step are its
+    /// start and, for each pool, the stop of a step whose share is free again then.
     fn event(&self, st: &State) -> u32 {
-        let starts = st.steps().iter().map(|step| step.start as u32);
-        starts.filter(|&s| s < st.minute).fold(self.begun.first, u32::max)
+        let mut latest = self.begun.first;
+        for step in st.steps() {
+            for wait in &self.waits {
+                let event = (step.start as u32).saturating_sub(*wait);
+                latest = if event < st.minute { latest.max(event) } else { latest };
+            }
+        }
+        latest
     }
 
     /// What steps add.
@@ -458,6 +484,14 @@ impl Search<'_> {
     }
 }
 
+/// The different handovers of the job's pools, and none: so long before a start are events.
+fn waits(job: &Job) -> Vec<u32> {
+    let mut waits: Vec<u32> = (0..job.pools).map(|k| job.handover(k)).chain([0]).collect();
+    waits.sort();
+    waits.dedup();
+    waits
+}
+
 /// The least end of a plan of the job that keeps what has begun, none where there is no plan, or Late; and the nodes.
 fn search(job: &Job, begun: &Begun, way: &Way) -> (Result<Option<u32>, Late>, u64) {
     let until = way.nodes.is_none().then(|| Instant::now() + LIMIT);
@@ -466,7 +500,9 @@ fn search(job: &Job, begun: &Begun, way: &Way) -> (Result<Option<u32>, Late>, u6
     let landmarks = Landmarks::new(job, &rows, &times);
     let (without, most) = (way.without, way.nodes.unwrap_or(u64::MAX));
     let (given, horizon, nodes) = (0, 0, 0);
-    let mut search = Search { job, rows, landmarks, times, begun, given, without, horizon, nodes, most, until };
+    let (handovers, waits) = ([0, 1, 2, 3].map(|k| job.handover(k) as i32), waits(job));
+    let mut search =
+        Search { job, handovers, waits, rows, landmarks, times, begun, given, without, horizon, nodes, most, until };
     search.given = search.adds(begun.kept.iter());
     (search.shortest(), search.nodes)
 }

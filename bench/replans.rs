@@ -1,6 +1,7 @@
-//! Plans begun days anew with the proved program and with the plain search beside it, ten seconds each: the questions of
-//! TABLE.tsv in a folder, whose days are job files in `days` beside it. Prints a line for each: by both the end (35: no
-//! plan; -: none in time) and the seconds, those of the proved program for the whole process, and the plain one's nodes.
+//! Plans begun days anew with the proved program and with the plain search beside it, ten seconds each: the questions
+//! of TABLE.tsv in a folder, whose days are job files in `days` or `handover` beside it. Prints a line for each: by both
+//! the end (35: no plan; -: none in time) and the seconds, those of the proved program for the whole process, and the
+//! plain one's nodes.
 mod landmarks;
 #[allow(dead_code)]
 mod plain;
@@ -37,7 +38,8 @@ struct Answer {
 
 impl Question<'_> {
     fn job(&self, folder: &Path) -> PathBuf {
-        folder.join(format!("../days/{}.job", self.day))
+        let files = ["days", "handover"].map(|days| folder.join(format!("../{days}/{}.job", self.day)));
+        files.into_iter().find(|file| file.exists()).expect("a job file")
     }
 
     /// By the proved program, in a process of its own.

@@ -1,5 +1,5 @@
 //! Random jobs, files and plans, each made from its seed.
-use crate::plain::{self, Action, Job};
+use crate::plain::{self, Action, Form, Job};
 use crate::plain_price::Rates;
 
 /// A generator of numbers, the same for the same seed.
@@ -75,12 +75,23 @@ fn action(r: &mut Random, job: &Job, size: &Size) -> Action {
     }
 }
 
+/// Four entries, or five with handovers of up to 3 minutes or up to 30, now and then none.
+fn handovers(r: &mut Random, job: &mut Job) {
+    if r.one_in(2) {
+        return;
+    }
+    job.form = Form::Five;
+    let most = [0, 3, 3, 3, 3, 30][r.below(6) as usize];
+    job.handovers[..job.pools].fill_with(|| r.below(most + 1) as u8);
+}
+
 pub fn job(r: &mut Random, size: &Size) -> Job {
     let facts = if r.one_in(20) { 0 } else { 1 + r.below(size.facts) };
     let (pools, stores) = (r.below(5) as usize, r.below(5) as usize);
     let shortest = if r.one_in(4) { 0 } else { size.deadline * 3 / 4 };
     let deadline = shortest + r.below(size.deadline - shortest + 1);
     let mut job = Job {
+        form: Form::Four,
         facts: facts as u8,
         deadline: deadline as u16,
         start: r.set(facts, size.set),
@@ -90,12 +101,46 @@ pub fn job(r: &mut Random, size: &Size) -> Job {
         pool: r.amounts(pools, size.pool),
         store: r.amounts(stores, size.store),
         actions: Vec::new(),
+        handovers: [0; 4],
     };
+    handovers(r, &mut job);
     let count = if r.one_in(20) { 0 } else { 1 + r.below(size.actions) };
     job.actions = (0..count).map(|_| action(r, &job, size)).collect();
     if !r.one_in(8) {
         within_available(&mut job);
     }
+    if r.one_in(2) {
+        scarce_pools(r, &mut job);
+    }
+    job
+}
+
+/// Each pool has as much as an action uses at most, or one more, so that steps must wait for each other's shares.
+fn scarce_pools(r: &mut Random, job: &mut Job) {
+    for k in 0..job.pools {
+        let most = job.actions.iter().map(|a| a.pools[k]).max().unwrap_or(0);
+        job.pool[k] = most + r.below(2) as u32;
+    }
+}
+
+/// A small job with an action for each fact, most of which are wanted, and scarce pools: which step waits for whose
+/// share decides when the day ends.
+pub fn errands(r: &mut Random) -> Job {
+    let mut job = job(r, &SMALL);
+    job.facts = 2 + r.below(4) as u8;
+    let facts = job.facts as u64;
+    (job.start, job.goal, job.actions) = (0, (1 << facts) - 1, Vec::new());
+    for n in 0..facts {
+        let rarely = |r: &mut Random| if r.one_in(4) { 1 << r.below(facts) & !(1 << n) } else { 0 };
+        let (needs, deletes) = (rarely(r), if r.one_in(3) { rarely(r) } else { 0 });
+        let (pools, stores) = (r.amounts(job.pools, 3), r.amounts(job.stores, 2));
+        job.actions.push(Action { duration: 1 + r.below(3) as u8, needs, adds: 1 << n, deletes, pools, stores });
+    }
+    if r.one_in(4) {
+        job.goal &= r.next();
+    }
+    within_available(&mut job);
+    scarce_pools(r, &mut job);
     job
 }
 
@@ -123,19 +168,34 @@ pub fn file(job: &Job) -> Vec<u8> {
         actions.extend(amounts(&a.pools[..job.pools]));
         actions.extend(amounts(&a.stores[..job.stores]));
     }
-    let bodies = [head, amounts(&job.pool[..job.pools]), amounts(&job.store[..job.stores]), actions];
-    let mut file = Vec::new();
-    let mut at = 16;
-    for body in &bodies {
-        file.extend((at as u16).to_le_bytes());
-        file.extend((body.len() as u16).to_le_bytes());
-        at += body.len();
+    let mut bodies = vec![head, amounts(&job.pool[..job.pools]), amounts(&job.store[..job.stores]), actions];
+    if job.form == Form::Five {
+        bodies.push(job.handovers[..job.pools].to_vec());
     }
-    bodies.iter().for_each(|body| file.extend(body));
-    file
+    let sizes: Vec<usize> = bodies.iter().map(Vec::len).collect();
+    [contents(&sizes), bodies.concat()].concat()
 }
 
-/// A job at a limit or beyond it, for each of the refusals 4 to 11.
+/// The lengths of a file's bodies, and all that stands behind the contents.
+pub fn parts(file: &[u8]) -> (Vec<usize>, Vec<u8>) {
+    let entries = plain::form_of(file).entries();
+    let size = |k: usize| u16::from_le_bytes([file[4 * k + 2], file[4 * k + 3]]) as usize;
+    ((0..entries).map(size).collect(), file[4 * entries..].to_vec())
+}
+
+/// The contents of a file with bodies of these lengths.
+pub fn contents(sizes: &[usize]) -> Vec<u8> {
+    let mut bytes = Vec::new();
+    let mut at = 4 * sizes.len();
+    for size in sizes {
+        bytes.extend((at as u16).to_le_bytes());
+        bytes.extend((*size as u16).to_le_bytes());
+        at += size;
+    }
+    bytes
+}
+
+/// A job at a limit or beyond it, for each of the refusals 4 to 11 and 27.
 pub fn at_a_limit(r: &mut Random, mut job: Job) -> Job {
     if job.actions.is_empty() {
         job.actions.push(Action { duration: 255, ..Action::default() });
@@ -145,7 +205,7 @@ pub fn at_a_limit(r: &mut Random, mut job: Job) -> Job {
     let foreign = 1 << (job.facts as u64 + over).saturating_sub(1).min(63);
     let one = r.below(job.actions.len() as u64) as usize;
     let action = &mut job.actions[one];
-    match r.below(8) {
+    match r.below(9) {
         0 => job.facts = 64 + over as u8,
         1 => job.deadline = 1440 + over as u16,
         2 => *if r.one_in(2) { &mut job.start } else { &mut job.goal } |= foreign,
@@ -155,20 +215,31 @@ pub fn at_a_limit(r: &mut Random, mut job: Job) -> Job {
         5 => (action.adds, action.deletes) = (action.adds | foreign, action.deletes | foreign),
         6 if job.pools > 0 => action.pools[job.pools - 1] = amount,
         6 if job.stores > 0 => action.stores[job.stores - 1] = amount,
+        7 if job.pools > 0 => {
+            job.form = Form::Five;
+            job.handovers[r.below(job.pools as u64) as usize] = 30 + over as u8;
+        }
         _ => action.duration = action.duration.wrapping_add(over as u8) & 1,
     }
     job
 }
 
-/// A file with something wrong, often: cut, lengthened, or with changed bytes, in the contents or anywhere.
+/// A file with something wrong, often: cut, lengthened, or with changed bytes, in the contents or anywhere; or with the
+/// first offset of the other form.
 pub fn damage(r: &mut Random, mut file: Vec<u8>) -> Vec<u8> {
-    match r.below(6) {
+    let contents = 4 * plain::form_of(&file).entries() as u64;
+    match r.below(8) {
         0 => file.truncate(r.below(file.len() as u64 + 1) as usize),
         1 => file.extend(r.next().to_le_bytes().iter().take(1 + r.below(8) as usize)),
         2 => file.resize(4090 + r.below(12) as usize, 0),
         3 => {
-            let at = r.below(16.min(file.len() as u64)) as usize;
+            let at = r.below(contents.min(file.len() as u64)) as usize;
             file[at] = file[at].wrapping_add(r.below(9) as u8).wrapping_sub(4);
+        }
+        4 => file[0] = if contents == 20 { 16 } else { 20 },
+        5 => {
+            file.truncate(12 + r.below(12) as usize);
+            file[1] = r.one_in(4) as u8;
         }
         _ => {
             for _ in 0..1 + r.below(3) {
@@ -180,20 +251,43 @@ pub fn damage(r: &mut Random, mut file: Vec<u8>) -> Vec<u8> {
     file
 }
 
-/// The contents say other lengths, which still fit the file: bodies that no job has.
-pub fn resize_bodies(r: &mut Random, mut file: Vec<u8>) -> Vec<u8> {
-    let (from, to) = (r.below(4) as usize, r.below(4) as usize);
-    let mut sizes: Vec<u16> = (0..4).map(|k| u16::from_le_bytes([file[4 * k + 2], file[4 * k + 3]])).collect();
-    let moved = r.below(9).min(sizes[from] as u64) as u16;
+/// The contents say other lengths, which still fit the file: bodies that no job has. The file has as many entries as
+/// before, or one more or fewer; that one's bytes belong to the actions.
+pub fn resize_bodies(r: &mut Random, file: Vec<u8>) -> Vec<u8> {
+    let (mut sizes, bytes) = parts(&file);
+    if r.one_in(4) {
+        sizes.resize(5, 0);
+    } else if r.one_in(8) {
+        sizes = vec![sizes[0], sizes[1], sizes[2], sizes[3..].iter().sum()];
+    }
+    let (from, to) = (r.below(sizes.len() as u64) as usize, r.below(sizes.len() as u64) as usize);
+    let moved = sizes[from].min(r.below(9) as usize);
     sizes[from] -= moved;
     sizes[to] += moved;
-    let mut at = 16u16;
-    for k in 0..4 {
-        file[4 * k..4 * k + 2].copy_from_slice(&at.to_le_bytes());
-        file[4 * k + 2..4 * k + 4].copy_from_slice(&sizes[k].to_le_bytes());
-        at += sizes[k];
+    [contents(&sizes), bytes].concat()
+}
+
+/// Any bytes, of which some begin with the offset of a form; or any few bodies behind contents that have their lengths.
+pub fn any_bytes(r: &mut Random, length: usize) -> Vec<u8> {
+    let mut bytes = r.bytes(length);
+    match r.below(4) {
+        0 if length >= 2 => bytes[..2].copy_from_slice(&[[16, 0], [20, 0], [24, 0]][r.below(3) as usize]),
+        1 => {
+            let sizes: Vec<usize> = (0..4 + r.below(3)).map(|_| [0, 1, 4, 19][r.below(4) as usize]).collect();
+            bytes.resize(sizes.iter().sum(), 0);
+            bytes = [contents(&sizes), bytes].concat();
+        }
+        _ => {}
     }
-    file
+    bytes
+}
+
+/// A file with five entries, the last for a body of any few bytes.
+pub fn with_fifth_body(r: &mut Random, job: &Job) -> Vec<u8> {
+    let (mut sizes, bytes) = parts(&file(&Job { form: Form::Four, ..copy(job) }));
+    let fifth: Vec<u8> = (0..r.below(7)).map(|_| r.below(32) as u8).collect();
+    sizes.push(fifth.len());
+    [contents(&sizes), bytes, fifth].concat()
 }
 
 fn bytes_of(steps: &[(u16, u8)]) -> Vec<u8> {

@@ -1,7 +1,9 @@
 //! Compares the calls with an independent implementation in plain Rust, on random jobs, files, sets, plans, rates and
-//! begun days, through the C interface. A difference prints the seed of its case and ends with status 1.
-//! Arguments: number of cases, first seed.
+//! begun days, through the C interface. Before those it goes through files of either form one by one, as seed 0.
+//! A difference prints the seed of its case and ends with status 1. Arguments: number of cases, first seed.
 mod cases;
+mod forms;
+mod handovers;
 #[allow(dead_code)]
 #[path = "../bench/plain.rs"]
 mod plain;
@@ -36,7 +38,8 @@ fn expected(end: Result<u64, u64>) -> u64 {
 }
 
 /// What was seen: refusals by number (0: done), prices by their bits, accepted plans and planned ones by their steps,
-/// days by the number of pools that are in use at some minute, days with a pool of which all is in use, and replans.
+/// days by the number of pools that are in use at some minute, days with a pool of which all is in use, what handovers
+/// changed, and replans.
 struct Seen {
     refusals: [u64; 36],
     prices: [u64; 65],
@@ -44,6 +47,7 @@ struct Seen {
     planned: [u64; 33],
     pools: [u64; 5],
     full: u64,
+    handovers: handovers::Seen,
     replans: replans::Seen,
 }
 
@@ -137,6 +141,9 @@ impl Case<'_> {
         self.same("check", answer, expected(want));
         self.same_peaks("peaks of check", peaks, job.as_ref().ok().filter(|_| want.is_ok()), plan);
         self.seen.accepted[if answer & 255 == 0 { plan.len() / 3 } else { 0 }] += 1;
+        if let Ok(job) = job {
+            self.seen.handovers.checked(job, plan, want);
+        }
     }
 
     /// The call is lent rates of any values behind the job's pools and stores.
@@ -191,7 +198,11 @@ impl Case<'_> {
         let want = match job {
             Err(number) => refused(*number),
             Ok(_) if room < 96 => refused(21),
-            Ok(job) => simple_planner::least_end(job).map_or(refused(22), |end| done(end as u64, answer >> 48)),
+            Ok(job) => {
+                let least = simple_planner::least_end(job);
+                self.seen.handovers.planned(job, least);
+                least.map_or(refused(22), |end| done(end as u64, answer >> 48))
+            }
         };
         self.same("plan", answer, want);
         let plan = self.handed_out("plan", &lent, answer, job)?;
@@ -259,29 +270,41 @@ fn grown_plans(case: &mut Case, r: &mut Random, job: Job) {
     }
 }
 
-/// A file with a job within the limits, one at a limit or beyond, one that is damaged, or any bytes.
+/// A file with a job within the limits, one at up to three limits or beyond, one that is damaged, or any bytes.
 fn some_file(r: &mut Random, kind: u64, job: Job) -> Vec<u8> {
     match kind {
         0 => cases::damage(r, cases::file(&job)),
+        1 if r.one_in(3) => cases::with_fifth_body(r, &job),
         1 => cases::resize_bodies(r, cases::file(&job)),
-        2 => cases::file(&cases::at_a_limit(r, job)),
+        2 => cases::file(&(0..=r.below(3)).fold(job, |job, _| cases::at_a_limit(r, job))),
         3 => {
             let longest = if r.one_in(4) { 5000 } else { 100 };
             let length = r.below(longest) as usize;
-            r.bytes(length)
+            cases::any_bytes(r, length)
         }
         _ => cases::file(&job),
     }
+}
+
+/// A small job, half of the time with a goal that some plan reaches.
+fn small_job(r: &mut Random) -> Job {
+    let mut job = cases::job(r, &cases::SMALL);
+    if r.one_in(2) {
+        job.goal = cases::reachable_goal(r, &job);
+    }
+    job
 }
 
 fn one_case(case: &mut Case) {
     let mut r = Random::new(case.seed);
     let size = r.below(8);
     let is_small = size > 1;
-    let mut job = cases::job(&mut r, [&cases::LARGE, &cases::ROOMY, &cases::SMALL][size.min(2) as usize]);
-    if is_small && r.one_in(2) {
-        job.goal = cases::reachable_goal(&mut r, &job);
-    }
+    let job = match size {
+        0 => cases::job(&mut r, &cases::LARGE),
+        1 => cases::job(&mut r, &cases::ROOMY),
+        2 | 3 => cases::errands(&mut r),
+        _ => small_job(&mut r),
+    };
     let kind = r.below(10);
     if kind == 4 {
         grown_plans(case, &mut r, job);
@@ -302,7 +325,7 @@ const ALL_SEEN: u64 = 100_000;
 
 /// The numbers of the table that were never told.
 fn never_told(refusals: &[u64]) -> Vec<usize> {
-    (1..=26).chain([35]).filter(|&number| refusals[number] == 0).collect()
+    (1..=27).chain([35]).filter(|&number| refusals[number] == 0).collect()
 }
 
 fn main() {
@@ -315,8 +338,12 @@ fn main() {
         planned: [0; 33],
         pools: [0; 5],
         full: 0,
+        handovers: handovers::Seen::default(),
         replans: replans::Seen::none(),
     };
+    for (place, file) in forms::every_file().iter().enumerate() {
+        every_call(&mut Case { seed: 0, seen: &mut seen }, &mut Random::new(place as u64), file, false);
+    }
     for seed in first..first + count {
         one_case(&mut Case { seed, seen: &mut seen });
     }
@@ -325,6 +352,7 @@ fn main() {
     println!("plans accepted, by steps: {}", counts(&seen.accepted));
     println!("plans written, by steps: {}", counts(&seen.planned));
     println!("days, by pools in use: {}; all of a pool x {}", counts(&seen.pools), seen.full);
+    seen.handovers.print();
     seen.replans.print();
     let never = never_told(&seen.refusals);
     assert!(count < ALL_SEEN || never.is_empty(), "in {count} cases none was refused by {never:?}");

@@ -29,6 +29,11 @@ pub fn begun(plan: &[u8], minute: u32) -> Vec<u8> {
     plan.chunks_exact(3).filter(|step| start(step) < minute).flatten().copied().collect()
 }
 
+/// The steps of a plan, as start and action.
+pub fn steps_of(plan: &[u8]) -> Vec<(u32, usize)> {
+    plan.chunks_exact(3).map(|step| (start(step), step[0] as usize)).collect()
+}
+
 /// Whether the plan is accepted for the goal.
 pub fn check(job: &Job, plan: &[u8], goal: u64) -> Result<u64, u64> {
     plain::check(&with_goal(job, goal), plan)
@@ -47,7 +52,6 @@ pub fn replan(job: &Job, asked: &Asked) -> Result<Day, u64> {
     if let Ok(end) = check(job, &kept, asked.goal) {
         return Ok(Day::Kept(end));
     }
-    let steps: Vec<(u32, usize)> = kept.chunks_exact(3).map(|step| (start(step), step[0] as usize)).collect();
-    let least = least_end_begun(&with_goal(job, asked.goal), &steps, asked.minute);
+    let least = least_end_begun(&with_goal(job, asked.goal), &steps_of(&kept), asked.minute);
     least.map_or(Err(35), |end| Ok(Day::Planned(end as u64)))
 }

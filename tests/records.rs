@@ -21,6 +21,7 @@ struct Job {
     sets: [u64; 2], // start, goal
     amounts: [Vec<u64>; 2], // pools, stores
     actions: Vec<Action>,
+    handovers: Option<Vec<u64>>, // the bytes of the fifth body, where the file has five entries
     bodies: Option<Vec<u64>>, // the lengths of bodies of zeros, which take the place of all that
     damage: Vec<String>, // changes to the bytes
 }
@@ -80,6 +81,10 @@ fn number(text: &str, n: u64) -> Result<i128, Fault> {
 
 fn count(text: &str, n: u64) -> Result<u64, Fault> {
     u64::try_from(number(text, n)?).or(fault("not a count", text))
+}
+
+fn counts(text: &str) -> Result<Vec<u64>, Fault> {
+    words(text).iter().map(|word| count(word, 0)).collect()
 }
 
 // A set: facts and ranges of facts in braces, or a number with a bit for each fact. A fact that is reckoned with n, and
@@ -174,7 +179,8 @@ fn change(job: &mut Job, text: &str, names: &Names) -> Result<(), Fault> {
         "pool" => change_amounts(&mut job.amounts[0], rest)?,
         "store" => change_amounts(&mut job.amounts[1], rest)?,
         "action" | "actions" | "every" => change_actions(job, word, rest)?,
-        "bodies" => job.bodies = Some(words(rest).iter().map(|word| count(word, 0)).collect::<Result<_, _>>()?),
+        "handovers" => job.handovers = Some(counts(rest)?),
+        "bodies" => job.bodies = Some(counts(rest)?),
         "byte" | "cut" | "add" => job.damage.push(text.to_string()),
         _ => return fault("neither a name nor a change", text),
     }
@@ -190,10 +196,10 @@ fn amount_bytes(amounts: &[u64], count: usize) -> Vec<u8> {
     (0..count).flat_map(|k| bytes_of(amounts.get(k).copied().unwrap_or(0), 4)).collect()
 }
 
-// The four bodies of a job's file.
-fn bodies(job: &Job) -> [Vec<u8>; 4] {
+// The bodies of a job's file: four, or five with the handovers.
+fn bodies(job: &Job) -> Vec<Vec<u8>> {
     if let Some(lengths) = &job.bodies {
-        return [0, 1, 2, 3].map(|k| vec![0; lengths.get(k).copied().unwrap_or(0) as usize]);
+        return lengths.iter().map(|length| vec![0; *length as usize]).collect();
     }
     let counts = [job.amounts[0].len(), job.amounts[1].len()];
     let mut actions = vec![];
@@ -204,7 +210,9 @@ fn bodies(job: &Job) -> [Vec<u8>; 4] {
     }
     let sets = job.sets.iter().flat_map(|set| bytes_of(*set, 8));
     let head = bytes_of(job.facts, 1).into_iter().chain(bytes_of(job.deadline, 2)).chain(sets).collect();
-    [head, amount_bytes(&job.amounts[0], counts[0]), amount_bytes(&job.amounts[1], counts[1]), actions]
+    let amounts = [0, 1].map(|k| amount_bytes(&job.amounts[k], counts[k]));
+    let handovers = job.handovers.iter().map(|bytes| bytes.iter().map(|byte| *byte as u8).collect());
+    [head].into_iter().chain(amounts).chain([actions]).chain(handovers).collect()
 }
 
 // A change to the bytes: byte K = X, byte K + X, byte K - X, cut to N, add N bytes.
@@ -237,7 +245,7 @@ fn job_file(text: &str, names: &Names) -> Result<Vec<u8>, Fault> {
     }
     let bodies = bodies(&job);
     let mut file = vec![];
-    let mut offset = 16;
+    let mut offset = 4 * bodies.len() as u64;
     for body in &bodies {
         file.extend(bytes_of(offset, 2));
         file.extend(bytes_of(body.len() as u64, 2));
@@ -302,12 +310,11 @@ fn priced(record: &mut Record, text: &str) -> Result<(), Fault> {
     let mut rest = vec![];
     for part in text.split(';').map(str::trim) {
         let (word, values) = part.split_once(' ').unwrap_or((part, ""));
-        let values = || words(values).iter().map(|value| count(value, 0)).collect::<Result<Vec<u64>, Fault>>();
         match word {
-            "rates" => (rates[0], rates[1]) = (values()?.repeat(4), values()?.repeat(4)),
-            "pools" => rates[0] = values()?,
-            "stores" => rates[1] = values()?,
-            "evening" => rates[2] = values()?,
+            "rates" => (rates[0], rates[1]) = (counts(values)?.repeat(4), counts(values)?.repeat(4)),
+            "pools" => rates[0] = counts(values)?,
+            "stores" => rates[1] = counts(values)?,
+            "evening" => rates[2] = counts(values)?,
             _ => rest.push(part),
         }
     }

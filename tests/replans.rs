@@ -171,6 +171,10 @@ impl Case<'_> {
                 seen.added[steps - kept] += 1;
             }
         }
+        if let (Ok(job), Ok(Day::Planned(_))) = (job, day) {
+            let kept = plain_replan::begun(&asked.current, asked.minute);
+            self.seen.handovers.replanned(job, &plain_replan::steps_of(&kept), asked.minute);
+        }
     }
 }
 

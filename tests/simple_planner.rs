@@ -6,11 +6,13 @@ use std::collections::HashSet;
 const STEPS: u8 = 32;
 
 /// What plans have reached at a minute: the facts that hold, the running actions with the minutes left of each, the
-/// amounts of stores used up, and the number of steps.
+/// amounts of pools that are handed over (those that are free in a minute, in two, and so on), the amounts of stores
+/// used up, and the number of steps.
 #[derive(Clone, PartialEq, Eq, Hash)]
 struct State {
     facts: u64,
     running: Vec<(usize, u8)>,
+    handed_over: Vec<[u32; 4]>,
     used: [u32; 4],
     steps: u8,
 }
@@ -24,7 +26,8 @@ fn clash(job: &Job, i: usize, k: usize) -> bool {
 /// Whether action i may start in this state, with this many minutes left of the day.
 fn may_start(job: &Job, state: &State, i: usize, left: u16) -> bool {
     let a = &job.actions[i];
-    let in_use = |k: usize| state.running.iter().map(|r| job.actions[r.0].pools[k]).sum::<u32>();
+    let running = |k: usize| state.running.iter().map(|r| job.actions[r.0].pools[k]).sum::<u32>();
+    let in_use = |k: usize| running(k) + state.handed_over.iter().map(|amounts| amounts[k]).sum::<u32>();
     a.needs & !state.facts == 0
         && a.duration as u16 <= left
         && state.steps < STEPS
@@ -43,11 +46,21 @@ fn started(job: &Job, state: &State, i: usize) -> State {
     next
 }
 
+/// What is handed over a minute later: also the shares of the steps ending then, each for the whole handover.
+fn handed_over_later(job: &Job, handed_over: &[[u32; 4]], ending: &[&Action]) -> Vec<[u32; 4]> {
+    let mut later: Vec<[u32; 4]> = handed_over.iter().skip(1).copied().chain([[0; 4]]).collect();
+    for k in (0..job.pools).filter(|&k| job.handover(k) > 0) {
+        later[job.handover(k) as usize - 1][k] = ending.iter().map(|a| a.pools[k]).sum();
+    }
+    later
+}
+
 /// The state a minute later: what the steps ending then delete goes, and what they add comes.
 fn a_minute_later(job: &Job, state: &State) -> State {
     let mut next = state.clone();
     next.running.iter_mut().for_each(|r| r.1 -= 1);
     let ending: Vec<&Action> = next.running.iter().filter(|r| r.1 == 0).map(|r| &job.actions[r.0]).collect();
+    next.handed_over = handed_over_later(job, &state.handed_over, &ending);
     next.facts &= !ending.iter().fold(0, |set, a| set | a.deletes);
     next.facts |= ending.iter().fold(0, |set, a| set | a.adds);
     next.running.retain(|r| r.1 > 0);
@@ -80,9 +93,11 @@ pub fn least_end(job: &Job) -> Option<u16> {
 
 /// The same where the day has begun: of the plans that have exactly these steps, as start and action, before the first
 /// free minute. The steps keep every rule. Waiting changes nothing, so the first minute at which the goal holds, all of
-/// them have been started and nothing runs is a plan's end.
+/// them have been started and nothing runs is a plan's end; what is still handed over then doesn't matter.
 pub fn least_end_begun(job: &Job, kept: &[(u32, usize)], first_free: u32) -> Option<u16> {
-    let begin = State { facts: job.start, running: Vec::new(), used: [0; 4], steps: 0 };
+    let longest = (0..job.pools).map(|k| job.handover(k)).max().unwrap_or(0);
+    let handed_over = vec![[0; 4]; longest as usize];
+    let begin = State { facts: job.start, running: Vec::new(), handed_over, used: [0; 4], steps: 0 };
     let mut states = HashSet::from([begin]);
     for minute in 0..=job.deadline {
         let all_started = kept.iter().all(|step| step.0 < minute as u32);

@@ -1,0 +1,85 @@
+//! Files of either form, gone through one by one: every length, every byte of the contents, every handover, and bodies
+//! of other lengths behind contents that say so.
+use crate::cases::{self, Random};
+use crate::plain::{self, Form, Job};
+
+/// A small job with so many pools, in five entries.
+fn job_with(pools: usize) -> Job {
+    let mut jobs = (0..).map(|seed| cases::errands(&mut Random::new(seed)));
+    let accepted = |job: &Job| job.pools == pools && plain::read(&cases::file(job)).is_ok();
+    Job { form: Form::Five, ..jobs.find(accepted).expect("a job") }
+}
+
+/// The file cut to each length, and with some bytes more.
+fn lengths(file: &[u8]) -> impl Iterator<Item = Vec<u8>> + '_ {
+    let lengths = (0..=file.len() + 4).chain([4095, 4096, 4097]);
+    lengths.map(|length| file.iter().copied().chain(std::iter::repeat(0)).take(length).collect())
+}
+
+/// The file with another number in each byte of the contents, in short files too.
+fn contents(file: &[u8]) -> Vec<Vec<u8>> {
+    let mut files = Vec::new();
+    for at in 0..4 * plain::form_of(file).entries() {
+        let byte = file[at];
+        for other in [byte.wrapping_add(1), byte.wrapping_sub(1), byte.wrapping_add(4), 0, 1, 16, 20, 24, 255] {
+            let mut changed = file.to_vec();
+            changed[at] = other;
+            files.push(changed.clone());
+            files.extend((16..24).map(|length| changed[..length].to_vec()));
+        }
+    }
+    files
+}
+
+/// The file with bodies of other lengths, as its contents say: a byte, or four, from each body to each other.
+fn bodies(file: &[u8]) -> Vec<Vec<u8>> {
+    let (sizes, bytes) = cases::parts(file);
+    let mut files = Vec::new();
+    for from in 0..sizes.len() {
+        for to in 0..sizes.len() {
+            for moved in [1, 4].map(|moved| sizes[from].min(moved)) {
+                let mut other = sizes.clone();
+                other[from] -= moved;
+                other[to] += moved;
+                files.push([cases::contents(&other), bytes.clone()].concat());
+            }
+        }
+    }
+    files
+}
+
+/// The file with fifth bodies of each length up to 8, of zeros.
+fn fifth_bodies(job: &Job) -> Vec<Vec<u8>> {
+    let (sizes, bytes) = cases::parts(&cases::file(&Job { form: Form::Four, ..cases::copy(job) }));
+    let with = |length: usize| [cases::contents(&[&sizes[..], &[length]].concat()), bytes.clone(), vec![0; length]];
+    (0..=8).map(|length| with(length).concat()).collect()
+}
+
+/// The file with each handover of each pool.
+fn handovers(job: &Job) -> Vec<Vec<u8>> {
+    let mut files = Vec::new();
+    for k in 0..job.pools {
+        for minutes in 0..=255 {
+            let mut other = cases::copy(job);
+            other.handovers[k] = minutes;
+            files.push(cases::file(&other));
+        }
+    }
+    files
+}
+
+/// Files about jobs with each number of pools, in both forms.
+pub fn every_file() -> Vec<Vec<u8>> {
+    let mut files = Vec::new();
+    for job in (0..=4).map(job_with) {
+        for form in [Form::Four, Form::Five] {
+            let file = cases::file(&Job { form, ..cases::copy(&job) });
+            files.extend(lengths(&file));
+            files.extend(contents(&file));
+            files.extend(bodies(&file));
+        }
+        files.extend(fifth_bodies(&job));
+        files.extend(handovers(&job));
+    }
+    files
+}
