@@ -1,4 +1,4 @@
--- What a job that passes tests 3 to 11 is like.
+-- What a job that passes tests 3 to 11 and 27 is like.
 -- Assumes nothing.
 use Prim.Native.Nat.{ℕ, _≤_}
 use mathlib.Core.Path.{_≡_}
@@ -80,7 +80,8 @@ within-limits J h =
     let t5 = first-pass _ _ _ (t4 .1) in
     let t6 = first-pass _ _ _ (t5 .1) in
     let t7 = first-pass _ _ _ (t6 .1) in
-    let t8 = first-pass _ _ _ (t7 .1) in
+    let t27 = first-pass _ _ _ (t7 .1) in
+    let t8 = first-pass _ _ _ (t27 .1) in
     let t9 = first-pass _ _ _ (t8 .1) in
     let t10 = first-pass _ _ _ (t9 .1) in
     let t11 = first-pass _ _ _ (t10 .1) in
@@ -100,6 +101,7 @@ within-limits J h =
       goal = within-facts (J .facts) (J .goal) few (or-right s g (t6 .0));
       pools = available .0;
       stores = available .1;
+      handovers = each-map (λ x e. ltb-false 30 x e) (J .handovers) (any-none (over 30) (J .handovers) (t27 .0));
       actions = passed-actions (J .facts) few (J .actions)
           (λ rule. any-none (breaks rule (J .facts)) (J .actions) (kept rule));
     }

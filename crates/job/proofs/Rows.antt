@@ -11,7 +11,7 @@ use borrow.Author.Tests.{ltb-false}
 use Rattle.facts.specs.FactSet.{foreign}
 use Rattle.job.specs.declared.Job as held
 use Rattle.job.specs.declared.refusal.Refusal.the-variants.{BodySizes, FactCount, Deadline, ForeignFact}
-use Rattle.job.specs.declared.refusal.Refusal.the-variants.{Availability}
+use Rattle.job.specs.declared.refusal.Refusal.the-variants.{Availability, HandoverOver}
 use Rattle.job.specs.declared.Counts.{Counts}
 use Rattle.job.specs.Job.{Job, jobIn, Fits}
 use Rattle.job.specs.declared.refusal.Verdict.the-variants.{Pass}
@@ -26,6 +26,7 @@ valueRows j =
     ∷ Deadline when over 1440 (j .deadline)
     ∷ ForeignFact when (foreign (j .facts) (j .start) || foreign (j .facts) (j .goal))
     ∷ Availability when (any (over 1000000) (jobIn j .pools) || any (over 1000000) (jobIn j .stores))
+    ∷ HandoverOver when any (over 30) (jobIn j .handovers)
     ∷ actionRows (jobIn j)
 
 pub rows-of-value : (j : held.Job) → limitRows (jobIn j) ≡ valueRows j

@@ -1,17 +1,21 @@
 -- Two counts, two actions and two jobs are the same exactly if all their parts are.
 -- Assumes nothing.
 use Prim.Native.Nat.{ℕ}
-use mathlib.Core.Path.{_≡_, ap, sym, _∙_}
+use mathlib.Core.Path.{_≡_, refl, ap, ap₂, sym, _∙_}
 use mathlib.Core.Bool.{Bool, _&&_}
 use mathlib.Core.List.{List}
+use native.Mathlib.Omega.{arith}
 use lib.Dec.{eqb}
 use Rattle.lists.specs.Lists.{firsts}
 use Rattle.lists.specs.Answer.{Decides}
+use Rattle.lists.proofs.Answers.{decides-iff}
+use Rattle.lists.proofs.Bools.{absurd}
 use Rattle.job.specs.declared.Action as act
 use Rattle.job.specs.declared.Counts.{Counts}
+use Rattle.job.specs.declared.Form.{Form}
+use Rattle.job.specs.declared.Form.the-variants.{Four, Five}
 use Rattle.job.specs.declared.Job as held
-use Rattle.job.specs.Job.{Job, actionIn, jobIn}
-use Rattle.lists.proofs.Answers.{decides-iff}
+use Rattle.job.specs.Job.{Job, entries, handoverCount, actionIn, jobIn}
 use Rattle.job.proofs.Answers.{equal, _and_, _also_}
 use Rattle.job.proofs.Agree.{same-count}
 
@@ -22,6 +26,15 @@ same-counts n m =
     (equal (n .pools) (m .pools) and equal (n .stores) (m .stores) and equal (n .actions) (m .actions))
     (λ h. λ i. record { pools = h .0 .0 i; stores = h .0 .1 i; actions = h .1 i })
     (λ e. (λ i. e i .pools) also (λ i. e i .stores) also (λ i. e i .actions))
+
+pub same-form : (a b : Form) → Decides (eqb (entries a) (entries b)) (a ≡ b)
+same-form a b = decides-iff (equal (entries a) (entries b)) (one-form a b) (λ e. ap entries e)
+  where
+    one-form : (a b : Form) → entries a ≡ entries b → a ≡ b
+    one-form Four Four e = refl
+    one-form Four Five e = absurd (omega arith)
+    one-form Five Four e = absurd (omega arith)
+    one-form Five Five e = refl
 
 -- n amounts of two arrays are the same
 abbrev SameAmounts : ℕ → List ℕ → List ℕ → Type 0
@@ -48,17 +61,19 @@ module _ (n : Counts) (a b : act.Action) {p s : Bool} where
       also (λ i. e i .pools)
       also (λ i. e i .stores))
 
--- the job in j if its counts were n
-abbrev counted : Counts → held.Job → Job
-counted n j =
+-- the job in j if its form were f and its counts n
+abbrev counted : Form → Counts → held.Job → Job
+counted f n j =
     jobIn
     record {
       facts = j .facts;
       deadline = j .deadline;
       start = j .start;
       goal = j .goal;
+      form = f;
       counts = n;
       pools = j .pools;
+      handovers = j .handovers;
       stores = j .stores;
       actions = j .actions;
     }
@@ -71,35 +86,45 @@ counts-of-same a b e =
     let x = same-count _ _ _ _ (λ i. e i .actions) in
     λ i. record { pools = p i; stores = s i; actions = x i }
 
-module _ (a b : held.Job) {c p s x : Bool} where
-  pub same-job : Decides c (a .counts ≡ b .counts)
+module _ (a b : held.Job) {f c p w s x : Bool} where
+  pub same-job : Decides f (a .form ≡ b .form)
+      → Decides c (a .counts ≡ b .counts)
       → Decides p (SameAmounts (a .counts .pools) (a .pools) (b .pools))
+      → Decides w (SameAmounts (handoverCount (a .form) (a .counts .pools)) (a .handovers) (b .handovers))
       → Decides s (SameAmounts (a .counts .stores) (a .stores) (b .stores))
-      → Decides x (counted (a .counts) a .actions ≡ counted (a .counts) b .actions)
+      → Decides x (counted (a .form) (a .counts) a .actions ≡ counted (a .form) (a .counts) b .actions)
       → Decides
       (eqb (a .facts) (b .facts) && eqb (a .deadline) (b .deadline) && eqb (a .start) (b .start)
       && eqb (a .goal) (b .goal)
+      && f
       && c
       && p
+      && w
       && s
       && x)
       (jobIn a ≡ jobIn b)
-  same-job counts pools stores actions =
+  same-job form counts pools handovers stores actions =
       decides-iff
       (equal (a .facts) (b .facts) and equal (a .deadline) (b .deadline) and equal (a .start) (b .start)
       and equal (a .goal) (b .goal)
+      and form
       and counts
       and pools
+      and handovers
       and stores
       and actions)
       (λ h.
-      let e : counted (a .counts) a ≡ counted (a .counts) b = cc in
-      e ∙ ap (λ n. counted n b) (h .0 .0 .0 .1))
+      let e : counted (a .form) (a .counts) a ≡ counted (a .form) (a .counts) b = cc in
+      e ∙ ap₂ (λ (g : Form) (n : Counts). counted g n b) (h .0 .0 .0 .0 .0 .1) (h .0 .0 .0 .0 .1))
       (λ e.
+      let g : a .form ≡ b .form = λ i. e i .form in
       let n = counts-of-same a b e in
-      let j : counted (a .counts) a ≡ counted (a .counts) b = e ∙ ap (λ m. counted m b) (sym n) in
+      let j : counted (a .form) (a .counts) a ≡ counted (a .form) (a .counts) b =
+      e ∙ ap₂ (λ (g : Form) (m : Counts). counted g m b) (sym g) (sym n) in
       (λ i. e i .facts) also (λ i. e i .deadline) also (λ i. e i .start) also (λ i. e i .goal)
+      also g
       also n
       also (λ i. j i .pools)
+      also (λ i. j i .handovers)
       also (λ i. j i .stores)
       also (λ i. j i .actions))

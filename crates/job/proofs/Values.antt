@@ -1,28 +1,42 @@
--- A job and its value: the value holds the job, and in every value each action has a use of each pool and store.
+-- A job and its value: the value holds the job, and in every value each action has a use of each pool and store, and
+-- each pool a handover if the form has them.
 -- Assumes nothing.
-use Prim.Native.Nat.{ℕ}
+use Prim.Native.Nat.{ℕ, _≤_}
 use mathlib.Core.Path.{_≡_, refl, ap, sym, _∙_}
 use mathlib.Core.List.{List, [], _∷_, map}
+use native.Mathlib.Omega.{arith}
 use lib.ListN.{length, getD, length-map}
-use Rattle.lists.specs.Lists.{firsts, Each}
+use Rattle.lists.specs.Lists.{firsts, filled, Each}
 use Rattle.lists.proofs.Tabulate.{length-tabulate, map-tabulate, firsts-filled, each-tabulate}
 use Rattle.job.specs.declared.Counts.{Counts}
+use Rattle.job.specs.declared.Form.{Form}
+use Rattle.job.specs.declared.Form.the-variants.{Four, Five}
 use Rattle.job.specs.declared.Job as held
-use Rattle.job.specs.Job.{Action, Job, beyond, actionIn, actionAt, jobIn, unusedAction, actionValue, jobValue}
+use Rattle.job.specs.Job.{Action, Job, handoverCount, beyond, actionIn, actionAt, jobIn, unusedAction}
+use Rattle.job.specs.Job.{actionValue, jobValue}
+
+-- no more handovers than pools
+pub few-handovers : (form : Form) (pools : ℕ) → handoverCount form pools ≤ pools
+few-handovers Four pools = omega arith
+few-handovers Five pools = omega arith
 
 -- the action has a use of each of p pools and s stores
 pub record Shaped (p s : ℕ) (a : Action) : Type 0 where
   pub pools : length (a .pools) ≡ p
   pub stores : length (a .stores) ≡ s
 
--- each action has a use of each pool and each store of the job
-abbrev pub Shape : Job → Type 0
-Shape J = Each (Shaped (length (J .pools)) (length (J .stores))) (J .actions)
+-- each action has a use of each pool and each store of the job, and there are as many handovers as the form has
+pub record Shape (J : Job) : Type 0 where
+  pub actions : Each (Shaped (length (J .pools)) (length (J .stores))) (J .actions)
+  pub handovers : length (J .handovers) ≡ handoverCount (J .form) (length (J .pools))
 
 pub job-in-shape : (j : held.Job) → Shape (jobIn j)
 job-in-shape j =
-    each-tabulate _ (j .counts .actions) (actionAt j)
-    (λ i h. record { pools = simp length-tabulate; stores = simp length-tabulate })
+    record {
+      actions = each-tabulate _ (j .counts .actions) (actionAt j)
+          (λ i h. record { pools = simp length-tabulate; stores = simp length-tabulate });
+      handovers = simp length-tabulate;
+    }
 
 action-of-value : (n : Counts) (a : Action) → Shaped (n .pools) (n .stores) a → actionIn n (actionValue a) ≡ a
 action-of-value n a h =
@@ -40,8 +54,17 @@ actions-of-job-value J h =
     sym (map-tabulate (actionIn n) (length (J .actions)) (λ i. getD array i beyond))
     ∙ ap (λ (k : ℕ). map (actionIn n) (firsts k beyond array)) (sym (length-map (J .actions) actionValue))
     ∙ ap (map (actionIn n)) (firsts-filled 64 unusedAction beyond (map actionValue (J .actions)))
-    ∙ actions-of-values n (J .actions) h
+    ∙ actions-of-values n (J .actions) (h .actions)
+
+handovers-of-job-value : (J : Job) → Shape J → jobIn (jobValue J) .handovers ≡ J .handovers
+handovers-of-job-value J h =
+    ap (λ (k : ℕ). firsts k 0 (filled 4 0 (J .handovers))) (sym (h .handovers)) ∙ firsts-filled 4 0 0 (J .handovers)
 
 pub value-holds-job : (J : Job) → Shape J → jobIn (jobValue J) ≡ J
 value-holds-job J h =
-    rw (firsts-filled 4 0 0 (J .pools), firsts-filled 4 0 0 (J .stores), actions-of-job-value J h)
+    rw (
+      firsts-filled 4 0 0 (J .pools),
+      handovers-of-job-value J h,
+      firsts-filled 4 0 0 (J .stores),
+      actions-of-job-value J h,
+    )

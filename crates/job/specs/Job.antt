@@ -7,6 +7,8 @@ use Rattle.lists.specs.Lists.{tabulate, firsts, filled}
 use Rattle.job.specs.declared.Action as act
 use Rattle.job.specs.declared.Job as held
 use Rattle.job.specs.declared.Counts.{Counts}
+use Rattle.job.specs.declared.Form.{Form}
+use Rattle.job.specs.declared.Form.the-variants.{Four, Five}
 
 -- "An action has a length of 1 to 255 minutes, a set of needed facts, one of added and one of deleted facts,
 -- and a use of 0 to 1,000,000 of each pool and store." Needed facts are the field's preconditions; a pool is a
@@ -21,17 +23,31 @@ pub record Action : Type 0 where
 
 -- "A job has 0 to 64 facts, numbered from 0, a start set and a goal set. Its deadline is 0 to 1,440 minutes. It has
 -- 0 to 4 pools and 0 to 4 stores, each with an availability of 0 to 1,000,000. It has 0 to 64 actions."
+-- "Each pool gets a handover of 0 to 30 minutes": one for each pool in a form that has them, else none. "The form
+-- belongs to the job."
 pub record Job : Type 0 where
   pub facts : ℕ
   pub deadline : ℕ
   pub start : ℕ
   pub goal : ℕ
+  pub form : Form
   pub pools : List ℕ
+  pub handovers : List ℕ
   pub stores : List ℕ
   pub actions : List Action
 
+-- how many entries the contents of a file of the form have
+abbrev pub entries : Form → ℕ
+entries Four = 4
+entries Five = 5
+
+-- how many handovers a job of the form has
+abbrev pub handoverCount : Form → ℕ → ℕ
+handoverCount Four pools = 0
+handoverCount Five pools = pools
+
 -- ── the job in a value: "what is beyond its counts is ignored; two jobs are the same if their counts and all
--- within them agree" ──
+-- within them agree"; "what a job value holds beyond its form is ignored, in refusals and when jobs are compared too" ──
 
 -- what an array of actions has past its end
 abbrev pub beyond : act.Action
@@ -59,7 +75,9 @@ jobIn j =
       deadline = j .deadline;
       start = j .start;
       goal = j .goal;
+      form = j .form;
       pools = firsts (j .counts .pools) 0 (j .pools);
+      handovers = firsts (handoverCount (j .form) (j .counts .pools)) 0 (j .handovers);
       stores = firsts (j .counts .stores) 0 (j .stores);
       actions = tabulate (j .counts .actions) (actionAt j);
     }
@@ -92,8 +110,10 @@ jobValue J =
       deadline = J .deadline;
       start = J .start;
       goal = J .goal;
+      form = J .form;
       counts = record { pools = length (J .pools); stores = length (J .stores); actions = length (J .actions) };
       pools = filled 4 0 (J .pools);
+      handovers = filled 4 0 (J .handovers);
       stores = filled 4 0 (J .stores);
       actions = filled 64 unusedAction (map actionValue (J .actions));
     }
@@ -101,4 +121,15 @@ jobValue J =
 -- "a job standing beside a refusal is all zero"
 abbrev pub zeroValue : held.Job
 zeroValue =
-    jobValue (record { facts = 0; deadline = 0; start = 0; goal = 0; pools = []; stores = []; actions = [] })
+    jobValue
+    (record {
+      facts = 0;
+      deadline = 0;
+      start = 0;
+      goal = 0;
+      form = Four;
+      pools = [];
+      handovers = [];
+      stores = [];
+      actions = [];
+    })

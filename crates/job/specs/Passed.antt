@@ -1,4 +1,4 @@
--- What a job that passes tests 3 to 11 is like.
+-- What a job that passes tests 3 to 11 and 27 is like.
 -- Inner functions and laws alone cite these. Assumes nothing.
 use Prim.Native.Nat.{ℕ, _^_, _≤_, _<_}
 use mathlib.Core.Path.{_≡_}
@@ -28,7 +28,7 @@ pub record PassedAction (facts : ℕ) (a : Action) : Type 0 where
   pub pools : Amounts (a .pools)
   pub stores : Amounts (a .stores)
 
--- a job that passes tests 3 to 11
+-- a job that passes tests 3 to 11 and 27
 pub record Passed (J : Job) : Type 0 where
   pub fewPools : length (J .pools) ≤ 4
   pub fewStores : length (J .stores) ≤ 4
@@ -39,4 +39,5 @@ pub record Passed (J : Job) : Type 0 where
   pub goal : WithinFacts (J .facts) (J .goal)
   pub pools : Amounts (J .pools)
   pub stores : Amounts (J .stores)
+  pub handovers : Each (λ x. x ≤ 30) (J .handovers)
   pub actions : Each (PassedAction (J .facts)) (J .actions)

@@ -37,6 +37,7 @@ number why.FileSlice = 23
 number why.ForeignAskedFact = 24
 number why.RateOver = 25
 number why.UseBeyond = 26
+number why.HandoverOver = 27
 number why.NoPlanWithKept = 35
 
 -- a row of the table: the refusal, and whether it holds

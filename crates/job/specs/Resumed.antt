@@ -15,7 +15,9 @@ resumed J start stores =
       deadline = J .deadline;
       start = start;
       goal = J .goal;
+      form = J .form;
       pools = J .pools;
+      handovers = J .handovers;
       stores = firsts (length (J .stores)) 0 stores;
       actions = J .actions;
     }
@@ -28,8 +30,10 @@ resumedValue job start stores =
       deadline = job .deadline;
       start = start;
       goal = job .goal;
+      form = job .form;
       counts = job .counts;
       pools = job .pools;
+      handovers = job .handovers;
       stores = stores;
       actions = job .actions;
     }

@@ -1,4 +1,4 @@
--- Tests 3 to 11 and 26 of a job, in the order of the table.
+-- Tests 3 to 11, 26 and 27 of a job, in the order of the table.
 -- Assumes nothing.
 use Prim.Native.Nat.{ℕ}
 use mathlib.Core.Bool.{Bool, _||_}
@@ -9,7 +9,7 @@ use Rattle.lists.specs.Lists.{any, anyBelow}
 use Rattle.facts.specs.FactSet.{meets, foreign}
 use Rattle.job.specs.declared.refusal.Refusal.the-variants.{BodySizes, FactCount, Deadline, ForeignFact}
 use Rattle.job.specs.declared.refusal.Refusal.the-variants.{Availability, ZeroDuration, ForeignActionFact}
-use Rattle.job.specs.declared.refusal.Refusal.the-variants.{AddedAndDeleted, ActionUse, UseBeyond}
+use Rattle.job.specs.declared.refusal.Refusal.the-variants.{AddedAndDeleted, ActionUse, UseBeyond, HandoverOver}
 use Rattle.job.specs.declared.validate.Broken.{Broken}
 use Rattle.job.specs.Job.{Action, Job}
 use Rattle.job.specs.Resources.{storeAmount, storeCap}
@@ -58,7 +58,8 @@ actionRows J =
     ∷ []
 
 -- the limits, tests 3 to 11: "3: over four pools, four stores or 64 actions"; "over 64 facts"; "deadline over 1,440";
--- "start or goal bit at or above the number of facts"; "availability over 1,000,000"; then the actions
+-- "start or goal bit at or above the number of facts"; "availability over 1,000,000"; then 27, "a handover over 30",
+-- "after 7 and before 8"; then the actions
 unfoldable pub limitRows : Job → List Row
 limitRows J =
     BodySizes when (over 4 (length (J .pools)) || over 4 (length (J .stores)) || over 64 (length (J .actions)))
@@ -66,6 +67,7 @@ limitRows J =
     ∷ Deadline when over 1440 (J .deadline)
     ∷ ForeignFact when (foreign (J .facts) (J .start) || foreign (J .facts) (J .goal))
     ∷ Availability when any (over 1000000) (J .pools ++ J .stores)
+    ∷ HandoverOver when any (over 30) (J .handovers)
     ∷ actionRows J
 
 -- "an action uses more of a pool or store than is available"

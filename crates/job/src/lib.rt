@@ -1,14 +1,14 @@
 // The job of a day by value: its actions, its resources and its sets of facts, with every limit once.
 pub mod refusal; // the table of refusals
-pub mod validate; // tests 3 to 11 and 26 of a job value
+pub mod validate; // tests 3 to 11, 26 and 27 of a job value
 mod beyond; // test 26
 pub mod same; // whether two values hold the same job
-pub mod resources; // what an action takes of the stores
+pub mod resources; // what an action takes of pools and stores
 pub mod resumed; // the job of what is left of a day
 
 ghost use mathlib.Core.Path.{_≡_};
 ghost use Prim.Native.Nat.{_^_, _<_};
-ghost use Rattle.job.specs.Job.{unusedAction, zeroValue};
+ghost use Rattle.job.specs.Job.{entries, handoverCount, unusedAction, zeroValue};
 
 // An action of a job. Sets of facts are words: fact n is bit n.
 pub struct Action {
@@ -49,14 +49,44 @@ pub struct Counts {
     pub actions: usize,
 }
 
+// Which entries the contents of the job's file have. What a value holds beyond its form is ignored.
+pub enum Form {
+    Four, // the head, the pools, the stores and the actions
+    Five, // and the handovers of the pools
+}
+
+impl Form {
+    // How many entries.
+    pub fn entries(self) -> usize
+        ensures { λ r. ⌜ r ≡ entries self ⌝ }
+    {
+        match self {
+            Form::Four => 4,
+            Form::Five => 5,
+        }
+    }
+
+    // How many handovers a job of this form with so many pools has.
+    pub fn handovers(self, pools: usize) -> usize
+        ensures { λ r. ⌜ r ≡ handoverCount self pools ⌝ }
+    {
+        match self {
+            Form::Four => 0,
+            Form::Five => pools,
+        }
+    }
+}
+
 // A job. Pools are renewable resources, stores consumable ones: an availability for each.
 pub struct Job {
     pub facts: u8,
     pub deadline: u16,
     pub start: u64,
     pub goal: u64,
+    pub form: Form,
     pub counts: Counts,
     pub pools: [u32; Job::POOLS],
+    pub handovers: [u8; Job::POOLS], // minutes that a share of the pool stays in use after its step
     pub stores: [u32; Job::STORES],
     pub actions: [Action; Job::ACTIONS],
 }
@@ -81,6 +111,9 @@ impl Job {
     // The largest availability of a pool or store.
     pub const AVAILABILITY: u32 = 1_000_000;
 
+    // The longest handover, in minutes.
+    pub const HANDOVER: u8 = 30;
+
     // The job that stands beside a refusal: all zero.
     pub fn zero() -> Job
         ensures { λ r. ⌜ r ≡ zeroValue ⌝ }
@@ -96,8 +129,10 @@ impl Job {
             deadline: 0,
             start: 0,
             goal: 0,
+            form: Form::Four,
             counts: none,
             pools: [0u32; Job::POOLS],
+            handovers: [0u8; Job::POOLS],
             stores: [0u32; Job::STORES],
             actions: [unused; Job::ACTIONS],
         }

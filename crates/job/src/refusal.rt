@@ -39,6 +39,8 @@ pub enum Refusal {
     RateOver,
     // the job's actions, after its limits
     UseBeyond,
+    // the handovers of its pools
+    HandoverOver,
     // the replanner
     NoPlanWithKept,
 }
@@ -80,6 +82,7 @@ pub fn number(refusal: Refusal) -> u8
         Refusal::ForeignAskedFact => 24,
         Refusal::RateOver => 25,
         Refusal::UseBeyond => 26,
+        Refusal::HandoverOver => 27,
         Refusal::NoPlanWithKept => 35,
     }
 }

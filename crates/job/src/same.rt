@@ -6,6 +6,7 @@ ghost use Rattle.lists.specs.Answer.{Decides};
 ghost use Rattle.job.specs.Job.{beyond, actionIn, jobIn};
 use crate::Action;
 use crate::Counts;
+use crate::Form;
 use crate::Job;
 
 // Whether two jobs have as many pools, stores and actions.
@@ -13,6 +14,27 @@ fn same_counts(a: Counts, b: Counts) -> bool
     ensures { λ r. ⌜ Decides r (a ≡ b) ⌝ }
 {
     (a.pools == b.pools) & (a.stores == b.stores) & (a.actions == b.actions)
+}
+
+// Whether two forms are the same: no two have as many entries.
+fn same_form(a: Form, b: Form) -> bool
+    ensures { λ r. ⌜ Decides r (a ≡ b) ⌝ }
+{
+    a.entries() == b.entries()
+}
+
+// Whether the first n handovers agree. Past their ends two arrays agree by themselves.
+fn same_handovers(n: usize, a: [u8; Job::POOLS], b: [u8; Job::POOLS]) -> bool
+    ensures { λ r. ⌜ Decides r (firsts n 0 a ≡ firsts n 0 b) ⌝ }
+{
+    let mut i = 0;
+    while (i < n) & (i < Job::POOLS) {
+        if a[i] != b[i] {
+            return false;
+        }
+        i += 1;
+    }
+    true
 }
 
 // Whether the first n amounts agree. Past their ends two arrays agree by themselves.
@@ -63,14 +85,18 @@ fn same_actions(counts: Counts, a: [Action; Job::ACTIONS], b: [Action; Job::ACTI
     true
 }
 
-// Whether two values hold the same job: their counts and all within them agree; what is beyond is ignored.
+// Whether two values hold the same job: their forms, their counts and all within them agree; what is beyond is ignored.
 pub fn same(a: Job, b: Job) -> bool
     ensures { λ r. ⌜ Decides r (jobIn a ≡ jobIn b) ⌝ }
 {
+    let a_form = a.form;
+    let b_form = b.form;
     let a_counts = a.counts;
     let b_counts = b.counts;
     let a_pools = a.pools;
     let b_pools = b.pools;
+    let a_handovers = a.handovers;
+    let b_handovers = b.handovers;
     let a_stores = a.stores;
     let b_stores = b.stores;
     let a_actions = a.actions;
@@ -79,8 +105,10 @@ pub fn same(a: Job, b: Job) -> bool
         & (a.deadline == b.deadline)
         & (a.start == b.start)
         & (a.goal == b.goal)
+        & same_form(a_form, b_form)
         & same_counts(a_counts, b_counts)
         & same_amounts(a_counts.pools, a_pools, b_pools)
+        & same_handovers(a_form.handovers(a_counts.pools), a_handovers, b_handovers)
         & same_amounts(a_counts.stores, a_stores, b_stores)
         & same_actions(a_counts, a_actions, b_actions)
 }

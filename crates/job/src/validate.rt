@@ -1,4 +1,4 @@
-// Tests 3 to 11 and 26 of a job value, in the order of the table over the whole job.
+// Tests 3 to 11, 26 and 27 of a job value, in the order of the table over the whole job.
 ghost use mathlib.Core.Path.{_≡_};
 ghost use Prim.Native.Nat.{_≤_};
 ghost use Rattle.lists.specs.Lists.{firsts, any};
@@ -41,6 +41,20 @@ pub fn any_over(limit: u32, amounts: [u32; Job::AMOUNTS], n: usize) -> bool
 {
     let limits = [limit; Job::AMOUNTS];
     beyond::any_above(limits, amounts, n)
+}
+
+// Whether one of the first n handovers is over the longest.
+fn any_too_long(handovers: [u8; Job::POOLS], n: usize) -> bool
+    requires { ⌜ n ≤ 4 ⌝ }
+    ensures { λ r. ⌜ r ≡ any (over 30) (firsts n 0 handovers) ⌝ }
+{
+    let mut found = false;
+    let mut k = 0;
+    while k < Job::POOLS {
+        found = found | ((k < n) & (Job::HANDOVER < handovers[k]));
+        k += 1;
+    }
+    found
 }
 
 // Those that an action fails in a job with so many facts, pools and stores.
@@ -103,12 +117,14 @@ fn validate_actions(job: Job) -> Verdict
     Verdict::Pass
 }
 
-// The first of tests 3 to 11 that the job fails.
+// The first of tests 3 to 11 and 27 that the job fails.
 fn validate_limits(job: Job) -> Verdict
     ensures { λ r. ⌜ r ≡ first (limitRows (jobIn job)) ⌝ }
 {
     let counts = job.counts;
+    let form = job.form;
     let pools = job.pools;
+    let handovers = job.handovers;
     let stores = job.stores;
     if (Job::POOLS < counts.pools)
         | (Job::STORES < counts.stores)
@@ -130,10 +146,13 @@ fn validate_limits(job: Job) -> Verdict
     {
         return Verdict::Refused(Refusal::Availability);
     }
+    if any_too_long(handovers, form.handovers(counts.pools)) {
+        return Verdict::Refused(Refusal::HandoverOver);
+    }
     validate_actions(job)
 }
 
-// The first of tests 3 to 11 and 26 that the job fails. Every call that is handed a job value begins with it.
+// The first of tests 3 to 11, 26 and 27 that the job fails. Every call that is handed a job value begins with it.
 pub fn validate(job: Job) -> Verdict
     ensures { λ r. ⌜ r ≡ first (jobRows (jobIn job)) ⌝ }
 {

@@ -4,16 +4,17 @@ use Prim.Native.Nat.{ℕ, zero, suc, _+_, _*_, _≤_, _<_}
 use mathlib.Core.Path.{_≡_, refl, sym, ap, ap₂, _∙_}
 use mathlib.Core.Bool.{true}
 use mathlib.Core.List.{List, [], _∷_, _++_, append-assoc, append-nil}
+use native.Mathlib.Decide.{decLt}
 use native.Mathlib.Omega.{arith}
 use lib.Dec.{eqb}
-use lib.ListN.{length, drop, length-append, take-append-drop}
+use lib.ListN.{length, getD, drop, length-append, take-append-drop, List·getD-eq-default}
 use lib.Seq.{drop-length, drop-drop}
-use borrow.Author.Tests.{eq-eqb, eqb-true}
-use Rattle.lists.proofs.Bools.{and-left, and-right}
+use borrow.Author.Tests.{eq-eqb, eqb-true, lt-ltb, le-ltb}
+use Rattle.lists.proofs.Bools.{absurd, and-left, and-right}
 use Rattle.encoding.specs.Bytes.{fromBytes, toBytes, part, joined}
 use Rattle.encoding.proofs.Numbers.{length-bytes, number-bytes}
 use Rattle.encoding.proofs.Parts.{Bytes, length-part, part-glue}
-use Rattle.jobfile.specs.File.{contents, fileOfBodies, offset, size, body, gapless}
+use Rattle.jobfile.specs.File.{contents, fileOfBodies, offset, size, body, gapless, entriesIn, sizeIn, bodyIn}
 use Rattle.jobfile.proofs.Lengths.{length-contents}
 use Rattle.jobfile.proofs.Fields.{fields-read, number-again}
 
@@ -32,6 +33,10 @@ InRow file at k (b ∷ bs) = Named file at k b × InRow file (at + length b) (su
 abbrev pub bodiesIn : List ℕ → ℕ → ℕ → List (List ℕ)
 bodiesIn file k zero = []
 bodiesIn file k (suc n) = body file k ∷ bodiesIn file (suc k) n
+
+pub count-in : (file : List ℕ) (k n : ℕ) → length (bodiesIn file k n) ≡ n
+count-in file k zero = refl
+count-in file k (suc n) = ap suc (count-in file (suc k) n)
 
 -- ── written, then read ──
 
@@ -62,6 +67,36 @@ written-in-row bs small = behind (fileOfBodies bs) [] [] (4 * length bs) 0 bs re
           behind file (E ++ O ++ L) (D ++ b) (at + length b) (suc k) bs (e ∙ simp append-assoc)
               (simp (length-append, length-bytes) (omega arith)) (simp length-append (omega arith)) small,
         )
+
+-- what entry i of those from k on names
+named-at : (file : List ℕ) (at k : ℕ) (bs : List (List ℕ)) → InRow file at k bs → (i : ℕ) → i < length bs
+    → (size file (k + i) ≡ length (getD bs i [])) × (body file (k + i) ≡ getD bs i [])
+named-at file at k [] r i l = absurd (omega arith)
+named-at file at k (b ∷ bs) r zero l =
+    let e : k + 0 ≡ k = omega arith in
+    rw e (r .0 .extent, ap₂ (part file) (r .0 .place) (r .0 .extent) ∙ r .0 .bytes)
+named-at file at k (b ∷ bs) r (suc i) l =
+    let e : k + suc i ≡ suc k + i = omega arith in
+    rw e (named-at file (at + length b) (suc k) bs (r .1) i (omega arith))
+
+module _ (file : List ℕ) (at : ℕ) (bs : List (List ℕ)) (r : InRow file at 0 bs) (e : length bs ≡ entriesIn file) where
+  -- beyond the form there is nothing
+  named : (k : ℕ) → (sizeIn file k ≡ length (getD bs k [])) × (bodyIn file k ≡ getD bs k [])
+  named k =
+      elim (decLt k (entriesIn file)) [
+        | yes l ↦
+            let z : 0 + k ≡ k = omega arith in
+            rw (lt-ltb k (entriesIn file) l) (rw z at (named-at file at 0 bs r k (omega arith)))
+        | no l ↦
+            let none : getD bs k [] ≡ [] = List·getD-eq-default bs [] (omega arith) in
+            rw (le-ltb k (entriesIn file) (omega arith), none) (refl, refl)
+      ]
+
+  pub size-in-row : (k : ℕ) → sizeIn file k ≡ length (getD bs k [])
+  size-in-row k = named k .0
+
+  pub body-in-row : (k : ℕ) → bodyIn file k ≡ getD bs k []
+  body-in-row k = named k .1
 
 module _ (file : List ℕ) where
   pub gapless-when-in-row : (at k : ℕ) (bs : List (List ℕ)) → InRow file at k bs

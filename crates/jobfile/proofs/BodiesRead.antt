@@ -1,24 +1,40 @@
 -- The bodies of a job, read back.
 -- Assumes nothing.
-use Prim.Native.Nat.{ℕ, _*_, _/_, _<_}
+use Prim.Native.Nat.{ℕ, _*_, _/_, _<_, _≤_}
 use mathlib.Core.Path.{_≡_, refl, _∙_}
 use mathlib.Core.List.{List, [], _∷_, append-nil, append-assoc}
 use native.Mathlib.Omega.{arith}
-use lib.ListN.{length}
-use Rattle.lists.specs.Lists.{Each}
+use lib.ListN.{length, getD}
+use Rattle.lists.specs.Lists.{tabulate, Each}
+use Rattle.lists.proofs.Bools.{absurd}
 use Rattle.lists.proofs.Tabulate.{each-map}
 use Rattle.encoding.specs.Bytes.{fromBytes, toBytes, split, joined}
 use Rattle.encoding.proofs.Numbers.{length-bytes, number-bytes}
 use Rattle.encoding.proofs.Pieces.{split-joined}
-use Rattle.job.specs.Job.{Action, Job}
+use Rattle.job.specs.Job.{Action, Job, handoverCount}
 use Rattle.job.specs.Passed.{Amounts, PassedAction, Passed}
+use Rattle.job.specs.declared.Form.{Form}
+use Rattle.job.specs.declared.Form.the-variants.{Four, Five}
 use Rattle.job.proofs.Values.{Shaped, Shape}
-use Rattle.jobfile.specs.File.{headBytes, amountBytes, actionBytes, actionSize, actionOf, jobOf}
+use Rattle.jobfile.specs.File.{headBytes, amountBytes, actionBytes, extraBodies, bodies, actionSize, actionOf}
+use Rattle.jobfile.specs.File.{jobOf}
 use Rattle.jobfile.proofs.Lengths.{length-amounts, length-action}
 use Rattle.jobfile.proofs.Fields.{fields-read, numbers-read}
 
 amounts-read : (xs : List ℕ) → Amounts xs → split 4 fromBytes (amountBytes xs) ≡ xs
 amounts-read xs h = numbers-read 4 xs (omega arith) (each-map (λ x e. omega arith) xs h)
+
+-- the handovers, which are missing beyond the form
+handovers-read : (form : Form) (J : Job) (pools : ℕ) → length (J .handovers) ≡ handoverCount form pools
+    → Each (λ x. x ≤ 30) (J .handovers) → split 1 fromBytes (getD (extraBodies form J) 0 []) ≡ J .handovers
+unfolding tabulate
+handovers-read Four J pools e h = none (J .handovers) e
+  where
+    none : (xs : List ℕ) → length xs ≡ 0 → [] ≡ xs
+    none [] e = refl
+    none (x ∷ xs) e = absurd (omega arith)
+handovers-read Five J pools e h =
+    numbers-read 1 (J .handovers) (omega arith) (each-map (λ x l. omega arith) (J .handovers) h)
 
 module _ (p s facts : ℕ) where
   action-read : (a : Action) → Shaped p s a → PassedAction facts a → a .duration < 256
@@ -51,6 +67,11 @@ module _ (p s facts : ℕ) where
   actions-read (a ∷ actions) h f d =
       (action-read a (h .0) (f .0) (d .0), actions-read actions (h .1) (f .1) (d .1))
 
+-- the job that bodies say, as many as there are
+abbrev pub jobOfBodies : Form → List (List ℕ) → Job
+jobOfBodies form bs =
+    jobOf form (getD bs 0 []) (getD bs 1 []) (getD bs 2 []) (getD bs 3 []) (getD bs 4 [])
+
 module _ (J : Job) (h : Shape J) (d : Each (λ a. a .duration < 256) (J .actions)) (f : Passed J) where
   abbrev pools : ℕ
   pools = length (J .pools)
@@ -63,11 +84,10 @@ module _ (J : Job) (h : Shape J) (d : Each (λ a. a .duration < 256) (J .actions
   all-actions-read p s e g =
       rw (e, g)
       (split-joined (actionSize pools stores) (actionOf pools stores) actionBytes (J .actions) (omega arith)
-      (each-map (λ a q. length-action pools stores a q) (J .actions) h)
-      (actions-read pools stores (J .facts) (J .actions) h (f .actions) d))
+      (each-map (λ a q. length-action pools stores a q) (J .actions) (h .actions))
+      (actions-read pools stores (J .facts) (J .actions) (h .actions) (f .actions) d))
 
-  pub bodies-read : jobOf (headBytes J) (amountBytes (J .pools)) (amountBytes (J .stores))
-      (joined actionBytes (J .actions)) ≡ J
+  pub bodies-read : jobOfBodies (J .form) (bodies J) ≡ J
   unfolding headBytes jobOf
   bodies-read =
       let P = amountBytes (J .pools) in
@@ -86,6 +106,7 @@ module _ (J : Job) (h : Shape J) (d : Each (λ a. a .duration < 256) (J .actions
         number-bytes 8 (J .start) (f .start .word),
         number-bytes 8 (J .goal) (f .goal .word),
         amounts-read (J .pools) (f .pools),
+        handovers-read (J .form) J pools (h .handovers) (f .handovers),
         amounts-read (J .stores) (f .stores),
         all-actions-read (length P / 4) (length S / 4) (omega arith) (omega arith),
       ))

@@ -1,4 +1,4 @@
--- The shape of the job that four bodies say, and the value of the job in a file.
+-- The shape of the job that the bodies say, and the value of the job in a file.
 -- Assumes nothing.
 use Prim.Native.Nat.{ℕ, _+_, _*_, _/_}
 use mathlib.Core.Path.{_≡_, ap, _∙_}
@@ -9,10 +9,12 @@ use Rattle.lists.proofs.Tabulate.{length-tabulate, each-tabulate}
 use Rattle.encoding.specs.Bytes.{part}
 use Rattle.encoding.proofs.Parts.{length-part}
 use Rattle.encoding.proofs.Pieces.{piece-within}
-use Rattle.job.specs.Job.{jobIn, jobValue}
+use Rattle.job.specs.Job.{handoverCount, jobIn, jobValue}
+use Rattle.job.specs.declared.Form.{Form}
 use Rattle.job.specs.declared.Job as held
 use Rattle.job.proofs.Values.{Shaped, Shape, value-holds-job}
-use Rattle.jobfile.specs.File.{body, actionSize, actionOf, jobOf, decoded}
+use Rattle.jobfile.specs.File.{formIn, bodyIn, actionSize, actionOf, jobOf, decoded}
+use Rattle.jobfile.proofs.Laid.{Laid}
 
 action-of-shape : (p s : ℕ) (bytes : List ℕ) → length bytes ≡ actionSize p s → Shaped p s (actionOf p s bytes)
 unfolding actionOf
@@ -21,20 +23,28 @@ action-of-shape p s bytes e =
     let b = length-part bytes (25 + 4 * p) (4 * s) (omega arith) in
     record { pools = simp length-tabulate (omega arith); stores = simp length-tabulate (omega arith) }
 
-module _ (head pools stores actions : List ℕ) where
-  job-of-shape : Shape (jobOf head pools stores actions)
+module _ (form : Form) (head pools stores actions handovers : List ℕ) where
+  job-of-shape : length handovers ≡ handoverCount form (length pools / 4)
+      → Shape (jobOf form head pools stores actions handovers)
   unfolding jobOf
-  job-of-shape =
+  job-of-shape e =
       let p = length pools / 4 in
       let s = length stores / 4 in
       let n = actionSize p s in
-      simp length-tabulate
-      (each-tabulate (Shaped p s) (length actions / n) (λ i. actionOf p s (part actions (i * n) n))
-      (λ i h.
-      action-of-shape p s (part actions (i * n) n)
-      (length-part actions (i * n) n (piece-within (length actions) n i h))))
+      record {
+        actions = simp length-tabulate
+            (each-tabulate (Shaped p s) (length actions / n) (λ i. actionOf p s (part actions (i * n) n))
+            (λ i h.
+            action-of-shape p s (part actions (i * n) n)
+            (length-part actions (i * n) n (piece-within (length actions) n i h))));
+        handovers = simp length-tabulate (omega arith);
+      }
 
-pub value-holds-decoded : (file : List ℕ) (j : held.Job) → j ≡ jobValue (decoded file) → jobIn j ≡ decoded file
-value-holds-decoded file j e =
+pub value-holds-decoded : (file : List ℕ) → Laid file → (j : held.Job) → j ≡ jobValue (decoded file)
+    → jobIn j ≡ decoded file
+value-holds-decoded file l j e =
+    let count : length (bodyIn file 4) ≡ handoverCount (formIn file) (length (bodyIn file 1) / 4) =
+    rw (l .lengths 1) (l .lengths 4 ∙ l .sizes .handovers) in
     ap jobIn e
-    ∙ value-holds-job (decoded file) (job-of-shape (body file 0) (body file 1) (body file 2) (body file 3))
+    ∙ value-holds-job (decoded file)
+    (job-of-shape (formIn file) (bodyIn file 0) (bodyIn file 1) (bodyIn file 2) (bodyIn file 3) (bodyIn file 4) count)

@@ -1,17 +1,22 @@
 -- What tests 2 and 3 say of a file: its bodies stand in a row, and have lengths that a job gives.
 -- Assumes nothing.
-use Prim.Native.Nat.{ℕ, _/_, _%_, _≤_}
-use mathlib.Core.Path.{_≡_}
+use Prim.Native.Nat.{ℕ, _+_, _*_, _/_, _%_, _≤_}
+use mathlib.Core.Path.{_≡_, refl, sym, ap, _∙_}
 use mathlib.Core.Bool.{Bool, true, false, not, _||_}
 use mathlib.Core.List.{List, [], _∷_}
+use native.Mathlib.Omega.{arith}
 use lib.Dec.{eqb}
 use lib.ListN.{length, getD}
 use borrow.Author.Tests.{eqb-true, eq-eqb, ltb-false, le-ltb, not-false}
 use Rattle.lists.proofs.Bools.{or-left, or-right}
+use Rattle.encoding.specs.Bytes.{part}
+use Rattle.job.specs.Job.{entries, handoverCount}
 use Rattle.job.specs.Valid.{over}
+use Rattle.job.specs.declared.Form.{Form}
+use Rattle.job.specs.declared.Form.the-variants.{Four, Five}
 use Rattle.jobfile.specs.declared.Layout.{Layout}
-use Rattle.jobfile.specs.File.{layoutIn, actionSize, gapless, missized}
-use Rattle.jobfile.proofs.Bodies.{InRow, bodiesIn, in-row-when-gapless}
+use Rattle.jobfile.specs.File.{formIn, entriesIn, sizeIn, bodyIn, layoutIn, actionSize, missized, inOrder}
+use Rattle.jobfile.proofs.Bodies.{InRow, bodiesIn, count-in, in-row-when-gapless, size-in-row, body-in-row}
 
 -- the lengths of the bodies are those that a job gives
 pub record Sized (l : Layout) : Type 0 where
@@ -22,6 +27,7 @@ pub record Sized (l : Layout) : Type 0 where
   pub fewStores : l .stores ≤ 16
   pub wholeActions : l .actions % actionSize (l .pools / 4) (l .stores / 4) ≡ 0
   pub fewActions : l .actions / actionSize (l .pools / 4) (l .stores / 4) ≤ 64
+  pub handovers : l .handovers ≡ handoverCount (l .form) (l .pools / 4)
 
 last-equal : (b : Bool) (m n : ℕ) → (b || not (eqb m n)) ≡ false → (b ≡ false) × (m ≡ n)
 last-equal b m n h =
@@ -38,7 +44,8 @@ module _ (l : Layout) where
   pub sized : missized l ≡ false → Sized l
   unfolding missized
   sized m =
-      let m6 = last-within _ 64 (l .actions / one) m in
+      let m7 = last-equal _ (l .handovers) (handoverCount (l .form) (l .pools / 4)) m in
+      let m6 = last-within _ 64 (l .actions / one) (m7 .0) in
       let m5 = last-equal _ (l .actions % one) 0 (m6 .0) in
       let m4 = last-within _ 16 (l .stores) (m5 .0) in
       let m3 = last-equal _ (l .stores % 4) 0 (m4 .0) in
@@ -52,6 +59,7 @@ module _ (l : Layout) where
         fewStores = m4 .1;
         wholeActions = m5 .1;
         fewActions = m6 .1;
+        handovers = m7 .1;
       }
 
   pub not-missized : Sized l → missized l ≡ false
@@ -64,30 +72,92 @@ module _ (l : Layout) where
         eq-eqb (l .stores % 4) 0 (s .wholeStores),
         le-ltb 16 (l .stores) (s .fewStores),
         eq-eqb (l .actions % one) 0 (s .wholeActions),
-      ) (le-ltb 64 (l .actions / one) (s .fewActions))
+        le-ltb 64 (l .actions / one) (s .fewActions),
+        eq-eqb (l .handovers) (handoverCount (l .form) (l .pools / 4)) (s .handovers),
+      )
 
 -- ── of bodies in a row ──
 
-abbrev pub layoutOf : List (List ℕ) → Layout
-layoutOf bs =
+abbrev pub layoutOf : Form → List (List ℕ) → Layout
+layoutOf form bs =
     record {
+      form = form;
       head = length (getD bs 0 []);
       pools = length (getD bs 1 []);
       stores = length (getD bs 2 []);
       actions = length (getD bs 3 []);
+      handovers = length (getD bs 4 []);
     }
 
-pub layout-in-row : (file head pools stores actions : List ℕ) (at : ℕ)
-    → InRow file at 0 (head ∷ pools ∷ stores ∷ actions ∷ [])
-    → layoutIn file ≡ layoutOf (head ∷ pools ∷ stores ∷ actions ∷ [])
-layout-in-row file head pools stores actions at r =
-    rw (r .0 .extent, r .1 .0 .extent, r .1 .1 .0 .extent, r .1 .1 .1 .0 .extent)
+pub layout-in-row : (file : List ℕ) (at : ℕ) (bs : List (List ℕ)) → InRow file at 0 bs → length bs ≡ entriesIn file
+    → layoutIn file ≡ layoutOf (formIn file) bs
+layout-in-row file at bs r e =
+    rw (
+      size-in-row file at bs r e 0,
+      size-in-row file at bs r e 1,
+      size-in-row file at bs r e 2,
+      size-in-row file at bs r e 3,
+      size-in-row file at bs r e 4,
+    )
 
 pub record Laid (file : List ℕ) : Type 0 where
-  pub row : InRow file 16 0 (bodiesIn file 0 4)
-  pub sizes : Sized (layoutOf (bodiesIn file 0 4))
+  pub row : InRow file (4 * entriesIn file) 0 (bodiesIn file 0 (entriesIn file))
+  pub sizes : Sized (layoutIn file)
+  pub lengths : (k : ℕ) → length (bodyIn file k) ≡ sizeIn file k
 
-pub laid : (file : List ℕ) → gapless file 16 0 4 ≡ true → missized (layoutIn file) ≡ false → Laid file
+pub laid : (file : List ℕ) → inOrder file ≡ true → missized (layoutIn file) ≡ false → Laid file
 laid file g m =
-    let row = in-row-when-gapless file 16 0 4 g in
-    record { row = row; sizes = sized _ (rw (layout-in-row file _ _ _ _ 16 row) at m) }
+    let n = entriesIn file in
+    let bs = bodiesIn file 0 n in
+    let row = in-row-when-gapless file (4 * n) 0 n g in
+    let e = count-in file 0 n in
+    record {
+      row = row;
+      sizes = sized (layoutIn file) m;
+      lengths = λ k. ap length (body-in-row file (4 * n) bs row e k) ∙ sym (size-in-row file (4 * n) bs row e k);
+    }
+
+-- the bodies stand from `at` to the end of the file, those beyond the form being empty
+pub record Standing (file : List ℕ) (at : ℕ) : Type 0 where
+  pub head : part file at (length (bodyIn file 0)) ≡ bodyIn file 0
+  pub pools : part file (at + length (bodyIn file 0)) (length (bodyIn file 1)) ≡ bodyIn file 1
+  pub stores : part file (at + length (bodyIn file 0) + length (bodyIn file 1)) (length (bodyIn file 2)) ≡ bodyIn file 2
+  pub actions : part file (at + length (bodyIn file 0) + length (bodyIn file 1) + length (bodyIn file 2))
+      (length (bodyIn file 3)) ≡ bodyIn file 3
+  pub handovers : part file
+      (at + length (bodyIn file 0) + length (bodyIn file 1) + length (bodyIn file 2) + length (bodyIn file 3))
+      (length (bodyIn file 4)) ≡ bodyIn file 4
+  pub end : at + length (bodyIn file 0) + length (bodyIn file 1) + length (bodyIn file 2) + length (bodyIn file 3)
+      + length (bodyIn file 4) ≡ length file
+
+pub standing : (file : List ℕ) → Laid file → Standing file (4 * entriesIn file)
+standing file l = by-form (formIn file) refl (l .row)
+  where
+    by-form : (form : Form) → formIn file ≡ form
+        → InRow file (4 * entries form) 0 (bodiesIn file 0 (entries form)) → Standing file (4 * entries form)
+    by-form Four e r =
+        let b = r .1 in
+        let c = b .1 in
+        let d = c .1 in
+        let end = d .1 in
+        record {
+          head = rw e (r .0 .bytes);
+          pools = rw e (b .0 .bytes);
+          stores = rw e (c .0 .bytes);
+          actions = rw e (d .0 .bytes);
+          handovers = rw e refl;
+          end = rw e (omega arith);
+        }
+    by-form Five e r =
+        let b = r .1 in
+        let c = b .1 in
+        let d = c .1 in
+        let f = d .1 in
+        record {
+          head = rw e (r .0 .bytes);
+          pools = rw e (b .0 .bytes);
+          stores = rw e (c .0 .bytes);
+          actions = rw e (d .0 .bytes);
+          handovers = rw e (f .0 .bytes);
+          end = rw e (f .1);
+        }

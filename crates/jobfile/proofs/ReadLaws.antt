@@ -1,17 +1,16 @@
 -- What reading a file answers: one law for each way out of the reader, and the job in the slices that it takes.
 -- Assumes nothing.
-use Prim.Native.Nat.{ℕ, _+_, _-_, _/_, _≤_}
+use Prim.Native.Nat.{ℕ, _+_, _-_, _*_, _/_, _≤_}
 use mathlib.Core.Path.{_≡_, refl, ap, sym, _∙_}
-use mathlib.Core.Bool.{Bool, true, false, not, _||_}
+use mathlib.Core.Bool.{true, false, not}
 use mathlib.Core.List.{List}
 use native.Mathlib.Omega.{arith}
-use lib.Dec.{ltb}
 use lib.ListN.{length}
 use borrow.Author.Tests.{le-ltb, not-false}
 use Rattle.encoding.specs.Bytes.{part}
-use Rattle.job.specs.Job.{Job, jobIn, jobValue, zeroValue}
+use Rattle.job.specs.Job.{Job, handoverCount, jobIn, jobValue, zeroValue}
 use Rattle.job.specs.Refusal.{first, replyBy}
-use Rattle.job.specs.Valid.{over, jobRows}
+use Rattle.job.specs.Valid.{jobRows}
 use Rattle.job.specs.declared.Job as held
 use Rattle.job.specs.declared.refusal.Refusal.{Refusal}
 use Rattle.job.specs.declared.refusal.Refusal.the-variants.{FileSize, Offsets, BodySizes}
@@ -19,25 +18,21 @@ use Rattle.job.specs.declared.refusal.Verdict.{Verdict}
 use Rattle.job.specs.declared.refusal.Verdict.the-variants.{Pass, Refused}
 use Rattle.job.proofs.Table.{first-here, first-next, first-pass}
 use Rattle.jobfile.specs.declared.Reading.{Reading}
-use Rattle.jobfile.specs.File.{size, body, offset, layoutIn, actionSize, jobOf, decoded}
-use Rattle.jobfile.specs.File.{gapless, missized, fileRows}
+use Rattle.jobfile.specs.File.{formIn, entriesIn, sizeIn, bodyIn, layoutIn, actionSize, jobOf, decoded}
+use Rattle.jobfile.specs.File.{missized, wrongSize, inOrder, fileRows}
 use Rattle.jobfile.specs.Answers.{readRows, readingOf, readFile, readReply, Reads}
-use Rattle.jobfile.proofs.Laid.{Laid, laid}
+use Rattle.jobfile.proofs.Laid.{Laid, laid, standing}
 use Rattle.jobfile.proofs.DecodeLaws.{value-holds-decoded}
 
 -- the answer to a file that is refused
 abbrev pub refusedWith : Refusal → Reading
 refusedWith why = record { verdict = Refused why; job = zeroValue }
 
--- test 1
-abbrev pub wrongSize : List ℕ → Bool
-wrongSize file = ltb (length file) 16 || over 4096 (length file)
-
-pub right-size : (file : List ℕ) → 16 ≤ length file → length file ≤ 4096 → wrongSize file ≡ false
-right-size file l h = rw (le-ltb (length file) 16 l, le-ltb 4096 (length file) h)
+pub right-size : (file : List ℕ) → 4 * entriesIn file ≤ length file → length file ≤ 4096 → wrongSize file ≡ false
+right-size file l h = rw (le-ltb (length file) (4 * entriesIn file) l, le-ltb 4096 (length file) h)
 
 -- a file that passes tests 1 to 3 is left to the tests of the job in it
-pub file-rows-pass : (file : List ℕ) → wrongSize file ≡ false → gapless file 16 0 4 ≡ true
+pub file-rows-pass : (file : List ℕ) → wrongSize file ≡ false → inOrder file ≡ true
     → missized (layoutIn file) ≡ false → first (readRows file) ≡ first (jobRows (decoded file))
 unfolding readRows fileRows
 file-rows-pass file t1 t2 t3 =
@@ -61,12 +56,12 @@ module _ (file : List ℕ) where
   unfolding readRows fileRows
   read-wrong-size h = reading file (Refused FileSize) (first-here FileSize _ _ h)
 
-  pub read-offsets : wrongSize file ≡ false → gapless file 16 0 4 ≡ false → readFile file ≡ refusedWith Offsets
+  pub read-offsets : wrongSize file ≡ false → inOrder file ≡ false → readFile file ≡ refusedWith Offsets
   unfolding readRows fileRows
   read-offsets t1 h =
       reading file (Refused Offsets) (first-next FileSize _ _ t1 ∙ first-here Offsets _ _ (ap not h))
 
-  pub read-body-sizes : wrongSize file ≡ false → gapless file 16 0 4 ≡ true → missized (layoutIn file) ≡ true
+  pub read-body-sizes : wrongSize file ≡ false → inOrder file ≡ true → missized (layoutIn file) ≡ true
       → readFile file ≡ refusedWith BodySizes
   unfolding readRows fileRows
   read-body-sizes t1 t2 h =
@@ -74,12 +69,13 @@ module _ (file : List ℕ) where
       (first-next FileSize _ _ t1 ∙ first-next Offsets _ _ (ap not t2) ∙ first-here BodySizes _ _ h)
 
   -- a file that passes tests 1 to 3: the answer is that of validating the decoded value
-  module _ (t1 : wrongSize file ≡ false) (t2 : gapless file 16 0 4 ≡ true) (t3 : missized (layoutIn file) ≡ false)
+  module _ (t1 : wrongSize file ≡ false) (t2 : inOrder file ≡ true) (t3 : missized (layoutIn file) ≡ false)
       (j : held.Job) (e : j ≡ jobValue (decoded file)) where
     pub read-validated : readFile file ≡ readingOf (first (jobRows (jobIn j))) (decoded file)
     read-validated =
         reading file (first (jobRows (jobIn j)))
-        (file-rows-pass file t1 t2 t3 ∙ ap (λ (J : Job). first (jobRows J)) (sym (value-holds-decoded file j e)))
+        (file-rows-pass file t1 t2 t3
+        ∙ ap (λ (J : Job). first (jobRows J)) (sym (value-holds-decoded file (laid file t2 t3) j e)))
 
     pub read-refused : (why : Refusal) → first (jobRows (jobIn j)) ≡ Refused why → readFile file ≡ refusedWith why
     read-refused why h = read-validated ∙ ap (λ (v : Verdict). readingOf v (decoded file)) h
@@ -87,39 +83,55 @@ module _ (file : List ℕ) where
     pub read-passed : first (jobRows (jobIn j)) ≡ Pass → readFile file ≡ record { verdict = Pass; job = j }
     read-passed h = read-validated ∙ ap (λ (v : Verdict). readingOf v (decoded file)) h ∙ rw e
 
--- ── the four slices that begin at 16, a, b and c are the bodies ──
+-- ── the slices that begin at a, b, c, d and e are the bodies ──
 
-part-is-body : (file : List ℕ) (at n k : ℕ) → at ≡ offset file k → n ≡ size file k → part file at n ≡ body file k
-part-is-body file at n k e f = rw (e, f)
+slice-is : (file : List ℕ) (at n at₀ n₀ : ℕ) (body : List ℕ) → at ≡ at₀ → n ≡ n₀ → part file at₀ n₀ ≡ body
+    → part file at n ≡ body
+slice-is file at n at₀ n₀ body e f h = rw (e, f) h
 
-module _ (file : List ℕ) (l : Laid file) (a b c : ℕ) (ea : a ≡ 16 + size file 0) (eb : b ≡ a + size file 1)
-    (ec : c ≡ b + size file 2) where
-  slices-are-bodies : (part file 16 (a - 16) ≡ body file 0)
-      × (part file a (b - a) ≡ body file 1)
-      × (part file b (c - b) ≡ body file 2)
-      × (part file c (length file - c) ≡ body file 3)
+module _ (file : List ℕ) (l : Laid file) (a b c d e : ℕ) (ea : a ≡ 4 * entriesIn file) (eb : b ≡ a + sizeIn file 0)
+    (ec : c ≡ b + sizeIn file 1) (ed : d ≡ c + sizeIn file 2) (ee : e ≡ d + sizeIn file 3) where
+  slices-are-bodies : (part file a (b - a) ≡ bodyIn file 0)
+      × (part file b (c - b) ≡ bodyIn file 1)
+      × (part file c (d - c) ≡ bodyIn file 2)
+      × (part file d (e - d) ≡ bodyIn file 3)
+      × (part file e (length file - e) ≡ bodyIn file 4)
   slices-are-bodies =
-      let row = l .row in (
-        part-is-body file 16 (a - 16) 0 (omega arith) (omega arith),
-        part-is-body file a (b - a) 1 (omega arith) (omega arith),
-        part-is-body file b (c - b) 2 (omega arith) (omega arith),
-        part-is-body file c (length file - c) 3 (omega arith) (omega arith),
+      let s = standing file l in
+      let end = s .end in
+      let size : ℕ → ℕ = λ k. length (bodyIn file k) in
+      let n0 = l .lengths 0 in
+      let n1 = l .lengths 1 in
+      let n2 = l .lengths 2 in
+      let n3 = l .lengths 3 in
+      let at0 = 4 * entriesIn file in
+      let at1 = at0 + size 0 in
+      let at2 = at1 + size 1 in
+      let at3 = at2 + size 2 in
+      let at4 = at3 + size 3 in (
+        slice-is file a (b - a) at0 (size 0) (bodyIn file 0) ea (omega arith) (s .head),
+        slice-is file b (c - b) at1 (size 1) (bodyIn file 1) (omega arith) (omega arith) (s .pools),
+        slice-is file c (d - c) at2 (size 2) (bodyIn file 2) (omega arith) (omega arith) (s .stores),
+        slice-is file d (e - d) at3 (size 3) (bodyIn file 3) (omega arith) (omega arith) (s .actions),
+        slice-is file e (length file - e) at4 (size 4) (bodyIn file 4) (omega arith) (omega arith) (s .handovers),
       )
 
-  pub decoded-by-slices : jobOf (part file 16 (a - 16)) (part file a (b - a)) (part file b (c - b))
-      (part file c (length file - c)) ≡ decoded file
-  decoded-by-slices = let s = slices-are-bodies in rw (s .0, s .1, s .2, s .3)
+  pub decoded-by-slices : jobOf (formIn file) (part file a (b - a)) (part file b (c - b)) (part file c (d - c))
+      (part file d (e - d)) (part file e (length file - e)) ≡ decoded file
+  decoded-by-slices = let s = slices-are-bodies in rw (s .0, s .1, s .2, s .3, s .4)
 
   -- what decoding them requires
-  pub slices-fit : (length (part file 16 (a - 16)) ≡ 19)
-      × (length (part file a (b - a)) ≤ 16)
+  pub slices-fit : (length (part file a (b - a)) ≡ 19)
       × (length (part file b (c - b)) ≤ 16)
-      × (length (part file c (length file - c))
-      / actionSize (length (part file a (b - a)) / 4) (length (part file b (c - b)) / 4) ≤ 64)
+      × (length (part file c (d - c)) ≤ 16)
+      × (length (part file d (e - d))
+      / actionSize (length (part file b (c - b)) / 4) (length (part file c (d - c)) / 4) ≤ 64)
+      × (length (part file e (length file - e)) ≡ handoverCount (formIn file) (length (part file b (c - b)) / 4))
   slices-fit =
       let s = slices-are-bodies in
       let z = l .sizes in
-      rw (s .0, s .1, s .2, s .3) (z .head, z .fewPools, z .fewStores, z .fewActions)
+      rw (s .0, s .1, s .2, s .3, s .4, l .lengths 0, l .lengths 1, l .lengths 2, l .lengths 3, l .lengths 4)
+      (z .head, z .fewPools, z .fewStores, z .fewActions, z .handovers)
 
 -- what is answered makes the papers' reply
 pub reads-of-answer : (file : List ℕ) (r : Reading) → r ≡ readFile file → Reads file r

@@ -1,21 +1,27 @@
 -- A file that was read is written again, byte for byte.
 -- Assumes nothing.
 use Prim.Native.Nat.{ℕ, _+_, _*_, _/_, _%_}
-use mathlib.Core.Path.{_≡_, ap, _∙_}
-use mathlib.Core.List.{List}
+use mathlib.Core.Path.{_≡_, refl, sym, ap, _∙_}
+use mathlib.Core.Bool.{Bool, true, false, cond}
+use mathlib.Core.List.{List, [], _∷_}
 use native.Mathlib.Omega.{arith}
+use lib.Dec.{ltb}
 use lib.ListN.{length}
 use lib.Seq.{take-all, take-add}
 use Rattle.encoding.specs.Bytes.{fromBytes, part, split, joined}
 use Rattle.encoding.proofs.Parts.{Bytes, length-part, part-bytes, part-glue}
 use Rattle.encoding.proofs.Pieces.{joined-split}
+use Rattle.job.specs.Job.{Job, entries}
 use Rattle.job.specs.Refusal.{first}
+use Rattle.job.specs.declared.Form.{Form}
+use Rattle.job.specs.declared.Form.the-variants.{Four, Five}
 use Rattle.job.specs.declared.refusal.Verdict.the-variants.{Pass}
-use Rattle.jobfile.specs.File.{headBytes, amountBytes, actionBytes, bodies, fileOfBodies, fileOf}
-use Rattle.jobfile.specs.File.{offset, size, body, actionSize, actionOf, jobOf, decoded}
+use Rattle.jobfile.specs.File.{headBytes, amountBytes, actionBytes, handoverBytes, extraBodies, bodies}
+use Rattle.jobfile.specs.File.{fileOfBodies, fileOf, formIn, entriesIn, bodyIn, actionSize, actionOf, jobOf}
+use Rattle.jobfile.specs.File.{offset, size, body, decoded}
 use Rattle.jobfile.specs.Answers.{readRows}
 use Rattle.jobfile.proofs.Fields.{number-again, numbers-again}
-use Rattle.jobfile.proofs.Bodies.{bodiesIn, file-when-in-row}
+use Rattle.jobfile.proofs.Bodies.{bodiesIn, count-in, file-when-in-row}
 use Rattle.jobfile.proofs.Laid.{Laid}
 use Rattle.jobfile.proofs.ReadLaws.{passes-laid}
 
@@ -24,10 +30,10 @@ use Rattle.jobfile.proofs.ReadLaws.{passes-laid}
 amounts-again : (bs : List ℕ) → Bytes bs → length bs % 4 ≡ 0 → amountBytes (split 4 fromBytes bs) ≡ bs
 amounts-again bs h e = numbers-again 4 bs (omega arith) h e
 
-head-again : (head pools stores actions : List ℕ) → Bytes head → length head ≡ 19
-    → headBytes (jobOf head pools stores actions) ≡ head
+head-again : (form : Form) (head pools stores actions handovers : List ℕ) → Bytes head → length head ≡ 19
+    → headBytes (jobOf form head pools stores actions handovers) ≡ head
 unfolding headBytes jobOf
-head-again head pools stores actions h l =
+head-again form head pools stores actions handovers h l =
     rw (
       number-again head 0 1 h (omega arith),
       number-again head 1 2 h (omega arith),
@@ -61,32 +67,52 @@ action-again p s bs h l =
 
 -- ── the bodies and the file ──
 
+actions-again : (p s : ℕ) (bs : List ℕ) → Bytes bs → length bs % actionSize p s ≡ 0
+    → joined actionBytes (split (actionSize p s) (actionOf p s) bs) ≡ bs
+actions-again p s bs h e =
+    let n = actionSize p s in
+    joined-split n (actionOf p s) actionBytes bs (omega arith) e
+    (λ at k. action-again p s (part bs at n) (part-bytes bs at n h) (length-part bs at n k))
+
 module _ (file : List ℕ) (h : Bytes file) (l : Laid file) where
-  body-bytes : (k : ℕ) → Bytes (body file k)
-  body-bytes k = part-bytes file (offset file k) (size file k) h
+  body-bytes : (k : ℕ) → Bytes (bodyIn file k)
+  body-bytes k = go (ltb k (entriesIn file))
+    where
+      go : (b : Bool) → Bytes (cond b (body file k) [])
+      go true = part-bytes file (offset file k) (size file k) h
+      go false = λ i. omega arith
 
-  actions-again : (p s : ℕ) → length (body file 3) % actionSize p s ≡ 0
-      → joined actionBytes (split (actionSize p s) (actionOf p s) (body file 3)) ≡ body file 3
-  actions-again p s e =
-      let n = actionSize p s in
-      joined-split n (actionOf p s) actionBytes (body file 3) (omega arith) e
-      (λ at k.
-      action-again p s (part (body file 3) at n)
-      (part-bytes (body file 3) at n (body-bytes 3))
-      (length-part (body file 3) at n k))
+  -- the bodies of the file, one by one
+  one-by-one : (form : Form) → formIn file ≡ form → (handovers : List ℕ) → handovers ≡ bodyIn file 4 → (J : Job)
+      → handoverBytes (J .handovers) ≡ handovers
+      → bodyIn file 0 ∷ bodyIn file 1 ∷ bodyIn file 2 ∷ bodyIn file 3 ∷ extraBodies form J
+      ≡ bodiesIn file 0 (entries form)
+  one-by-one Four e x y J z = rw e
+  one-by-one Five e x y J z = rw (z, y, e)
 
-  bodies-again : bodies (decoded file) ≡ bodiesIn file 0 4
+  bodies-again : bodies (decoded file) ≡ bodiesIn file 0 (entriesIn file)
   unfolding jobOf
   bodies-again =
+      let n = l .lengths in
+      let z = l .sizes in
+      let pools = bodyIn file 1 in
+      let stores = bodyIn file 2 in
+      let handovers = bodyIn file 4 in
       rw (
-        head-again (body file 0) (body file 1) (body file 2) (body file 3) (body-bytes 0) (l .sizes .head),
-        amounts-again (body file 1) (body-bytes 1) (l .sizes .wholePools),
-        amounts-again (body file 2) (body-bytes 2) (l .sizes .wholeStores),
-        actions-again (length (body file 1) / 4) (length (body file 2) / 4) (l .sizes .wholeActions),
+        head-again (formIn file) (bodyIn file 0) pools stores (bodyIn file 3) handovers (body-bytes 0)
+            (n 0 ∙ z .head),
+        amounts-again pools (body-bytes 1) (rw (n 1) (z .wholePools)),
+        amounts-again stores (body-bytes 2) (rw (n 2) (z .wholeStores)),
+        actions-again (length pools / 4) (length stores / 4) (bodyIn file 3) (body-bytes 3)
+            (rw (n 1, n 2, n 3) (z .wholeActions)),
       )
+      (one-by-one (formIn file) refl handovers refl (decoded file)
+      (numbers-again 1 handovers (omega arith) (body-bytes 4) (omega arith)))
 
 pub read-write : (file : List ℕ) → Bytes file → first (readRows file) ≡ Pass → fileOf (decoded file) ≡ file
 unfolding fileOf
 read-write file h passes =
     let l = passes-laid file passes .0 in
-    ap fileOfBodies (bodies-again file h l) ∙ file-when-in-row file h (bodiesIn file 0 4) (l .row)
+    let n = entriesIn file in
+    ap fileOfBodies (bodies-again file h l)
+    ∙ file-when-in-row file h (bodiesIn file 0 n) (rw (count-in file 0 n) (l .row))

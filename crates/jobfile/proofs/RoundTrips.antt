@@ -46,12 +46,13 @@ passed-reading : (v : Verdict) (J : Job) (j : held.Job) → readingOf v J ≡ re
 passed-reading Pass J j h = (refl, sym (ap (λ (r : Reading). r .job) h))
 passed-reading (Refused why) J j h = let e = ap (λ (r : Reading). r .verdict) h in (e, cc)
 
--- a file that is accepted passes tests 1 to 11 and 26, and has the job that is read
+-- a file that is accepted passes tests 1 to 11, 26 and 27, and has the job that is read
 accepted-file : (file : List ℕ) (j : held.Job) → readFile file ≡ record { verdict = Pass; job = j }
     → (first (readRows file) ≡ Pass) × (jobIn j ≡ decoded file)
 unfolding readFile
 accepted-file file j h =
-    let r = passed-reading (first (readRows file)) (decoded file) j h in (r .0, value-holds-decoded file j (r .1))
+    let r = passed-reading (first (readRows file)) (decoded file) j h in
+    (r .0, value-holds-decoded file (passes-laid file (r .0) .0) j (r .1))
 
 -- the job that is read passes its tests
 pub read-job-passes : (file : List ℕ) (j : held.Job) → readFile file ≡ record { verdict = Pass; job = j }

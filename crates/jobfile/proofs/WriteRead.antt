@@ -1,33 +1,54 @@
 -- The file of a job that passes is read, and gives the job again.
 -- Assumes nothing.
-use Prim.Native.Nat.{ℕ, _/_, _<_}
-use mathlib.Core.Path.{_≡_, ap, _∙_}
+use Prim.Native.Nat.{ℕ, _*_, _/_, _<_}
+use mathlib.Core.Path.{_≡_, refl, sym, ap, _∙_}
 use mathlib.Core.List.{List, []}
 use native.Mathlib.Nat.{mul-div-cancel, mul-mod-left}
 use native.Mathlib.Omega.{arith}
 use lib.ListN.{length, getD}
 use Rattle.lists.specs.Lists.{Each}
-use Rattle.job.specs.Job.{Job}
+use Rattle.job.specs.Job.{Job, entries, handoverCount}
 use Rattle.job.specs.Refusal.{first}
 use Rattle.job.specs.Valid.{jobRows}
 use Rattle.job.specs.Passed.{Passed}
+use Rattle.job.specs.declared.Form.{Form}
+use Rattle.job.specs.declared.Form.the-variants.{Four, Five}
 use Rattle.job.specs.declared.refusal.Verdict.the-variants.{Pass}
 use Rattle.job.proofs.Passed.{passed}
 use Rattle.job.proofs.Values.{Shape}
-use Rattle.jobfile.specs.File.{amountBytes, bodies, fileOf, actionSize, jobOf, decoded}
+use Rattle.jobfile.specs.File.{amountBytes, extraBodies, bodies, fileOf, formOf, formIn, entriesIn, actionSize}
+use Rattle.jobfile.specs.File.{decoded}
 use Rattle.jobfile.specs.Answers.{readRows}
-use Rattle.jobfile.proofs.Lengths.{length-head, length-amounts, length-actions, length-file, file-fits}
-use Rattle.jobfile.proofs.Bodies.{InRow, gapless-when-in-row, bodies-when-in-row, written-in-row}
-use Rattle.jobfile.proofs.BodiesRead.{bodies-read}
+use Rattle.jobfile.proofs.Lengths.{length-head, length-amounts, length-actions, length-handovers, length-file}
+use Rattle.jobfile.proofs.Lengths.{count-bodies, file-fits}
+use Rattle.jobfile.proofs.Bodies.{InRow, gapless-when-in-row, body-in-row, written-in-row}
+use Rattle.jobfile.proofs.BodiesRead.{jobOfBodies, bodies-read}
 use Rattle.jobfile.proofs.Laid.{Sized, layoutOf, not-missized, layout-in-row}
 use Rattle.jobfile.proofs.ReadLaws.{right-size, file-rows-pass}
 
+-- the first offset tells the form
+form-of-entries : (form : Form) → formOf (4 * entries form) ≡ form
+form-of-entries Four = refl
+form-of-entries Five = refl
+
+handovers-sized : (form : Form) (J : Job) (pools : ℕ) → length (J .handovers) ≡ handoverCount form pools
+    → length (getD (extraBodies form J) 0 []) ≡ handoverCount form pools
+handovers-sized Four J pools e = refl
+handovers-sized Five J pools e = length-handovers (J .handovers) ∙ e
+
 module _ (J : Job) (h : Shape J) (f : Passed J) where
-  job-in-row : InRow (fileOf J) 16 0 (bodies J)
+  job-in-row : InRow (fileOf J) (4 * length (bodies J)) 0 (bodies J)
   unfolding fileOf
   job-in-row = let l = file-fits J h f in written-in-row (bodies J) (omega arith)
 
-  bodies-sized : Sized (layoutOf (bodies J))
+  form-read : formIn (fileOf J) ≡ J .form
+  form-read =
+      ap formOf (job-in-row .0 .place ∙ ap (λ (n : ℕ). 4 * n) (count-bodies J)) ∙ form-of-entries (J .form)
+
+  entries-read : length (bodies J) ≡ entriesIn (fileOf J)
+  entries-read = count-bodies J ∙ ap entries (sym form-read)
+
+  bodies-sized : Sized (layoutOf (J .form) (bodies J))
   bodies-sized =
       let n = length (J .actions) in
       let one = actionSize (length (J .pools)) (length (J .stores)) in
@@ -46,25 +67,31 @@ module _ (J : Job) (h : Shape J) (f : Passed J) where
         fewStores = omega arith;
         wholeActions = rw (p, s, a) (mul-mod-left n one);
         fewActions = rw (p, s, a, mul-div-cancel n {n = one} (omega arith)) (f .fewActions);
+        handovers = rw p (handovers-sized (J .form) J (length (J .pools)) (h .handovers));
       }
 
   decoded-file : Each (λ a. a .duration < 256) (J .actions) → decoded (fileOf J) ≡ J
   decoded-file d =
-      ap (λ (b : List (List ℕ)). jobOf (getD b 0 []) (getD b 1 []) (getD b 2 []) (getD b 3 []))
-      (bodies-when-in-row (fileOf J) 16 0 (bodies J) job-in-row)
-      ∙ bodies-read J h d f
+      let at = 4 * length (bodies J) in
+      let body = body-in-row (fileOf J) at (bodies J) job-in-row entries-read in
+      let said : decoded (fileOf J) ≡ jobOfBodies (formIn (fileOf J)) (bodies J) =
+      rw (body 0, body 1, body 2, body 3, body 4) in
+      said ∙ ap (λ (form : Form). jobOfBodies form (bodies J)) form-read ∙ bodies-read J h d f
 
 pub write-read : (J : Job) → Shape J → Each (λ a. a .duration < 256) (J .actions) → first (jobRows J) ≡ Pass
     → (first (readRows (fileOf J)) ≡ Pass) × (decoded (fileOf J) ≡ J)
 write-read J h d passes =
     let f = passed J passes in
+    let file = fileOf J in
     let l = length-file J h in
+    let n = count-bodies J in
+    let e = entries-read J h f in
     let row = job-in-row J h f in
-    let sized = not-missized (layoutOf (bodies J)) (bodies-sized J h f) in
+    let sized = not-missized (layoutOf (J .form) (bodies J)) (bodies-sized J h f) in
     let same = decoded-file J h f d in (
-      file-rows-pass (fileOf J) (right-size (fileOf J) (omega arith) (file-fits J h f))
-          (gapless-when-in-row (fileOf J) 16 0 (bodies J) row)
-          (rw (layout-in-row (fileOf J) _ _ _ _ 16 row) sized)
+      file-rows-pass file (right-size file (omega arith) (file-fits J h f))
+          (rw e at (gapless-when-in-row file (4 * length (bodies J)) 0 (bodies J) row))
+          (rw (layout-in-row file (4 * length (bodies J)) (bodies J) row e, form-read J h f) sized)
           ∙ ap (λ (K : Job). first (jobRows K)) same
           ∙ passes,
       same,

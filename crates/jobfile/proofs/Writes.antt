@@ -1,16 +1,22 @@
 -- Writes one after the other are one write: of an action, of the head, of the file.
 -- Assumes nothing.
 use Prim.Native.Nat.{ℕ, _+_, _*_, _≤_}
-use mathlib.Core.Path.{_≡_, ap, sym, _∙_}
+use mathlib.Core.Path.{_≡_, refl, ap, sym, _∙_}
 use mathlib.Core.List.{List, [], _∷_, _++_, append-assoc, append-nil}
 use native.Mathlib.Omega.{arith}
 use lib.ListN.{length, length-append}
+use Rattle.lists.specs.Lists.{tabulate, firsts}
 use Rattle.encoding.specs.Bytes.{toBytes, joined, overwrite}
 use Rattle.encoding.proofs.Numbers.{length-bytes}
 use Rattle.encoding.proofs.Overwrite.{overwrite-none, overwrite-overwrite}
-use Rattle.job.specs.Job.{Action, Job}
-use Rattle.jobfile.specs.File.{headBytes, amountBytes, actionBytes, bodies, contents, fileOf}
-use Rattle.jobfile.proofs.Lengths.{length-contents, length-amounts, length-head}
+use Rattle.job.specs.Job.{Action, Job, entries, handoverCount}
+use Rattle.job.specs.declared.Form.{Form}
+use Rattle.job.specs.declared.Form.the-variants.{Four, Five}
+use Rattle.job.proofs.Values.{Shape}
+use Rattle.jobfile.specs.File.{headBytes, amountBytes, actionBytes, handoverBytes, extraBodies, bodies, contents}
+use Rattle.jobfile.specs.File.{contentBytes, fileOf}
+use Rattle.jobfile.proofs.Lengths.{length-contents, length-amounts, length-head, length-handovers, extra-bytes}
+use Rattle.jobfile.proofs.Lengths.{count-bodies}
 
 -- each list of bytes in turn written over o at its place
 abbrev pub writes : List ℕ → List (ℕ × List ℕ) → List ℕ
@@ -58,47 +64,77 @@ write-action o at a stores e l =
     writes-in-turn o at (actionWrites at stores a) (simp length-bytes (omega arith))
     ∙ ap (overwrite o at) (simp (append-assoc, append-nil))
 
-abbrev pub headWrites : Job → List (ℕ × List ℕ)
-headWrites J =
-    (16, toBytes 1 (J .facts))
-    ∷ (17, toBytes 2 (J .deadline))
-    ∷ (19, toBytes 8 (J .start))
-    ∷ (27, toBytes 8 (J .goal))
+abbrev pub headWrites : ℕ → Job → List (ℕ × List ℕ)
+headWrites at J =
+    (at, toBytes 1 (J .facts))
+    ∷ (at + 1, toBytes 2 (J .deadline))
+    ∷ (at + 3, toBytes 8 (J .start))
+    ∷ (at + 11, toBytes 8 (J .goal))
     ∷ []
 
-pub write-head : (o : List ℕ) (J : Job) → 27 ≤ length o → writes o (headWrites J) ≡ overwrite o 16 (headBytes J)
+pub write-head : (o : List ℕ) (at : ℕ) (J : Job) → at + 11 ≤ length o
+    → writes o (headWrites at J) ≡ overwrite o at (headBytes J)
 unfolding headBytes
-write-head o J l =
-    writes-in-turn o 16 (headWrites J) (simp length-bytes (omega arith))
-    ∙ ap (overwrite o 16) (simp (append-assoc, append-nil))
+write-head o at J l =
+    writes-in-turn o at (headWrites at J) (simp length-bytes (omega arith))
+    ∙ ap (overwrite o at) (simp (append-assoc, append-nil))
 
--- with x and y bytes of pools and stores
-abbrev pub fileWrites : Job → ℕ → ℕ → List (ℕ × List ℕ)
-fileWrites J x y =
-    (0, joined (toBytes 2) (contents 16 (bodies J)))
-    ∷ (16, headBytes J)
-    ∷ (35, amountBytes (J .pools))
-    ∷ (35 + x, amountBytes (J .stores))
-    ∷ (35 + x + y, joined actionBytes (J .actions))
+-- with n entries and x, y and z bytes of pools, stores and actions
+abbrev pub fileWrites : Job → ℕ → ℕ → ℕ → ℕ → List (ℕ × List ℕ)
+fileWrites J n x y z =
+    (0, contentBytes (bodies J))
+    ∷ (4 * n, headBytes J)
+    ∷ (4 * n + 19, amountBytes (J .pools))
+    ∷ (4 * n + 19 + x, amountBytes (J .stores))
+    ∷ (4 * n + 19 + x + y, joined actionBytes (J .actions))
+    ∷ (4 * n + 19 + x + y + z, handoverBytes (J .handovers))
     ∷ []
 
-pub write-file : (J : Job) (x y : ℕ) → length (J .pools) * 4 ≡ x → length (J .stores) * 4 ≡ y
-    → (o : List ℕ) → 35 + x + y ≤ length o → writes o (fileWrites J x y) ≡ overwrite o 0 (fileOf J)
-unfolding fileOf
-write-file J x y ex ey o l =
-    let c = length-contents 16 (bodies J) in
-    let h = length-head J in
-    let p = length-amounts (J .pools) in
-    let s = length-amounts (J .stores) in
-    writes-in-turn o 0 (fileWrites J x y) (omega arith)
+module _ (J : Job) (h : Shape J) (x y z : ℕ) (ex : length (J .pools) * 4 ≡ x) (ey : length (J .stores) * 4 ≡ y)
+    (ez : length (joined actionBytes (J .actions)) ≡ z) where
+  pub write-file : (o : List ℕ) → 4 * entries (J .form) + 19 + x + y + z ≤ length o
+      → writes o (fileWrites J (entries (J .form)) x y z) ≡ overwrite o 0 (fileOf J)
+  unfolding fileOf
+  write-file o l =
+      let c = length-contents (4 * length (bodies J)) (bodies J) in
+      let n = count-bodies J in
+      let f = length-head J in
+      let p = length-amounts (J .pools) in
+      let s = length-amounts (J .stores) in
+      let extra = extra-bytes (J .form) J (length (J .pools)) (h .handovers) in
+      writes-in-turn o 0 (fileWrites J (entries (J .form)) x y z) (omega arith)
+      ∙ ap (overwrite o 0) (rw (extra, append-nil))
 
--- ── the numbers of the contents, as the writer computes them ──
+  -- ── the numbers of the contents, as the writer computes them ──
 
--- with x, y and z bytes of pools, stores and actions
-abbrev pub contentsOf : ℕ → ℕ → ℕ → List ℕ
-contentsOf x y z = 16 ∷ 19 ∷ 35 ∷ x ∷ (35 + x) ∷ y ∷ (35 + x + y) ∷ z ∷ []
+  -- of five entries, where the first body stands at `at` and there are w bytes of handovers
+  abbrev pub numbersOf : ℕ → ℕ → List ℕ
+  numbersOf at w =
+      at
+      ∷ 19
+      ∷ (at + 19)
+      ∷ x
+      ∷ (at + 19 + x)
+      ∷ y
+      ∷ (at + 19 + x + y)
+      ∷ z
+      ∷ (at + 19 + x + y + z)
+      ∷ w
+      ∷ []
 
-pub contents-of : (J : Job) (x y z : ℕ) → length (J .pools) * 4 ≡ x → length (J .stores) * 4 ≡ y
-    → length (joined actionBytes (J .actions)) ≡ z → contents 16 (bodies J) ≡ contentsOf x y z
-contents-of J x y z ex ey ez =
-    rw (length-head J, length-amounts (J .pools), length-amounts (J .stores), ex, ey, ez)
+  -- of which a form has the first
+  pub contents-of : contents (4 * length (bodies J)) (bodies J)
+      ≡ firsts (2 * entries (J .form)) 0
+      (numbersOf (4 * entries (J .form)) (handoverCount (J .form) (length (J .pools))))
+  unfolding tabulate
+  contents-of =
+      rw (count-bodies J, length-head J, length-amounts (J .pools), length-amounts (J .stores), ex, ey, ez)
+      (by-form (J .form) (h .handovers) (4 * entries (J .form)))
+    where
+      by-form : (form : Form) → length (J .handovers) ≡ handoverCount form (length (J .pools))
+          → (at : ℕ)
+          → at ∷ 19 ∷ (at + 19) ∷ x ∷ (at + 19 + x) ∷ y ∷ (at + 19 + x + y) ∷ z
+          ∷ contents (at + 19 + x + y + z) (extraBodies form J)
+          ≡ firsts (2 * entries form) 0 (numbersOf at (handoverCount form (length (J .pools))))
+      by-form Four e at = refl
+      by-form Five e at = rw (length-handovers (J .handovers), e)

@@ -1,14 +1,16 @@
 -- The job file: the bytes of a job, and the job in bytes.
 -- Assumes nothing.
 use Prim.Native.Nat.{ℕ, zero, suc, _+_, _*_, _/_, _%_, _<_}
-use mathlib.Core.Bool.{Bool, not, _&&_, _||_}
+use mathlib.Core.Bool.{Bool, not, cond, _&&_, _||_}
 use mathlib.Core.List.{List, [], _∷_, _++_}
 use lib.Dec.{eqb, ltb}
 use lib.ListN.{length}
 use Rattle.encoding.specs.Bytes.{fromBytes, toBytes, part, split, joined}
-use Rattle.job.specs.Job.{Action, Job}
+use Rattle.job.specs.Job.{Action, Job, entries, handoverCount}
 use Rattle.job.specs.Refusal.{Row, _when_}
 use Rattle.job.specs.Valid.{over}
+use Rattle.job.specs.declared.Form.{Form}
+use Rattle.job.specs.declared.Form.the-variants.{Four, Five}
 use Rattle.job.specs.declared.refusal.Refusal.the-variants.{FileSize, Offsets, BodySizes}
 use Rattle.jobfile.specs.declared.Layout.{Layout}
 
@@ -32,19 +34,36 @@ actionBytes a =
     ++ amountBytes (a .pools)
     ++ amountBytes (a .stores)
 
+-- "its fifth body, behind the actions, is one byte for each pool"
+abbrev pub handoverBytes : List ℕ → List ℕ
+handoverBytes = joined (toBytes 1)
+
+-- the bodies behind the actions
+abbrev pub extraBodies : Form → Job → List (List ℕ)
+extraBodies Four J = []
+extraBodies Five J = handoverBytes (J .handovers) ∷ []
+
 abbrev pub bodies : Job → List (List ℕ)
 bodies J =
-    headBytes J ∷ amountBytes (J .pools) ∷ amountBytes (J .stores) ∷ joined actionBytes (J .actions) ∷ []
+    headBytes J
+    ∷ amountBytes (J .pools)
+    ∷ amountBytes (J .stores)
+    ∷ joined actionBytes (J .actions)
+    ∷ extraBodies (J .form) J
 
--- "four entries of 4 bytes, each a body's offset and length in bytes (16 bits each)": the numbers of the entries,
--- where the first body stands at `at`
+-- "entries of 4 bytes, each a body's offset and length in bytes (16 bits each)": the numbers of the entries, where the
+-- first body stands at `at`
 abbrev pub contents : ℕ → List (List ℕ) → List ℕ
 contents at [] = []
 contents at (body ∷ rest) = at ∷ length body ∷ contents (at + length body) rest
 
--- "Contents come first. The bodies follow in the same order without gaps: the first offset is 16": 4 for each body
+-- "Contents come first. The bodies follow in the same order without gaps: the first offset is 16", or 20: 4 for each
+-- body
+abbrev pub contentBytes : List (List ℕ) → List ℕ
+contentBytes bs = joined (toBytes 2) (contents (4 * length bs) bs)
+
 abbrev pub fileOfBodies : List (List ℕ) → List ℕ
-fileOfBodies bs = joined (toBytes 2) (contents (4 * length bs) bs) ++ joined (λ body. body) bs
+fileOfBodies bs = contentBytes bs ++ joined (λ body. body) bs
 
 unfoldable pub fileOf : Job → List ℕ
 fileOf J = fileOfBodies (bodies J)
@@ -61,9 +80,34 @@ size file k = fromBytes (part file (4 * k + 2) 2)
 abbrev pub body : List ℕ → ℕ → List ℕ
 body file k = part file (offset file k) (size file k)
 
+-- "five entries in its contents, first offset 20"; any other has four
+abbrev pub formOf : ℕ → Form
+formOf first = cond (eqb first 20) Five Four
+
+abbrev pub formIn : List ℕ → Form
+formIn file = formOf (offset file 0)
+
+-- how many entries the contents of the file have
+abbrev pub entriesIn : List ℕ → ℕ
+entriesIn file = entries (formIn file)
+
+-- the length of body k and the body, nothing beyond the form
+abbrev pub sizeIn : List ℕ → ℕ → ℕ
+sizeIn file k = cond (ltb k (entriesIn file)) (size file k) 0
+
+abbrev pub bodyIn : List ℕ → ℕ → List ℕ
+bodyIn file k = cond (ltb k (entriesIn file)) (body file k) []
+
 abbrev pub layoutIn : List ℕ → Layout
 layoutIn file =
-    record { head = size file 0; pools = size file 1; stores = size file 2; actions = size file 3 }
+    record {
+      form = formIn file;
+      head = sizeIn file 0;
+      pools = sizeIn file 1;
+      stores = sizeIn file 2;
+      actions = sizeIn file 3;
+      handovers = sizeIn file 4;
+    }
 
 -- the bytes of an action in a job with so many pools and stores
 abbrev pub actionSize : ℕ → ℕ → ℕ
@@ -80,9 +124,9 @@ actionOf pools stores bytes =
       stores = split 4 fromBytes (part bytes (25 + 4 * pools) (4 * stores));
     }
 
--- the job that the four bodies say
-unfoldable pub jobOf : List ℕ → List ℕ → List ℕ → List ℕ → Job
-jobOf head pools stores actions =
+-- the job that the bodies say
+unfoldable pub jobOf : Form → List ℕ → List ℕ → List ℕ → List ℕ → List ℕ → Job
+jobOf form head pools stores actions handovers =
     let p = length pools / 4 in
     let s = length stores / 4 in
     record {
@@ -90,13 +134,16 @@ jobOf head pools stores actions =
       deadline = fromBytes (part head 1 2);
       start = fromBytes (part head 3 8);
       goal = fromBytes (part head 11 8);
+      form = form;
       pools = split 4 fromBytes pools;
+      handovers = split 1 fromBytes handovers;
       stores = split 4 fromBytes stores;
       actions = split (actionSize p s) (actionOf p s) actions;
     }
 
 abbrev pub decoded : List ℕ → Job
-decoded file = jobOf (body file 0) (body file 1) (body file 2) (body file 3)
+decoded file =
+    jobOf (formIn file) (bodyIn file 0) (bodyIn file 1) (bodyIn file 2) (bodyIn file 3) (bodyIn file 4)
 
 -- ── tests 1 to 3 of a file ──
 
@@ -106,7 +153,8 @@ unfoldable pub gapless : List ℕ → ℕ → ℕ → ℕ → Bool
 gapless file at k zero = eqb at (length file)
 gapless file at k (suc n) = eqb (offset file k) at && gapless file (at + size file k) (suc k) n
 
--- "head not 19 bytes; pools or stores not a multiple of 4 or over 16 bytes; actions not whole or over 64"
+-- "head not 19 bytes; pools or stores not a multiple of 4 or over 16 bytes; actions not whole or over 64"; the fifth
+-- body "is one byte for each pool, and another length is 3"
 unfoldable pub missized : Layout → Bool
 missized l =
     let action = actionSize (l .pools / 4) (l .stores / 4) in
@@ -117,15 +165,28 @@ missized l =
     || over 16 (l .stores)
     || not (eqb (l .actions % action) 0)
     || over 64 (l .actions / action)
+    || not (eqb (l .handovers) (handoverCount (l .form) (l .pools / 4)))
 
--- "under 16 or over 4,096 bytes"; "an offset or the file's end is not as above"; and the lengths of the bodies
+-- "under 16 or over 4,096 bytes", with five entries "at least 20 bytes (else 1)"
+abbrev pub wrongSize : List ℕ → Bool
+wrongSize file = ltb (length file) (4 * entriesIn file) || over 4096 (length file)
+
+-- "an offset or the file's end is not as above"
+abbrev pub inOrder : List ℕ → Bool
+inOrder file = gapless file (4 * entriesIn file) 0 (entriesIn file)
+
 unfoldable pub fileRows : List ℕ → List Row
 fileRows file =
-    FileSize when (ltb (length file) 16 || over 4096 (length file))
-    ∷ Offsets when not (gapless file 16 0 4)
+    FileSize when wrongSize file
+    ∷ Offsets when not (inOrder file)
     ∷ BodySizes when missized (layoutIn file)
     ∷ []
 
 -- the lengths of 16 bits that a file's contents give
 abbrev pub Small : Layout → Type 0
-Small l = (l .head < 65536) × (l .pools < 65536) × (l .stores < 65536) × (l .actions < 65536)
+Small l =
+    (l .head < 65536)
+    × (l .pools < 65536)
+    × (l .stores < 65536)
+    × (l .actions < 65536)
+    × (l .handovers < 65536)

@@ -2,16 +2,19 @@
 ghost use mathlib.Core.Path.{_≡_};
 ghost use Prim.Native.Nat.{_<_};
 ghost use Rattle.jobfile.specs.File.{actionSize, missized, Small};
+use job::Form;
 use job::Job;
 use job::refusal::Refusal;
 use job::refusal::Verdict;
 
-// The lengths in bytes of the four bodies of a file.
+// The form of a file and the lengths in bytes of its bodies, 0 for one beyond the form.
 pub struct Layout {
+    pub form: Form,
     pub head: usize,
     pub pools: usize,
     pub stores: usize,
     pub actions: usize,
+    pub handovers: usize,
 }
 
 impl Layout {
@@ -25,23 +28,34 @@ impl Layout {
 
     pub const SET: usize = 8;
 
-    // The contents: an entry for each body, its offset and its length; and what they take together.
-    pub const BODIES: usize = 4;
-
+    // The contents: an entry for each body, its offset and its length.
     pub const ENTRY: usize = Layout::NUMBER + Layout::NUMBER;
 
-    pub const CONTENTS: usize = Layout::BODIES * Layout::ENTRY;
-
-    // Where the length stands in an entry, and the length of each body in the contents.
+    // Where the length stands in an entry.
     pub const LENGTH_AT: usize = Layout::NUMBER;
 
-    pub const HEAD_LENGTH_AT: usize = Layout::LENGTH_AT;
+    // The fewest entries, the most, and the bytes of so many.
+    pub const LEAST_ENTRIES: usize = 4;
 
-    pub const POOLS_LENGTH_AT: usize = Layout::HEAD_LENGTH_AT + Layout::ENTRY;
+    pub const MOST_ENTRIES: usize = 5;
 
-    pub const STORES_LENGTH_AT: usize = Layout::POOLS_LENGTH_AT + Layout::ENTRY;
+    pub const LEAST_CONTENTS: usize = Layout::LEAST_ENTRIES * Layout::ENTRY;
 
-    pub const ACTIONS_LENGTH_AT: usize = Layout::STORES_LENGTH_AT + Layout::ENTRY;
+    pub const MOST_CONTENTS: usize = Layout::MOST_ENTRIES * Layout::ENTRY;
+
+    // The places of the bodies in the contents.
+    pub const HEAD_PLACE: usize = 0;
+
+    pub const POOLS_PLACE: usize = 1;
+
+    pub const STORES_PLACE: usize = 2;
+
+    pub const ACTIONS_PLACE: usize = 3;
+
+    pub const HANDOVERS_PLACE: usize = 4;
+
+    // The bytes of a handover.
+    pub const HANDOVER: usize = 1;
 
     // The head: the number of facts, the deadline, the start and the goal, each behind the one before.
     pub const FACTS: usize = 1;
@@ -84,6 +98,7 @@ impl Layout {
         requires { ⌜ Small self ⌝ }
         ensures { λ r. ⌜ r ≡ missized self ⌝ }
     {
+        let form = self.form;
         let action = Layout::action_size(self.pools / Layout::AMOUNT, self.stores / Layout::AMOUNT);
         (self.head != Layout::HEAD)
             | (self.pools % Layout::AMOUNT != 0)
@@ -92,6 +107,7 @@ impl Layout {
             | (Layout::AMOUNT * Job::STORES < self.stores)
             | (self.actions % action != 0)
             | (Job::ACTIONS < self.actions / action)
+            | (self.handovers != Layout::HANDOVER * form.handovers(self.pools / Layout::AMOUNT))
     }
 }
 

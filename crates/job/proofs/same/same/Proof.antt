@@ -1,15 +1,24 @@
 -- `same` meets its contract: each part of the two jobs is compared.
 -- Assumes nothing.
-use borrow.Author.Needs.{needs}
 use Rattle.job.proofs.SameParts.{same-job}
+use borrow.Author.Needs.{needs}
 use Rattle.job.proofs.same.same.Statement.{statement}
 use Rattle.job.proofs.same.same.Tie as tie
+
+same-form-requires : tie.Need-same-form-requires
+same-form-requires c κs = search needs
 
 same-counts-requires : tie.Need-same-counts-requires
 same-counts-requires c κs = search needs
 
 same-amounts-requires : tie.Need-same-amounts-requires
 same-amounts-requires c κs = search needs
+
+handovers-requires : tie.Need-handovers-requires
+handovers-requires c κs = search needs
+
+same-handovers-requires : tie.Need-same-handovers-requires
+same-handovers-requires c κs = search needs
 
 same-amounts-requires-2 : tie.Need-same-amounts-requires-2
 same-amounts-requires-2 c κs = search needs
@@ -19,15 +28,28 @@ same-actions-requires c κs = search needs
 
 returns : tie.Need-returns
 returns c =
-    let pools = c .before .before in
-    let counts = pools .before in
-    let copies = counts .before .before .before .before .before .before .before .before .before in
-    let jobs = copies .before .before .before .before .before .before .before .before .args in
-    same-job (jobs .a) (jobs .b) (counts .same-counts .ensures) (pools .same-amounts .ensures)
+    let at8 = c .before .before .before .before .before .before .before .before in
+    let at16 = at8 .before .before .before .before .before .before .before .before in
+    let at24 = at16 .before .before .before .before .before .before .before .before in
+    let c-args = at24 .before .args in
+    let c-same-form = c .before .before .before .before .before .before .same-form in
+    let c-same-counts = c .before .before .before .before .before .same-counts in
+    let c-same-amounts = c .before .before .before .before .same-amounts in
+    let c-handovers = c .before .before .before .handovers in
+    same-job (c-args .a) (c-args .b) (c-same-form .ensures) (c-same-counts .ensures) (c-same-amounts .ensures)
+    (rw (c-handovers .ensures) at (c .before .before .same-handovers .ensures))
     (c .before .same-amounts2 .ensures)
     (c .same-actions .ensures)
 
 pub same-spec : {M : Type 1} → statement M
 same-spec =
     tie.close
-    (tie.spec same-counts-requires same-amounts-requires same-amounts-requires-2 same-actions-requires returns)
+    (tie.spec
+    same-form-requires
+    same-counts-requires
+    same-amounts-requires
+    handovers-requires
+    same-handovers-requires
+    same-amounts-requires-2
+    same-actions-requires
+    returns)

@@ -3,6 +3,8 @@
 use borrow.Author.Tests.{lt-ltb, le-ltb}
 use Rattle.job.specs.Refusal.{first}
 use Rattle.job.proofs.Rows.{rows-of-value, fits-of-counts}
+use Rattle.job.proofs.Values.{few-handovers}
+use native.Mathlib.Omega.{arith}
 use borrow.Author.Needs.{needs}
 use Rattle.job.proofs.validate.validate_limits.Statement.{statement}
 use Rattle.job.proofs.validate.validate_limits.Tie as tie
@@ -13,16 +15,13 @@ returns c = rw (rows-of-value, c .if1 .taken)
 
 returns-2 : tie.Need-returns-2
 unfolding first
-returns-2 c =
-    let b1 = c .before .before in
-    rw (rows-of-value, b1 .if1 .left, lt-ltb _ _ (c .if2 .taken))
+returns-2 c = rw (rows-of-value, c .before .before .if1 .left, lt-ltb _ _ (c .if2 .taken))
 
 returns-3 : tie.Need-returns-3
 unfolding first
 returns-3 c =
-    let b2 = c .before .before in
-    let b1 = b2 .before .before in
-    rw (rows-of-value, b1 .if1 .left, le-ltb _ _ (b2 .if2 .left), lt-ltb _ _ (c .if3 .taken))
+    let c-if1 = c .before .before .before .before .if1 in
+    rw (rows-of-value, c-if1 .left, le-ltb _ _ (c .before .before .if2 .left), lt-ltb _ _ (c .if3 .taken))
 
 foreign-requires : tie.Need-foreign-requires
 foreign-requires c κs = search needs
@@ -33,49 +32,99 @@ foreign-requires-2 c κs = search needs
 returns-4 : tie.Need-returns-4
 unfolding first
 returns-4 c =
-    let b3 = c .before .before .before in
-    let b2 = b3 .before .before in
-    let b1 = b2 .before .before in
-    let e = rw (c .before .before .foreign .ensures .0, c .before .foreign2 .ensures .0) at (c .if4 .taken) in
-    rw (rows-of-value, b1 .if1 .left, le-ltb _ _ (b2 .if2 .left), le-ltb _ _ (b3 .if3 .left), e)
+    let c-if1 = c .before .before .before .before .before .before .before .if1 in
+    let c-if2 = c .before .before .before .before .before .if2 in
+    let c-if3 = c .before .before .before .if3 in
+    let e4 = rw (c .before .before .foreign .ensures .0, c .before .foreign2 .ensures .0) at (c .if4 .taken) in
+    rw (rows-of-value, c-if1 .left, le-ltb _ _ (c-if2 .left), le-ltb _ _ (c-if3 .left), e4)
 
 any-over-requires : tie.Need-any-over-requires
 any-over-requires c κs =
-    let b1 = c .before .before .before .before .before .before .before in
-    fits-of-counts (b1 .before .before .before .before .before .before .before .args .job .counts) (b1 .if1 .left) .0
+    let at8 = c .before .before .before .before .before .before .before .before in
+    let c-args = at8 .before .before .before .before .before .before .before .args in
+    let c-if1 = c .before .before .before .before .before .before .before .if1 in
+    fits-of-counts (c-args .job .counts) (c-if1 .left) .0
 
 any-over-requires-2 : tie.Need-any-over-requires-2
 any-over-requires-2 c κs =
-    let b1 = c .before .before .before .before .before .before .before .before in
-    fits-of-counts (b1 .before .before .before .before .before .before .before .args .job .counts) (b1 .if1 .left) .1
+    let at8 = c .before .before .before .before .before .before .before .before in
+    let at16 = at8 .before .before .before .before .before .before .before .before in
+    let c-args = at16 .args in
+    let c-if1 = c .before .before .before .before .before .before .before .before .if1 in
+    fits-of-counts (c-args .job .counts) (c-if1 .left) .1
 
 returns-5 : tie.Need-returns-5
 unfolding first
 returns-5 c =
-    let b4 = c .before .before .before in
-    let b3 = b4 .before .before .before in
-    let b2 = b3 .before .before in
-    let b1 = b2 .before .before in
-    let e4 = rw (b4 .before .before .foreign .ensures .0, b4 .before .foreign2 .ensures .0) at (b4 .if4 .left) in
+    let at8 = c .before .before .before .before .before .before .before .before in
+    let c-if1 = at8 .before .before .if1 in
+    let c-if2 = c .before .before .before .before .before .before .before .before .if2 in
+    let c-if3 = c .before .before .before .before .before .before .if3 in
+    let c-foreign = c .before .before .before .before .before .foreign in
+    let c-foreign2 = c .before .before .before .before .foreign2 in
+    let c-if4 = c .before .before .before .if4 in
+    let e4 = rw (c-foreign .ensures .0, c-foreign2 .ensures .0) at (c-if4 .left) in
     let e5 = rw (c .before .before .any-over .ensures, c .before .any-over2 .ensures) at (c .if5 .taken) in
-    rw (rows-of-value, b1 .if1 .left, le-ltb _ _ (b2 .if2 .left), le-ltb _ _ (b3 .if3 .left), e4, e5)
+    rw (rows-of-value, c-if1 .left, le-ltb _ _ (c-if2 .left), le-ltb _ _ (c-if3 .left), e4, e5)
 
-validate-actions-requires : tie.Need-validate-actions-requires
-validate-actions-requires c κs =
-    let b1 = c .before .before .before .before .before .before .before .before .before .before in
-    fits-of-counts (b1 .before .before .before .before .before .before .before .args .job .counts) (b1 .if1 .left)
+handovers-requires : tie.Need-handovers-requires
+handovers-requires c κs = search needs
+
+any-too-long-requires : tie.Need-any-too-long-requires
+any-too-long-requires c κs =
+    let at8 = c .before .before .before .before .before .before .before .before in
+    let at16 = at8 .before .before .before .before .before .before .before .before in
+    let c-args = at16 .before .before .before .args in
+    let c-if1 = at8 .before .before .before .if1 in
+    let job = c-args .job in
+    let few = fits-of-counts (job .counts) (c-if1 .left) .0 in
+    let count = few-handovers (job .form) (job .counts .pools) in
+    rw (c .handovers2 .ensures) (omega arith)
 
 returns-6 : tie.Need-returns-6
 unfolding first
 returns-6 c =
-    let b5 = c .before in
-    let b4 = b5 .before .before .before in
-    let b3 = b4 .before .before .before in
-    let b2 = b3 .before .before in
-    let b1 = b2 .before .before in
-    let e4 = rw (b4 .before .before .foreign .ensures .0, b4 .before .foreign2 .ensures .0) at (b4 .if4 .left) in
-    let e5 = rw (b5 .before .before .any-over .ensures, b5 .before .any-over2 .ensures) at (b5 .if5 .left) in
-    rw (rows-of-value, b1 .if1 .left, le-ltb _ _ (b2 .if2 .left), le-ltb _ _ (b3 .if3 .left), e4, e5)
+    let at8 = c .before .before .before .before .before .before .before .before in
+    let c-if1 = at8 .before .before .before .before .before .if1 in
+    let c-if2 = at8 .before .before .before .if2 in
+    let c-if3 = at8 .before .if3 in
+    let c-foreign = c .before .before .before .before .before .before .before .before .foreign in
+    let c-foreign2 = c .before .before .before .before .before .before .before .foreign2 in
+    let c-if4 = c .before .before .before .before .before .before .if4 in
+    let c-any-over = c .before .before .before .before .before .any-over in
+    let c-any-over2 = c .before .before .before .before .any-over2 in
+    let c-if5 = c .before .before .before .if5 in
+    let e4 = rw (c-foreign .ensures .0, c-foreign2 .ensures .0) at (c-if4 .left) in
+    let e5 = rw (c-any-over .ensures, c-any-over2 .ensures) at (c-if5 .left) in
+    let e27 = rw (c .before .any-too-long .ensures, c .before .before .handovers2 .ensures) at (c .if6 .taken) in
+    rw (rows-of-value, c-if1 .left, le-ltb _ _ (c-if2 .left), le-ltb _ _ (c-if3 .left), e4, e5, e27)
+
+validate-actions-requires : tie.Need-validate-actions-requires
+validate-actions-requires c κs =
+    let at8 = c .before .before .before .before .before .before .before .before in
+    let at16 = at8 .before .before .before .before .before .before .before .before in
+    let c-args = at16 .before .before .before .before .before .args in
+    let c-if1 = at8 .before .before .before .before .before .if1 in
+    fits-of-counts (c-args .job .counts) (c-if1 .left)
+
+returns-7 : tie.Need-returns-7
+unfolding first
+returns-7 c =
+    let at8 = c .before .before .before .before .before .before .before .before in
+    let c-if1 = at8 .before .before .before .before .before .before .if1 in
+    let c-if2 = at8 .before .before .before .before .if2 in
+    let c-if3 = at8 .before .before .if3 in
+    let c-foreign = at8 .before .foreign in
+    let c-foreign2 = c .before .before .before .before .before .before .before .before .foreign2 in
+    let c-if4 = c .before .before .before .before .before .before .before .if4 in
+    let c-any-over = c .before .before .before .before .before .before .any-over in
+    let c-any-over2 = c .before .before .before .before .before .any-over2 in
+    let c-if5 = c .before .before .before .before .if5 in
+    let c-handovers2 = c .before .before .before .handovers2 in
+    let e4 = rw (c-foreign .ensures .0, c-foreign2 .ensures .0) at (c-if4 .left) in
+    let e5 = rw (c-any-over .ensures, c-any-over2 .ensures) at (c-if5 .left) in
+    let e27 = rw (c .before .before .any-too-long .ensures, c-handovers2 .ensures) at (c .before .if6 .left) in
+    rw (rows-of-value, c-if1 .left, le-ltb _ _ (c-if2 .left), le-ltb _ _ (c-if3 .left), e4, e5, e27)
     (c .validate-actions .ensures)
 
 pub validate-limits-spec : {M : Type 1} → statement M
@@ -91,5 +140,8 @@ validate-limits-spec =
     any-over-requires
     any-over-requires-2
     returns-5
+    handovers-requires
+    any-too-long-requires
+    returns-6
     validate-actions-requires
-    returns-6)
+    returns-7)

@@ -1,5 +1,6 @@
 -- `missized` meets its contract: the code is the definition.
 -- Assumes nothing.
+use native.Mathlib.Nat.{one-mul}
 use Rattle.jobfile.specs.File.{missized}
 use borrow.Author.Needs.{needs}
 use Rattle.jobfile.proofs.Layout.missized.Statement.{statement}
@@ -20,12 +21,28 @@ rem-result c = search needs
 div-result : tie.Need-div-result
 div-result c = search needs
 
+handovers-requires : tie.Need-handovers-requires
+handovers-requires c κs = search needs
+
+mul-result-3 : tie.Need-mul-result-3
+mul-result-3 c = search needs
+
 returns : tie.Need-returns
 unfolding missized
 returns c =
-    let c-action-size = c .before .before .before .before .before .before .before .action-size in
-    rw (c-action-size .ensures)
+    let at8 = c .before .before .before .before .before .before .before .before in
+    let c-action-size = at8 .before .before .action-size in
+    rw (c-action-size .ensures, c .before .handovers .ensures, one-mul)
 
 pub missized-spec : {M : Type 1} → statement M
 missized-spec =
-    tie.close (tie.spec action-size-requires mul-result mul-result-2 rem-result div-result returns)
+    tie.close
+    (tie.spec
+    action-size-requires
+    mul-result
+    mul-result-2
+    rem-result
+    div-result
+    handovers-requires
+    mul-result-3
+    returns)
