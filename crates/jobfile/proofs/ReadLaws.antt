@@ -8,7 +8,7 @@ use native.Mathlib.Omega.{arith}
 use lib.ListN.{length}
 use borrow.Author.Tests.{le-ltb, not-false}
 use Rattle.encoding.specs.Bytes.{part}
-use Rattle.job.specs.Job.{Job, handoverCount, jobIn, jobValue, zeroValue}
+use Rattle.job.specs.Job.{Job, jobIn, jobValue, zeroValue}
 use Rattle.job.specs.Refusal.{first, replyBy}
 use Rattle.job.specs.Valid.{jobRows}
 use Rattle.job.specs.declared.Job as held
@@ -17,6 +17,7 @@ use Rattle.job.specs.declared.refusal.Refusal.the-variants.{FileSize, Offsets, 
 use Rattle.job.specs.declared.refusal.Verdict.{Verdict}
 use Rattle.job.specs.declared.refusal.Verdict.the-variants.{Pass, Refused}
 use Rattle.job.proofs.Table.{first-here, first-next, first-pass}
+use Rattle.job.proofs.Values.{few-handovers}
 use Rattle.jobfile.specs.declared.Reading.{Reading}
 use Rattle.jobfile.specs.File.{formIn, entriesIn, sizeIn, bodyIn, layoutIn, actionSize, jobOf, decoded}
 use Rattle.jobfile.specs.File.{missized, wrongSize, inOrder, fileRows}
@@ -126,12 +127,15 @@ module _ (file : List ℕ) (l : Laid file) (a b c d e : ℕ) (ea : a ≡ 4 * ent
       × (length (part file c (d - c)) ≤ 16)
       × (length (part file d (e - d))
       / actionSize (length (part file b (c - b)) / 4) (length (part file c (d - c)) / 4) ≤ 64)
-      × (length (part file e (length file - e)) ≡ handoverCount (formIn file) (length (part file b (c - b)) / 4))
+      × (length (part file e (length file - e)) ≤ 4)
   slices-fit =
       let s = slices-are-bodies in
       let z = l .sizes in
+      let few = z .fewPools in
+      let waits = z .handovers in
+      let fewer = few-handovers (formIn file) (sizeIn file 1 / 4) in
       rw (s .0, s .1, s .2, s .3, s .4, l .lengths 0, l .lengths 1, l .lengths 2, l .lengths 3, l .lengths 4)
-      (z .head, z .fewPools, z .fewStores, z .fewActions, z .handovers)
+      (z .head, few, z .fewStores, z .fewActions, omega arith)
 
 -- what is answered makes the papers' reply
 pub reads-of-answer : (file : List ℕ) (r : Reading) → r ≡ readFile file → Reads file r

@@ -31,17 +31,15 @@ impl Layout {
     // The contents: an entry for each body, its offset and its length.
     pub const ENTRY: usize = Layout::NUMBER + Layout::NUMBER;
 
-    // Where the length stands in an entry.
-    pub const LENGTH_AT: usize = Layout::NUMBER;
+    // Where the offset and the length stand in an entry.
+    pub const OFFSET_AT: usize = 0;
 
-    // The fewest entries, the most, and the bytes of so many.
-    pub const LEAST_ENTRIES: usize = 4;
+    pub const LENGTH_AT: usize = Layout::OFFSET_AT + Layout::NUMBER;
 
-    pub const MOST_ENTRIES: usize = 5;
+    // The bytes of four entries and of five: where the first body stands.
+    pub const FOUR_ENTRIES: usize = 4 * Layout::ENTRY;
 
-    pub const LEAST_CONTENTS: usize = Layout::LEAST_ENTRIES * Layout::ENTRY;
-
-    pub const MOST_CONTENTS: usize = Layout::MOST_ENTRIES * Layout::ENTRY;
+    pub const FIVE_ENTRIES: usize = 5 * Layout::ENTRY;
 
     // The places of the bodies in the contents.
     pub const HEAD_PLACE: usize = 0;

@@ -1,10 +1,10 @@
-// The four bodies of a file whose lengths are right, as a job. Nothing is tested here.
+// The bodies of a file whose lengths are right, as a job. Nothing is tested here.
 ghost use mathlib.Core.Path.{_≡_};
 ghost use mathlib.Core.List.{map};
 ghost use Prim.Native.Nat.{_/_, _≤_};
 ghost use lib.ListN.{length};
 ghost use Rattle.lists.specs.Lists.{filled};
-ghost use Rattle.encoding.specs.Bytes.{split};
+ghost use Rattle.encoding.specs.Bytes.{fromBytes, split};
 ghost use Rattle.job.specs.Job.{unusedAction, actionValue, jobValue};
 ghost use Rattle.jobfile.specs.File.{actionSize, actionOf, jobOf};
 use crate::action::amounts;
@@ -12,6 +12,7 @@ use crate::view::ActionsView;
 use encoding::read_number;
 use job::Action;
 use job::Counts;
+use job::Form;
 use job::Job;
 use jobfile::Layout;
 
@@ -33,13 +34,35 @@ fn actions(bytes: &[u8], pools: usize, stores: usize) -> [Action; Job::ACTIONS]
     out
 }
 
+// Handovers of a byte each, at most four.
+fn handovers(bytes: &[u8]) -> [u8; Job::POOLS]
+    requires { ⌜ length (now bytes) ≤ 4 ⌝ }
+    ensures { λ r. ⌜ r ≡ filled 4 0 (split 1 fromBytes (now (bytes .entry))) ⌝ }
+{
+    let mut out = [0u8; Job::POOLS];
+    let mut i = 0;
+    while i < bytes.len() {
+        out[i] = bytes[i];
+        i += 1;
+    }
+    out
+}
+
 // The job that the bodies say.
-pub fn decode(head: &[u8], pools: &[u8], stores: &[u8], actions_: &[u8]) -> Job
+pub fn decode(
+    form: Form,
+    head: &[u8],
+    pools: &[u8],
+    stores: &[u8],
+    actions_: &[u8],
+    waits: &[u8],
+) -> Job
     requires { ⌜ length (now head) ≡ 19 ⌝ }
-    requires { ⌜ (length (now pools) ≤ 16) × (length (now stores) ≤ 16) ⌝ }
+    requires { ⌜ (length (now pools) ≤ 16) × (length (now stores) ≤ 16) × (length (now waits) ≤ 4) ⌝ }
     requires { ⌜ length (now «actions_») / actionSize (length (now pools) / 4) (length (now stores) / 4) ≤ 64 ⌝ }
     ensures { λ r. ⌜ r ≡ jobValue
-        (jobOf (now (head .entry)) (now (pools .entry)) (now (stores .entry)) (now («actions_» .entry))) ⌝ }
+        (jobOf form (now (head .entry)) (now (pools .entry)) (now (stores .entry)) (now («actions_» .entry))
+        (now (waits .entry))) ⌝ }
 {
     let counts = Counts {
         pools: pools.len() / Layout::AMOUNT,
@@ -50,13 +73,16 @@ pub fn decode(head: &[u8], pools: &[u8], stores: &[u8], actions_: &[u8]) -> Job
     let pool_amounts = amounts(pools);
     let store_amounts = amounts(stores);
     let all = actions(actions_, counts.pools, counts.stores);
+    let all_waits = handovers(waits);
     Job {
         facts: read_number(head, Layout::FACTS_AT, Layout::FACTS) as u8,
         deadline: read_number(head, Layout::DEADLINE_AT, Layout::DEADLINE) as u16,
         start: read_number(head, Layout::START_AT, Layout::SET),
         goal: read_number(head, Layout::GOAL_AT, Layout::SET),
+        form,
         counts,
         pools: pool_amounts,
+        handovers: all_waits,
         stores: store_amounts,
         actions: all,
     }

@@ -1,16 +1,18 @@
-// The reader: any bytes in; the job in them, or the first refusal of 1 to 11 and 26, out. One pass over the bytes.
+// The reader: any bytes in; the job in them, or the first refusal of 1 to 11, 26 and 27, out. One pass over the bytes.
 mod action; // one action of a body, taken apart
-mod decode; // the four bodies of a file to a job
+mod decode; // the bodies of a file to a job
 mod view; // the actions body, as a view of the lent file
 
 ghost use mathlib.Core.Path.{_≡_};
-ghost use mathlib.Core.Bool.{true, false};
-ghost use Prim.Native.Nat.{_+_, _≤_, _<_};
+ghost use Prim.Native.Nat.{_+_, _*_, _≤_, _<_};
 ghost use lib.ListN.{length};
 ghost use Rattle.encoding.specs.Bytes.{fromBytes, part};
-ghost use Rattle.job.specs.Job.{jobValue, zeroValue};
-ghost use Rattle.jobfile.specs.File.{gapless, layoutIn, missized, Small, decoded};
+ghost use Rattle.job.specs.Job.{entries, jobValue, zeroValue};
+ghost use Rattle.jobfile.specs.File.{gapless, formIn, entriesIn, sizeIn, layoutIn, wrongSize, inOrder, Small};
+ghost use Rattle.jobfile.specs.File.{decoded};
 ghost use Rattle.jobfile.specs.Answers.{Reads};
+ghost use Rattle.reader.specs.Placed.{Placed};
+use job::Form;
 use job::Job;
 use job::refusal::Refusal;
 use job::refusal::Verdict;
@@ -26,14 +28,37 @@ fn short(file: &[u8], at: usize) -> usize
     encoding::read_number(file, at, Layout::NUMBER) as usize
 }
 
-// Whether the bodies stand in a row, from the contents to the end of the file.
-fn gapless(file: &[u8]) -> bool
-    requires { ⌜ 16 ≤ length (now file) ⌝ }
-    ensures { λ r. ⌜ r ≡ gapless (now (file .entry)) 16 0 4 ⌝ }
+// The form of a file, by its first offset.
+fn form_in(file: &[u8]) -> Form
+    requires { ⌜ 2 ≤ length (now file) ⌝ }
+    ensures { λ r. ⌜ r ≡ formIn (now (file .entry)) ⌝ }
 {
-    let mut at = Layout::CONTENTS;
+    if short(file, Layout::OFFSET_AT) == Layout::FIVE_ENTRIES {
+        return Form::Five;
+    }
+    Form::Four
+}
+
+// Whether a file is too short for its contents, or too long.
+fn wrong_size(file: &[u8]) -> bool
+    ensures { λ r. ⌜ r ≡ wrongSize (now (file .entry)) ⌝ }
+{
+    let length = file.len();
+    if length < Layout::FOUR_ENTRIES {
+        return true;
+    }
+    let form = form_in(file);
+    (length < Layout::ENTRY * form.entries()) | (Layout::FILE < length)
+}
+
+// Whether the bodies of so many entries stand in a row, from the contents to the end of the file.
+fn gapless(file: &[u8], entries: usize) -> bool
+    requires { ⌜ (entries ≤ 5) × (4 * entries ≤ length (now file)) ⌝ }
+    ensures { λ r. ⌜ r ≡ gapless (now (file .entry)) (4 * entries) 0 entries ⌝ }
+{
+    let mut at = Layout::ENTRY * entries;
     let mut k = 0;
-    while k < Layout::BODIES {
+    while k < entries {
         if short(file, Layout::ENTRY * k) != at {
             return false;
         }
@@ -43,33 +68,59 @@ fn gapless(file: &[u8]) -> bool
     at == file.len()
 }
 
-// The lengths of the bodies.
-fn layout(file: &[u8]) -> Layout
-    requires { ⌜ 16 ≤ length (now file) ⌝ }
+// The same of a file by its form.
+fn in_order(file: &[u8], form: Form) -> bool
+    requires { ⌜ (form ≡ formIn (now file)) × (4 * entries form ≤ length (now file)) ⌝ }
+    ensures { λ r. ⌜ r ≡ inOrder (now (file .entry)) ⌝ }
+{
+    gapless(file, form.entries())
+}
+
+// The length of a body, 0 beyond the entries.
+fn size_in(file: &[u8], entries: usize, place: usize) -> usize
+    requires { ⌜ (entries ≡ entriesIn (now file)) × (4 * entries ≤ length (now file)) ⌝ }
+    ensures { λ r. ⌜ (r ≡ sizeIn (now (file .entry)) place) × (r < 65536) ⌝ }
+{
+    if entries <= place {
+        return 0;
+    }
+    short(file, Layout::ENTRY * place + Layout::LENGTH_AT)
+}
+
+// The form of a file and the lengths of its bodies.
+fn layout(file: &[u8], form: Form) -> Layout
+    requires { ⌜ (form ≡ formIn (now file)) × (4 * entries form ≤ length (now file)) ⌝ }
     ensures { λ r. ⌜ (r ≡ layoutIn (now (file .entry))) × Small r ⌝ }
 {
+    let entries = form.entries();
     Layout {
-        head: short(file, Layout::HEAD_LENGTH_AT),
-        pools: short(file, Layout::POOLS_LENGTH_AT),
-        stores: short(file, Layout::STORES_LENGTH_AT),
-        actions: short(file, Layout::ACTIONS_LENGTH_AT),
+        form,
+        head: size_in(file, entries, Layout::HEAD_PLACE),
+        pools: size_in(file, entries, Layout::POOLS_PLACE),
+        stores: size_in(file, entries, Layout::STORES_PLACE),
+        actions: size_in(file, entries, Layout::ACTIONS_PLACE),
+        handovers: size_in(file, entries, Layout::HANDOVERS_PLACE),
     }
 }
 
 // The job in a file whose contents are right.
 fn job_in(file: &[u8], layout: Layout) -> Job
-    requires { ⌜ (gapless (now file) 16 0 4 ≡ true) × (layout ≡ layoutIn (now file)) × (missized layout ≡ false) ⌝ }
+    requires { ⌜ Placed (now file) layout ⌝ }
     ensures { λ r. ⌜ r ≡ jobValue (decoded (now (file .entry))) ⌝ }
 {
-    let head = Layout::CONTENTS;
+    let form = layout.form;
+    let head = Layout::ENTRY * form.entries();
     let pools = head + layout.head;
     let stores = pools + layout.pools;
     let actions = stores + layout.stores;
+    let handovers = actions + layout.actions;
     decode::decode(
+        form,
         &file[head..pools],
         &file[pools..stores],
         &file[stores..actions],
-        &file[actions..],
+        &file[actions..handovers],
+        &file[handovers..],
     )
 }
 
@@ -84,18 +135,18 @@ fn refused(why: Refusal) -> Reading
     }
 }
 
-// The job in a file, or the first refusal of 1 to 11 and 26 with a job of zeros.
+// The job in a file, or the first refusal of 1 to 11, 26 and 27 with a job of zeros.
 pub fn read(file: &[u8]) -> Reading
     ensures { λ r. ⌜ Reads (now (file .entry)) r ⌝ }
 {
-    let length = file.len();
-    if (length < Layout::CONTENTS) | (Layout::FILE < length) {
+    if wrong_size(file) {
         return refused(Refusal::FileSize);
     }
-    if !gapless(file) {
+    let form = form_in(file);
+    if !in_order(file, form) {
         return refused(Refusal::Offsets);
     }
-    let layout = layout(file);
+    let layout = layout(file, form);
     if layout.missized() {
         return refused(Refusal::BodySizes);
     }

@@ -9,13 +9,22 @@ use Rattle.reader.proofs.gapless.Statement.{statement}
 use Rattle.reader.proofs.gapless.Tie as tie
 
 abbrev Inv-loop : tie.InvT-loop
-Inv-loop file at₀ k₀ at k = (k ≤ 4) × (at ≤ 16 + 65536 * k) × (gapless file 16 0 4 ≡ gapless file at k (4 - k))
+Inv-loop file entries at₀ k₀ at k =
+    (k ≤ entries)
+    × (at ≤ 4 * entries + 65536 * k)
+    × (gapless file (4 * entries) 0 entries ≡ gapless file at k (entries - k))
 
 abbrev μ-loop : tie.MeasureT-loop
-μ-loop file at₀ k₀ at k = 4 - k
+μ-loop file entries at₀ k₀ at k = entries - k
+
+mul-at : tie.Need-mul-at Inv-loop μ-loop
+mul-at c = omega arith
 
 loop-holds : tie.Need-loop-holds Inv-loop μ-loop
-loop-holds c = (omega arith, omega arith, refl)
+loop-holds c =
+    let n = c .before .args .entries in
+    let e : n - 0 ≡ n = omega arith in
+    (omega arith, omega arith, rw e)
 
 mul-short : tie.Need-mul-short Inv-loop μ-loop
 mul-short c = omega arith
@@ -28,8 +37,9 @@ returns c =
     let c-args = c .before .before .before .before .before .args in
     let c-loop = c .before .before .before .loop in
     let file = c-args .file .now in
+    let n = c-args .entries in
     let l = c-loop in
-    sym (l .inv .2 ∙ gapless-broken file (l .at) (l .k) (4 - l .k) (omega arith)
+    sym (l .inv .2 ∙ gapless-broken file (l .at) (l .k) (n - l .k) (omega arith)
     (λ e. c .if1 .taken (c .before .short .ensures .0 ∙ e)))
 
 mul-short-2 : tie.Need-mul-short-2 Inv-loop μ-loop
@@ -55,12 +65,13 @@ loop-again c =
     let c-args = c .before .before .before .before .before .before .args in
     let c-loop = c .before .before .before .before .loop in
     let file = c-args .file .now in
+    let n = c-args .entries in
     let l = c-loop in
-    let d : 4 - l .k - 1 ≡ 4 - (l .k + 1) = omega arith in (
+    let d : n - l .k - 1 ≡ n - (l .k + 1) = omega arith in (
       omega arith,
       omega arith,
       l .inv .2
-          ∙ gapless-next file (l .at) (l .k) (4 - l .k) (omega arith)
+          ∙ gapless-next file (l .at) (l .k) (n - l .k) (omega arith)
           (sym (c .before .before .short .ensures .0) ∙ c .before .if1 .left)
           ∙ rw (c .short2 .ensures .0, d),
     )
@@ -69,8 +80,9 @@ returns-2 : tie.Need-returns-2 Inv-loop μ-loop
 returns-2 c =
     let c-args = c .before .before .before .args in
     let file = c-args .file .now in
+    let n = c-args .entries in
     let l = c .before .loop in
-    let d : 4 - l .k ≡ 0 = omega arith in
+    let d : n - l .k ≡ 0 = omega arith in
     sym (l .inv .2 ∙ ap (gapless file (l .at) (l .k)) d ∙ gapless-end file (l .at) (l .k))
 
 pub gapless-spec : {M : Type 1} → statement M
@@ -79,6 +91,7 @@ gapless-spec =
     (tie.spec
     Inv-loop
     μ-loop
+    mul-at
     loop-holds
     mul-short
     short-requires

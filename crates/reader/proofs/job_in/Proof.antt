@@ -1,29 +1,30 @@
--- `job_in` meets its contract: the four slices are the bodies.
+-- `job_in` meets its contract: its slices are the bodies.
 -- Assumes nothing.
-use Prim.Native.Nat.{ℕ, _+_}
-use mathlib.Core.Path.{ap, _∙_}
+use Prim.Native.Nat.{ℕ, _*_}
+use mathlib.Core.Path.{_≡_, ap, _∙_}
 use Rattle.job.specs.Job.{jobValue}
-use Rattle.jobfile.proofs.ReadLaws.{decoded-by-slices, slices-fit}
-use Rattle.reader.proofs.ContentsLaws.{placed}
-use native.Mathlib.Omega.{arith}
+use Rattle.reader.proofs.ContentsLaws.{slices-fit-decode, slices-say-job}
 use borrow.Author.Needs.{needs}
 use Rattle.reader.proofs.job_in.Statement.{statement}
 use Rattle.reader.proofs.job_in.Tie as tie
 
+entries-requires : tie.Need-entries-requires
+entries-requires c κs = search needs
+
+mul-head : tie.Need-mul-head
+mul-head c = search needs
+
 add-pools : tie.Need-add-pools
-add-pools c =
-    let q = placed _ _ (c .before .before .pre .0) (c .before .before .pre .1)
-    (c .before .before .pre .2) in omega arith
+add-pools c = search needs
 
 add-stores : tie.Need-add-stores
-add-stores c =
-    let q = placed _ _ (c .before .before .before .pre .0) (c .before .before .before .pre .1)
-    (c .before .before .before .pre .2) in omega arith
+add-stores c = search needs
 
 add-actions : tie.Need-add-actions
-add-actions c =
-    let c-pre = c .before .before .before .before .pre in
-    let q = placed _ _ (c-pre .0) (c-pre .1) (c-pre .2) in omega arith
+add-actions c = search needs
+
+add-handovers : tie.Need-add-handovers
+add-handovers c = search needs
 
 sub-decode : tie.Need-sub-decode
 sub-decode c = search needs
@@ -32,9 +33,7 @@ part-decode-start : tie.Need-part-decode-start
 part-decode-start c = search needs
 
 part-decode-end : tie.Need-part-decode-end
-part-decode-end c =
-    let c-pre = c .before .before .before .before .pre in
-    let q = placed _ _ (c-pre .0) (c-pre .1) (c-pre .2) in omega arith
+part-decode-end c = search needs
 
 sub-decode-2 : tie.Need-sub-decode-2
 sub-decode-2 c = search needs
@@ -43,9 +42,7 @@ part-decode-start-2 : tie.Need-part-decode-start-2
 part-decode-start-2 c = search needs
 
 part-decode-end-2 : tie.Need-part-decode-end-2
-part-decode-end-2 c =
-    let c-pre = c .before .before .before .before .before .pre in
-    let q = placed _ _ (c-pre .0) (c-pre .1) (c-pre .2) in omega arith
+part-decode-end-2 c = search needs
 
 sub-decode-3 : tie.Need-sub-decode-3
 sub-decode-3 c = search needs
@@ -54,58 +51,58 @@ part-decode-start-3 : tie.Need-part-decode-start-3
 part-decode-start-3 c = search needs
 
 part-decode-end-3 : tie.Need-part-decode-end-3
-part-decode-end-3 c =
-    let c-pre = c .before .before .before .before .before .before .pre in
-    let q = placed _ _ (c-pre .0) (c-pre .1) (c-pre .2) in omega arith
+part-decode-end-3 c = search needs
 
 sub-decode-4 : tie.Need-sub-decode-4
-sub-decode-4 c =
-    let c-pre = c .before .before .before .before .before .before .before .pre in
-    let q = placed _ _ (c-pre .0) (c-pre .1) (c-pre .2) in omega arith
+sub-decode-4 c = search needs
 
 part-decode-start-4 : tie.Need-part-decode-start-4
-part-decode-start-4 c =
-    let c-pre = c .before .before .before .before .before .before .before .pre in
-    let q = placed _ _ (c-pre .0) (c-pre .1) (c-pre .2) in omega arith
+part-decode-start-4 c = search needs
 
 part-decode-end-4 : tie.Need-part-decode-end-4
 part-decode-end-4 c = search needs
 
+sub-decode-5 : tie.Need-sub-decode-5
+sub-decode-5 c = search needs
+
+part-decode-start-5 : tie.Need-part-decode-start-5
+part-decode-start-5 c = search needs
+
+part-decode-end-5 : tie.Need-part-decode-end-5
+part-decode-end-5 c = search needs
+
 decode-requires : tie.Need-decode-requires
 decode-requires c κs =
-    let c-args = c .before .before .before .before .before .before .before .before .args in
-    let c-pre = c .before .before .before .before .before .before .before .before .pre in
+    let at8 = c .before .before .before .before .before .before .before .before in
+    let c-args = at8 .before .before .before .args in
+    let c-pre = at8 .before .before .before .pre in
+    let c-entries = at8 .before .entries in
     let l = c-args .layout in
-    let file = c-args .file .now in
-    let q = placed file l (c-pre .0) (c-pre .1) (c-pre .2) in
-    let a = 16 + l .head in
-    let b = a + l .pools in
-    let f = slices-fit file (q .right) a b (b + l .stores) (ap (λ (n : ℕ). 16 + n) (q .head)) (omega arith)
-    (omega arith) in
-    (f .0, ((f .1, f .2), f .3))
+    let e = ap (λ (n : ℕ). 4 * n) (c-entries .ensures) in
+    let f = slices-fit-decode (c-args .file .now) l c-pre (4 * c-entries .result) e in
+    (f .0, ((f .1, f .2, f .4), f .3))
 
 returns : tie.Need-returns
 returns c =
     let at8 = c .before .before .before .before .before .before .before .before in
-    let c-args = at8 .before .args in
-    let c-pre = at8 .before .pre in
+    let c-args = at8 .before .before .before .before .args in
+    let c-pre = at8 .before .before .before .before .pre in
+    let c-entries = at8 .before .before .entries in
     let l = c-args .layout in
-    let file = c-args .file .now in
-    let q = placed file l (c-pre .0) (c-pre .1) (c-pre .2) in
-    let a = 16 + l .head in
-    let b = a + l .pools in
+    let e = ap (λ (n : ℕ). 4 * n) (c-entries .ensures) in
     c .decode .ensures
-    ∙ ap jobValue
-    (decoded-by-slices file (q .right) a b (b + l .stores) (ap (λ (n : ℕ). 16 + n) (q .head)) (omega arith)
-    (omega arith))
+    ∙ ap jobValue (slices-say-job (c-args .file .now) l c-pre (4 * c-entries .result) e)
 
 pub job-in-spec : {M : Type 1} → statement M
 job-in-spec =
     tie.close
     (tie.spec
+    entries-requires
+    mul-head
     add-pools
     add-stores
     add-actions
+    add-handovers
     sub-decode
     part-decode-start
     part-decode-end
@@ -118,5 +115,8 @@ job-in-spec =
     sub-decode-4
     part-decode-start-4
     part-decode-end-4
+    sub-decode-5
+    part-decode-start-5
+    part-decode-end-5
     decode-requires
     returns)
