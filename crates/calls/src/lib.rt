@@ -110,7 +110,7 @@ fn told(answer: EarliestTime) -> u64
     }
 }
 
-// Whether a job file is accepted: its length, or the first refusal of 1 to 11 and 26.
+// Whether a job file is accepted: its length, or the first refusal of 1 to 11, 26 and 27.
 #[no_mangle]
 pub extern "C" fn ruhkevois_read(file: &[u8]) -> u64
     ensures { λ r. ⌜ r ≡ readAnswer (now (file .entry)) ⌝ }
@@ -123,8 +123,8 @@ pub extern "C" fn ruhkevois_read(file: &[u8]) -> u64
     pack(DONE, 0, file.len() as u32, 0)
 }
 
-// Reads a job file and writes it again to the front of the slice: its length, or the first refusal of 1 to 11, 26, 23.
-// The bytes behind the file are kept; a refusal changes no byte.
+// Reads a job file and writes it again to the front of the slice: its length, or the first refusal of 1 to 11, 26, 27
+// and 23. The bytes behind the file are kept; a refusal changes no byte.
 #[no_mangle]
 pub extern "C" fn ruhkevois_rewrite(file: &[u8], out: &mut [u8]) -> u64
     ensures { λ r. ⌜ r ≡ rewriteAnswer (now (file .entry)) (now (out .entry)) ⌝ }
@@ -140,7 +140,7 @@ pub extern "C" fn ruhkevois_rewrite(file: &[u8], out: &mut [u8]) -> u64
 }
 
 // Whether a plan is accepted for the job of a file: its end, with the peak of each pool in the array, or the first
-// refusal of 1 to 11, 26 and 12 to 20, which leaves the array as it was.
+// refusal of 1 to 11, 26, 27 and 12 to 20, which leaves the array as it was.
 #[no_mangle]
 pub extern "C" fn ruhkevois_check(file: &[u8], plan: &[u8], peaks: &mut [u32; Job::POOLS]) -> u64
     ensures { λ r. ⌜ r ≡ checkAnswer (now (file .entry)) (now (plan .entry)) ⌝ }
@@ -158,7 +158,7 @@ pub extern "C" fn ruhkevois_check(file: &[u8], plan: &[u8], peaks: &mut [u32; Jo
 }
 
 // What a plan for the job of a file costs at these rates for pools and stores and this evening percentage: the cents,
-// or the first refusal of 1 to 11, 26, 12 to 20 and 25.
+// or the first refusal of 1 to 11, 26, 27, 12 to 20 and 25.
 #[no_mangle]
 pub extern "C" fn ruhkevois_price(
     file: &[u8],
@@ -200,8 +200,8 @@ pub extern "C" fn ruhkevois_earliest(file: &[u8], set: u64) -> u64
 }
 
 // Writes a shortest plan for the job of a file to the front of the slice: its end and its number of steps, with the
-// peak of each pool in the array, or the first refusal of 1 to 11, 26, 21, 22. The bytes behind the plan are kept; a
-// refusal changes nothing.
+// peak of each pool in the array, or the first refusal of 1 to 11, 26, 27, 21, 22. The bytes behind the plan are kept;
+// a refusal changes nothing.
 #[no_mangle]
 pub extern "C" fn ruhkevois_plan(file: &[u8], out: &mut [u8], peaks: &mut [u32; Job::POOLS]) -> u64
     ensures { λ r. ⌜ PlanAnswers (now (file .entry)) (now (out .entry)) (now (peaks .entry)) r (now (out .exit))

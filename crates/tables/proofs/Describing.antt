@@ -1,4 +1,4 @@
--- The filled tables of a job that passes tests 3 to 11 and 26, and its frame, describe it.
+-- The filled tables of a job that passes tests 3 to 11, 26 and 27, and its frame, describe it.
 -- Assumes nothing.
 use Prim.Native.Nat.{ℕ, _<_}
 use mathlib.Core.Path.{_≡_, refl, sym, ap}

@@ -1,4 +1,4 @@
-// Job values that no file holds, handed to the calls without the reader: values that 3 to 11 and 26 refuse, other
+// Job values that no file holds, handed to the calls without the reader: values that 3 to 11, 26 and 27 refuse, other
 // numbers beyond the counts, and whether two values hold the same job. Prints a line for each. What a file can hold
 // stands in tests/tables.
 mod refused; // the cases

@@ -1,4 +1,4 @@
-// Jobs that every call refuses by 3 to 11 or 26.
+// Jobs that every call refuses by 3 to 11, 26 or 27.
 use crate::calls::ROOM;
 use crate::calls::refusals;
 use crate::jobs;
