@@ -11,6 +11,7 @@ mod AllowedActions
 mod JobSweep
 pub mod WithExtra
 mod AnswerLaws
+pub mod FirmAnswers
 mod LoweringLaws
 mod Loops
 mod StartLaws

@@ -17,6 +17,7 @@ pub mod Permutations
 pub mod Rising
 pub mod Sorting
 pub mod Shorter
+pub mod TrueLengths
 mod PoolStarts
 pub mod Peaks
 pub mod RunRows

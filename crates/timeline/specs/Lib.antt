@@ -6,3 +6,4 @@ pub mod Value
 pub mod Day
 pub mod Places
 pub mod Keeps
+pub mod TrueLengths

@@ -5,6 +5,7 @@ pub mod Monotone
 pub mod Unique
 pub mod PlanSteps
 pub mod Admissible
+pub mod Firm
 pub mod Pairs
 pub mod Counting
 pub mod Finite
