@@ -1,23 +1,25 @@
 -- Sums of what the chosen steps use, and the tests of pools and stores.
 -- Assumes nothing.
-use Prim.Native.Nat.{ℕ, suc, _+_, _*_, _^_, _≤_, _<_}
+use Prim.Native.Nat.{ℕ, zero, suc, _+_, _*_, _^_, _≤_, _<_}
 use mathlib.Core.Path.{_≡_, refl, sym, ap, ap₂, _∙_}
-use mathlib.Core.Bool.{Bool, true, false, cond, _&&_}
+use mathlib.Core.Bool.{Bool, true, false, cond, _&&_, _||_}
 use mathlib.Core.List.{List, [], _∷_}
 use mathlib.Core.Logic.{⊎-elim}
 use native.Mathlib.Nat.{eq-or-lt-of-le, le-refl}
 use native.Mathlib.Omega.{arith}
-use lib.Dec.{leb, ltb, leb·suc-suc}
+use lib.Dec.{leb, ltb}
 use lib.ListN.{length, getD, set, length-set, replicate, getD-replicate}
 use lib.Seq.{getD-set-same, getD-set-other}
-use borrow.Author.Tests.{lt-ltb, le-ltb}
+use borrow.Author.Tests.{lt-ltb, le-ltb, ltb-true, ltb-false, leb-true, le-leb}
 use Rattle.lists.proofs.Below.{below-more, below-found, below-same}
+use Rattle.lists.proofs.Bools.{and-left, and-right, or-left, or-right}
+use Rattle.job.specs.Resources.{handover, HandoversOf}
 use Rattle.job.specs.Job.{Job}
 use Rattle.job.specs.Valid.{over}
 use Rattle.timeline.specs.Step.{Step, stepOf}
 use Rattle.timeline.specs.Timeline.{hasShare}
-use Rattle.timeline.proofs.Shares.{free-at-stop}
-use Rattle.timeline.proofs.Tests.{or-neither}
+use Rattle.timeline.proofs.Shares.{share-reads, share-when}
+use Rattle.timeline.proofs.Tests.{or-neither, same-test, and-both, le-or-lt}
 use Rattle.times.specs.Earliest.{actionOf}
 use Rattle.tables.specs.Tables.{DescribesAction, Describes, durationAt}
 use Rattle.tables.specs.declared.Frame.{Frame}
@@ -60,18 +62,19 @@ small-with-more m n uses l s =
 -- ---- the table's amounts, added one after the other
 
 -- the first k sums have their amounts, the others are as before
-pub record AddedTo (numbers : List ℕ) (at : ℕ) (counts : Bool) (sums : List ℕ) (k : ℕ) (out : List ℕ) : Type 0 where
-  pub four : length out ≡ 4
-  pub done : (j : ℕ) → j < k
-      → (getD out j 0 ≡ cond counts (getD numbers (at + j) 0) 0 + getD sums j 0)
-      × (cond counts (getD numbers (at + j) 0) 0 < 2 ^ 32)
-  pub rest : (j : ℕ) → k ≤ j → getD out j 0 ≡ getD sums j 0
+pub record AddedTo (numbers : List ℕ) (at : ℕ) (counts : ℕ → Bool) (sums : List ℕ) (k : ℕ) (out : List ℕ) : Type 0
+  where
+    pub four : length out ≡ 4
+    pub done : (j : ℕ) → j < k
+        → (getD out j 0 ≡ cond (counts j) (getD numbers (at + j) 0) 0 + getD sums j 0)
+        × (cond (counts j) (getD numbers (at + j) 0) 0 < 2 ^ 32)
+    pub rest : (j : ℕ) → k ≤ j → getD out j 0 ≡ getD sums j 0
 
-module _ (numbers : List ℕ) (at : ℕ) (counts : Bool) (sums : List ℕ) where
+module _ (numbers : List ℕ) (at : ℕ) (counts : ℕ → Bool) (sums : List ℕ) where
   pub added-at-first : length sums ≡ 4 → AddedTo numbers at counts sums 0 sums
   added-at-first four = record { four = four; done = λ j l. absurd (omega arith); rest = λ j l. refl }
 
-  pub added-on : (k amount : ℕ) (out : List ℕ) → k < 4 → amount ≡ cond counts (getD numbers (at + k) 0) 0
+  pub added-on : (k amount : ℕ) (out : List ℕ) → k < 4 → amount ≡ cond (counts k) (getD numbers (at + k) 0) 0
       → amount < 2 ^ 32 → AddedTo numbers at counts sums k out
       → AddedTo numbers at counts sums (k + 1) (set out k (amount + getD out k 0))
   added-on k amount out l e small a =
@@ -107,12 +110,76 @@ module _ (numbers : List ℕ) (at : ℕ) (counts : Bool) (sums : List ℕ) where
             };
       }
 
+-- amounts that count by another test, which says the same
+added-by : (numbers : List ℕ) (at : ℕ) (counts test : ℕ → Bool) (sums r : List ℕ)
+    → ((k : ℕ) → k < 4 → counts k ≡ test k) → Added numbers at counts sums r → Added numbers at test sums r
+added-by numbers at counts test sums r same a =
+    record {
+      each = λ k l.
+          a .each k l ∙ ap (λ (b : Bool). cond b (getD numbers (at + k) 0) 0 + getD sums k 0) (same k l);
+      more = a .more;
+    }
+
+-- ---- shares put off by handovers
+module _ (numbers handovers : List ℕ) (at from limit : ℕ) (runs : Bool) (sums r : List ℕ) where
+  abbrev putOff : ℕ → Bool
+  putOff k = runs && ltb from (limit + getD handovers k 0)
+
+  -- the step runs: each limit put off decides
+  pub added-when-running : runs ≡ true → Added numbers at (λ k. ltb from (limit + getD handovers k 0)) sums r
+      → Added numbers at putOff sums r
+  added-when-running e a = added-by numbers at _ putOff sums r (λ k l. rw e) a
+
+  -- the step does not run, or starts before the limit, or no limit is put off: all limits decide as the first one
+  pub added-alike : ((runs ≡ true) → limit ≤ from → (k : ℕ) → k < 4 → getD handovers k 0 ≡ 0)
+      → Added numbers at (λ k. runs && ltb from limit) sums r → Added numbers at putOff sums r
+  added-alike none a =
+      added-by numbers at _ putOff sums r
+      (λ k l.
+      same-test _ _
+      (λ h.
+      let early = ltb-true from limit (and-right runs _ h) in
+      and-both (and-left runs _ h) (lt-ltb from (limit + getD handovers k 0) (omega arith)))
+      (λ h.
+      let late = ltb-true from (limit + getD handovers k 0) (and-right runs _ h) in
+      let on = and-left runs _ h in
+      and-both on
+      (⊎-elim (λ before. let zero = none on before k l in lt-ltb from limit (omega arith)) (λ after. lt-ltb from limit after)
+      (le-or-lt limit from))))
+      a
+
+-- where no test of the four says so, no pool has a handover
+pub no-handover : (handovers : List ℕ)
+    → (((ltb 0 (getD handovers 0 0) || ltb 0 (getD handovers 1 0)) || ltb 0 (getD handovers 2 0))
+    || ltb 0 (getD handovers 3 0)) ≡ false → (pool : ℕ) → pool < 4 → getD handovers pool 0 ≡ 0
+no-handover h e pool l = go pool l
+  where
+    at : ℕ → Bool
+    at k = ltb 0 (getD h k 0)
+
+    none : (k : ℕ) → at k ≡ false → getD h k 0 ≡ 0
+    none k f = let z = ltb-false 0 (getD h k 0) f in omega arith
+
+    three : ((at 0 || at 1) || at 2) ≡ false
+    three = or-left _ (at 3) e
+
+    two : (at 0 || at 1) ≡ false
+    two = or-left _ (at 2) three
+
+    go : (k : ℕ) → k < 4 → getD h k 0 ≡ 0
+    go zero b = none 0 (or-left (at 0) (at 1) two)
+    go (suc zero) b = none 1 (or-right (at 0) (at 1) two)
+    go (suc (suc zero)) b = none 2 (or-right (at 0 || at 1) (at 2) three)
+    go (suc (suc (suc zero))) b = none 3 (or-right ((at 0 || at 1) || at 2) (at 3) e)
+    go (suc (suc (suc (suc k)))) b = absurd (omega arith)
+
 -- ---- one step more
-module _ (numbers : List ℕ) (t i start : ℕ) (uses r : Uses)
-    (before : Added numbers (i * 9 + 1) (ltb start t && leb t (start + durationAt numbers i))
-    (uses .before) (r .before))
-    (now : Added numbers (i * 9 + 1) (leb start t && ltb t (start + durationAt numbers i)) (uses .now) (r .now))
-    (spent : Added numbers (i * 9 + 5) true (uses .spent) (r .spent)) where
+module _ (numbers handovers : List ℕ) (t i start : ℕ) (uses r : Uses)
+    (before : Added numbers (i * 9 + 1)
+    (λ k. leb t (start + durationAt numbers i) && ltb start (t + getD handovers k 0)) (uses .before) (r .before))
+    (now : Added numbers (i * 9 + 1)
+    (λ k. ltb t (start + durationAt numbers i) && ltb start (t + 1 + getD handovers k 0)) (uses .now) (r .now))
+    (spent : Added numbers (i * 9 + 5) (λ k. true) (uses .spent) (r .spent)) where
   joined-small : (n : ℕ) → Small n uses → Small (n + 1) r
   joined-small n s =
       record {
@@ -121,28 +188,53 @@ module _ (numbers : List ℕ) (t i start : ℕ) (uses r : Uses)
         spent = spent .more n (s .spent);
       }
 
-  module _ (J : Job) (sets : List ℕ) (described : DescribesAction J sets numbers i) (L : List Step) where
+  module _ (J : Job) (sets : List ℕ) (described : DescribesAction J sets numbers i) (waits : HandoversOf J handovers)
+      (L : List Step) where
     abbrev x : Step
     x = stepOf J i start
 
     -- the step's share of the pools in a minute in which the test says that it has one
-    share-joined : (m : ℕ) (test : Bool) (old new : List ℕ) → ((pool : ℕ) → test ≡ hasShare J pool m x)
+    share-joined : (m : ℕ) (test : ℕ → Bool) (old new : List ℕ)
+        → ((pool : ℕ) → pool < length (J .pools) → test pool ≡ hasShare J pool (m + handover J pool) x)
         → Added numbers (i * 9 + 1) test old new → HoldsUse J m L old → HoldsUse J m (x ∷ L) new
     share-joined m test old new same added holds pool few inside =
         added .each pool few
-        ∙ ap₂ _+_ (ap₂ (λ b (n : ℕ). cond b n 0) (same pool) (described .pools pool inside)) (holds pool few inside)
+        ∙ ap₂ _+_ (ap₂ (λ b (n : ℕ). cond b n 0) (same pool inside) (described .pools pool inside))
+        (holds pool few inside)
 
-    has-share-now : (pool : ℕ) → (leb start t && ltb t (start + durationAt numbers i)) ≡ hasShare J pool t x
-    has-share-now pool =
-        ap (λ (d : ℕ). leb start t && ltb t (start + d)) (described .duration)
-        ∙ ap (λ (f : ℕ). leb start t && ltb t f) (sym (free-at-stop J pool x))
+    has-share-now : (pool : ℕ) → pool < length (J .pools)
+        → (ltb t (start + durationAt numbers i) && ltb start (t + 1 + getD handovers pool 0))
+        ≡ hasShare J pool (t + handover J pool) x
+    has-share-now pool inside =
+        let wait = waits pool inside in
+        let duration = described .duration in
+        same-test _ _
+        (λ h.
+        let runs = ltb-true t _ (and-left (ltb t (start + durationAt numbers i)) _ h) in
+        let begun = ltb-true start _ (and-right (ltb t (start + durationAt numbers i)) _ h) in
+        share-when J pool (t + handover J pool) x (omega arith) (omega arith))
+        (λ h.
+        let r = share-reads J pool (t + handover J pool) x h in
+        let begun = r .0 in
+        let until = r .1 in
+        and-both (lt-ltb t _ (omega arith)) (lt-ltb start _ (omega arith)))
 
-    has-share-before : (m : ℕ) → suc m ≡ t → (pool : ℕ)
-        → (ltb start t && leb t (start + durationAt numbers i)) ≡ hasShare J pool m x
-    has-share-before m e pool =
-        ap₂ (λ (u d : ℕ). ltb start u && leb u (start + d)) (sym e) (described .duration)
-        ∙ ap (λ (b : Bool). b && ltb m (start + actionOf J i .duration)) (leb·suc-suc start m)
-        ∙ ap (λ (f : ℕ). leb start m && ltb m f) (sym (free-at-stop J pool x))
+    has-share-before : (m : ℕ) → suc m ≡ t → (pool : ℕ) → pool < length (J .pools)
+        → (leb t (start + durationAt numbers i) && ltb start (t + getD handovers pool 0))
+        ≡ hasShare J pool (m + handover J pool) x
+    has-share-before m e pool inside =
+        let wait = waits pool inside in
+        let duration = described .duration in
+        same-test _ _
+        (λ h.
+        let runs = leb-true t _ (and-left (leb t (start + durationAt numbers i)) _ h) in
+        let begun = ltb-true start _ (and-right (leb t (start + durationAt numbers i)) _ h) in
+        share-when J pool (m + handover J pool) x (omega arith) (omega arith))
+        (λ h.
+        let r = share-reads J pool (m + handover J pool) x h in
+        let begun = r .0 in
+        let until = r .1 in
+        and-both (le-leb t _ (omega arith)) (lt-ltb start _ (omega arith)))
 
     use-joined : UsesOf J t L uses → UsesOf J t (x ∷ L) r
     use-joined u =
@@ -153,8 +245,9 @@ module _ (numbers : List ℕ) (t i start : ℕ) (uses r : Uses)
               spent .each store few ∙ ap₂ _+_ (described .stores store inside) (u .spent store few inside);
         }
 
-  pub joins-uses : JoinsUses numbers t i start uses r
-  joins-uses = record { more = joined-small; joins = λ J sets described L. use-joined J sets described L }
+  pub joins-uses : JoinsUses numbers handovers t i start uses r
+  joins-uses =
+      record { more = joined-small; joins = λ J sets described waits L. use-joined J sets described waits L }
 
 -- ---- the tests of pools and stores
 

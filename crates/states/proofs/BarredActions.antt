@@ -16,14 +16,14 @@ use Rattle.facts.specs.FactSet.{has, union, difference, meets, single}
 use Rattle.facts.proofs.Membership.{meets-some}
 use Rattle.facts.proofs.SetLaws.{in-union-left, in-union-right, in-union-cases, in-difference, in-difference-parts}
 use Rattle.facts.proofs.SetLaws.{not-in-both, no-common-member}
-use Rattle.job.specs.Resources.{storeAmount, storeCap}
+use Rattle.job.specs.Resources.{handover, storeAmount, storeCap}
 use Rattle.job.specs.Job.{Job}
 use Rattle.timeline.specs.Step.{Step, unionOf}
 use Rattle.timeline.specs.From.{IsNew, FitsFrom}
 use Rattle.timeline.specs.Timeline.{free, inUse, usedUp, clash}
 use Rattle.timeline.specs.Accepted.{clashing}
 use Rattle.timeline.specs.Places.{Place, here, there, EachStep}
-use Rattle.timeline.proofs.Shares.{free-at-stop}
+use Rattle.timeline.proofs.Shares.{free-is, share-reads, share-when, useAt, use-of-share, use-without-share}
 use Rattle.timeline.proofs.Tests.{and-both, decided, or-neither}
 use Rattle.job.specs.Valid.{over}
 use Rattle.timeline.proofs.Places.{any-at}
@@ -302,19 +302,18 @@ module _ (J : Job) (sets numbers : List ℕ) (frame : Frame) (described : Descri
         (or-neither
         (any-of-none (blocks x) (x ∷ L) (each-cons (λ y. blocks x y ≡ false) x L spares-own spares)) has-room))
       where
-        own-share : (pool : ℕ)
-            → cond (leb (x .start) (free J pool x) && ltb (free J pool x) (free J pool x))
-            (getD (x .action .pools) pool 0) 0 ≡ 0
+        own-share : (pool : ℕ) → useAt J pool (free J pool x) x ≡ 0
         own-share pool =
-            let late = free J pool x in
-            rw (le-ltb late late (le-refl late), and-false (leb (x .start) late))
+            let late = free-is J pool x in
+            use-without-share J pool (free J pool x) x
+            (λ h. let until = share-reads J pool (free J pool x) x h .1 in omega arith)
 
-        same-use : (pool : ℕ) → inUse J pool (free J pool x) (x ∷ L) ≡ inUse J pool t L
+        same-use : (pool : ℕ) → inUse J pool (free J pool x) (x ∷ L) ≡ inUse J pool (t + handover J pool) L
         same-use pool =
             let late = free J pool x in
             let zero-first : 0 + inUse J pool late L ≡ inUse J pool late L = omega arith in
             ap (λ (m : ℕ). m + inUse J pool late L) (own-share pool) ∙ zero-first
-            ∙ ap (λ (m : ℕ). inUse J pool m L) (free-at-stop J pool x ∙ stops)
+            ∙ ap (λ (m : ℕ). inUse J pool m L) (free-is J pool x ∙ ap (λ (s : ℕ). s + handover J pool) stops)
 
         has-room : lacksRoom J (x ∷ L) x ≡ false
         has-room =
@@ -324,22 +323,23 @@ module _ (J : Job) (sets numbers : List ℕ) (frame : Frame) (described : Descri
             ∙ room
 
   -- ---- pools and stores do not suffice
-  pub barred-when-pools-exceeded-while-running : (m : ℕ) → x .start ≤ m → m < t → exceedsPools J L i m ≡ true → Result
-  barred-when-pools-exceeded-while-running m after before h =
-      let r = below-some (length (J .pools)) _ h in
-      let pool : ℕ = r .0 in
-      let over = ltb-true (getD (J .pools) pool 0) (inUse J pool m L + getD (x .action .pools) pool 0) (r .2) in
+  -- in a minute in which it has its share
+  pub barred-when-pool-exceeded-while-shared : (pool m : ℕ) → pool < length (J .pools) → x .start ≤ m
+      → m < t + handover J pool → getD (J .pools) pool 0 < inUse J pool m L + getD (x .action .pools) pool 0 → Result
+  barred-when-pool-exceeded-while-shared pool m inside after before exceeds =
       let s = stops in
-      let share = getD (x .action .pools) pool 0 in
-      let late = free-at-stop J pool x in
-      let own : cond (leb (x .start) m && ltb m (free J pool x)) share 0 ≡ share =
-      rw (le-leb (x .start) m (omega arith), lt-ltb m (free J pool x) (omega arith)) in
-      dead-when-pool-exceeded J (fromOf frame) (frame .goal) (frame .horizon) _ (x ∷ L) pool m (r .1) (omega arith)
+      let own = use-of-share J pool m x (share-when J pool m x after (omega arith)) in
+      dead-when-pool-exceeded J (fromOf frame) (frame .goal) (frame .horizon) _ (x ∷ L) pool m inside (omega arith)
 
-  -- in the minute before it stops
+  -- in the last minute of its share
   pub barred-when-pools-exceeded : (m : ℕ) → suc m ≡ st .minute → exceedsPools J L i m ≡ true → Result
   barred-when-pools-exceeded m e h =
-      let l = starts-before in barred-when-pools-exceeded-while-running m (omega arith) (omega arith) h
+      let r = below-some (length (J .pools)) _ h in
+      let pool : ℕ = r .0 in
+      let last = m + handover J pool in
+      let over = ltb-true (getD (J .pools) pool 0) (inUse J pool last L + getD (x .action .pools) pool 0) (r .2) in
+      let l = starts-before in
+      barred-when-pool-exceeded-while-shared pool last (r .1) (omega arith) (omega arith) over
 
   pub barred-when-stores-exceeded : exceedsStores J L i ≡ true → Result
   barred-when-stores-exceeded h =

@@ -34,8 +34,9 @@ use Rattle.states.specs.declared.amounts.Uses.{Uses}
 use Rattle.states.specs.Minutes.{runsInto, MinuteOf}
 use Rattle.states.specs.Amounts.{UsesOf}
 use Rattle.states.specs.States.{AddedTwice, Stands, nextStep, Fits}
-use Rattle.states.specs.Moves.{startOf, Taken, NoStartBetween, Back}
-use Rattle.states.proofs.Chosen.{place-of-chosen, chosen-pushed}
+use Rattle.states.specs.Moves.{startOf, Taken, NoEventBetween, Back}
+use Rattle.states.proofs.Events.{no-start-between}
+use Rattle.states.proofs.Chosen.{chosen-pushed}
 use Rattle.states.proofs.BarredActions.{stops, wanted-still, lasting, not-running}
 
 minute-as : (t t′ : ℕ) (L L′ : List Step) (m : Minute) → t ≡ t′ → L ≡ L′ → MinuteOf t L m → MinuteOf t′ L′ m
@@ -98,7 +99,7 @@ module _ (numbers : List ℕ) (frame : Frame) (st : State) (i : ℕ) (fits : Fit
 module _ (J : Job) (sets numbers : List ℕ) (frame : Frame) (described : Describes J sets numbers frame) (st : State)
     (known-steps : Known (frame .actions) (st .steps)) (i : ℕ) (known : i < frame .actions)
     (room : st .steps .count < 32) (fits : Fits numbers frame st i)
-    (r : State) (taken : Taken sets numbers st i r) where
+    (r : State) (taken : Taken sets numbers (frame .handovers) st i r) where
   same-start : startOf numbers st i ≡ st .minute - actionOf J i .duration
   same-start = ap (λ (d : ℕ). st .minute - d) (described .each i known .duration)
 
@@ -206,7 +207,7 @@ module _ (J : Job) (sets numbers : List ℕ) (frame : Frame) (described : Descri
               (taken .at J (described .each i known) L (stands .at));
           uses = uses-as J (st .minute) (r .minute) _ (chosen J (r .steps)) (r .uses) (sym (taken .minute))
               (ap (λ (s : ℕ). stepOf J i s ∷ L) same-start ∙ sym chosen-taken)
-              (taken .uses .joins J sets (described .each i known) L (stands .uses));
+              (taken .uses .joins J sets (described .each i known) (described .handovers) L (stands .uses));
           twice = λ n h. twice-as (sym (taken .minute)) (sym chosen-taken) n (twice-now n h);
           enders = enders-as J frame (sym (taken .steps)) (sym (taken .minute)) (sym (taken .since)) enders-now;
           later = later-as J (frame .kept .count) (sym (taken .steps)) (sym (taken .minute)) (sym (taken .since))
@@ -215,11 +216,10 @@ module _ (J : Job) (sets numbers : List ℕ) (frame : Frame) (described : Descri
 
 -- ---- back to an event minute
 module _ (J : Job) (sets numbers : List ℕ) (frame : Frame) (described : Describes J sets numbers frame) (st r : State)
-    (s : ℕ) (back : Back sets numbers (frame .actions) s st r) (stands : Stands J frame st) (earlier : s < st .minute)
-    (none : NoStartBetween (st .steps) s (st .minute)) where
+    (s : ℕ) (back : Back sets numbers frame s st r) (stands : Stands J frame st) (earlier : s < st .minute)
+    (none : NoEventBetween (frame .handovers) (frame .pools) (st .steps) s (st .minute)) where
   no-start : EachStep (λ x. s < x .start → x .start < st .minute → ⊥) (chosen J (st .steps))
-  no-start x Q p =
-      let k = place-of-chosen J (st .steps) (st .steps .count) p in rw (k .2) (none (k .0) (k .1))
+  no-start = no-start-between J sets numbers frame described (st .steps) s (st .minute) none
 
   pub chosen-back : chosen J (r .steps) ≡ chosen J (st .steps)
   chosen-back = ap (chosen J) (back .steps)
@@ -246,7 +246,7 @@ module _ (J : Job) (sets numbers : List ℕ) (frame : Frame) (described : Descri
             chosen-back (back .minute));
         at = minute-as s (r .minute) _ (chosen J (r .steps)) (r .at) (sym (back .minute)) (sym chosen-back) at;
         uses = uses-as J s (r .minute) _ (chosen J (r .steps)) (r .uses) (sym (back .minute)) (sym chosen-back)
-            (back .uses .looks J sets (described .each));
+            (back .uses .looks J sets (described .each) (described .handovers));
         twice = λ n h. absurd (true≢false (sym h ∙ ap (λ (set : ℕ). has set n) (back .twice) ∙ has-zero n));
         enders = λ k a b.
             let c = ap (λ (steps : Steps). steps .count) (back .steps) in let d = back .since in absurd (omega arith);

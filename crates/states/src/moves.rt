@@ -4,10 +4,11 @@ ghost use Prim.Native.Nat.{_-_, _≤_, _<_};
 ghost use lib.ListN.{length};
 ghost use Rattle.tables.specs.Tables.{durationAt, Known, Lent};
 ghost use Rattle.states.specs.Amounts.{Small};
-ghost use Rattle.states.specs.Moves.{Taken, NoStartBetween, GoneOf, Gone, Back};
+ghost use Rattle.states.specs.Moves.{Taken, NoStartBetween, NoEventBetween, GoneOf, Gone, Back};
 use crate::amounts;
 use crate::minute;
 use crate::state::State;
+use job::Job;
 use tables::Frame;
 use tables::Steps;
 use tables::layout::NumberTable;
@@ -23,11 +24,12 @@ pub fn start_of(numbers: &[u32], i: u8, stop: u16) -> u16
 }
 
 // The state with action i stopping at its minute.
-pub fn take(sets: &[u64], numbers: &[u32], st: State, i: u8) -> State
+pub fn take(sets: &[u64], numbers: &[u32], frame: Frame, st: State, i: u8) -> State
     requires { ⌜ (length (now sets) ≡ 384) × (length (now numbers) ≡ 1220) × (i < 64) × (st .steps .count < 32)
         × (durationAt (now numbers) i ≤ 255) × (durationAt (now numbers) i ≤ st .minute) × Small 32 (st .uses) ⌝ }
-    ensures { λ r. ⌜ Taken (now (sets .entry)) (now (numbers .entry)) st i r ⌝ }
+    ensures { λ r. ⌜ Taken (now (sets .entry)) (now (numbers .entry)) (frame .handovers) st i r ⌝ }
 {
+    let handovers = frame.handovers;
     let start = start_of(numbers, i, st.minute);
     let minute = minute::wide(st.minute);
     let steps = st.steps;
@@ -40,7 +42,7 @@ pub fn take(sets: &[u64], numbers: &[u32], st: State, i: u8) -> State
         minute: st.minute,
         wanted: st.wanted,
         at: minute::joined(sets, numbers, st.at, minute, i, start),
-        uses: amounts::joined(numbers, st.uses, minute, i, start),
+        uses: amounts::joined(numbers, handovers, st.uses, minute, i, start),
         twice: facts::union(st.twice, again),
         since: st.since,
     }
@@ -60,15 +62,52 @@ pub fn later_start(m: u16, start: u16, t: u16) -> u16
     start
 }
 
-// The last start of a chosen step before minute t; the first minute, where none is later.
-pub fn event(steps: Steps, first: u16, t: u16) -> u16
-    requires { ⌜ (steps .count ≤ 32) × (first < t) ⌝ }
-    ensures { λ r. ⌜ (first ≤ r) × (r < t) × NoStartBetween steps r t ⌝ }
+// The start less the handover; 0 where that is before minute 0.
+fn before_handover(start: u16, handover: u16) -> u16
+    ensures { λ r. ⌜ r ≡ start - handover ⌝ }
 {
-    let mut m = first;
+    if start < handover {
+        return 0;
+    }
+    start - handover
+}
+
+// The latest of minute m and of the starts of chosen steps, each less the handover, before minute t.
+fn last_start(steps: Steps, handover: u16, m: u16, t: u16) -> u16
+    requires { ⌜ (steps .count ≤ 32) × (m < t) ⌝ }
+    ensures { λ r. ⌜ (m ≤ r) × (r < t) × NoStartBetween handover steps r t ⌝ }
+{
+    let mut r = m;
     let mut k = 0;
     while k < steps.count {
-        m = later_start(m, steps.starts[k], t);
+        r = later_start(r, before_handover(steps.starts[k], handover), t);
+        k += 1;
+    }
+    r
+}
+
+// The same, where the starts themselves are not later.
+fn later_event(steps: Steps, handover: u8, m: u16, t: u16) -> u16
+    requires { ⌜ (steps .count ≤ 32) × (m < t) ⌝ }
+    ensures { λ r. ⌜ (m ≤ r) × (r < t) × (NoStartBetween 0 steps m t → NoStartBetween handover steps r t) ⌝ }
+{
+    if handover == 0 {
+        return m;
+    }
+    last_start(steps, handover as u16, m, t)
+}
+
+// The last event of the chosen steps before minute t: a start, or a start less the handover of a pool. The first
+// minute, where none is later.
+pub fn event(steps: Steps, frame: Frame, t: u16) -> u16
+    requires { ⌜ (steps .count ≤ 32) × (frame .first < t) × (frame .pools ≤ 4) ⌝ }
+    ensures { λ r. ⌜ (frame .first ≤ r) × (r < t) × NoEventBetween (frame .handovers) (frame .pools) steps r t ⌝ }
+{
+    let handovers = frame.handovers;
+    let mut m = last_start(steps, 0, frame.first, t);
+    let mut k = 0;
+    while k < frame.pools {
+        m = later_event(steps, handovers[k], m, t);
         k += 1;
     }
     m
@@ -104,16 +143,12 @@ pub fn gone(sets: &[u64], numbers: &[u32], actions: usize, steps: Steps, s: u32,
     set
 }
 
-// The state at the event minute before.
-pub fn back(sets: &[u64], numbers: &[u32], frame: Frame, st: State) -> State
-    requires { ⌜ Lent (now sets) (now numbers) (frame .actions) × Known (frame .actions) (st .steps)
-        × (frame .first < st .minute) ⌝ }
-    ensures { λ r. ⌜ Back (now (sets .entry)) (now (numbers .entry)) (frame .actions) (r .minute) st r
-        × (frame .first ≤ r .minute) × (r .minute < st .minute)
-        × NoStartBetween (st .steps) (r .minute) (st .minute) ⌝ }
+// The state at minute s, the event before.
+pub fn back(sets: &[u64], numbers: &[u32], frame: Frame, st: State, s: u16) -> State
+    requires { ⌜ Lent (now sets) (now numbers) (frame .actions) × Known (frame .actions) (st .steps) ⌝ }
+    ensures { λ r. ⌜ Back (now (sets .entry)) (now (numbers .entry)) frame s st r ⌝ }
 {
     let steps = st.steps;
-    let s = event(steps, frame.first, st.minute);
     let minute = minute::wide(s);
     let at = minute::look(sets, numbers, frame.actions, steps, minute);
     let added = gone(
@@ -129,7 +164,7 @@ pub fn back(sets: &[u64], numbers: &[u32], frame: Frame, st: State) -> State
         minute: s,
         wanted: facts::union(facts::difference(st.wanted, added), at.needed),
         at: at,
-        uses: amounts::look(numbers, frame.actions, steps, minute),
+        uses: amounts::look(numbers, frame, steps, minute),
         twice: 0,
         since: steps.count,
     }

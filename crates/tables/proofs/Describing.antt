@@ -10,6 +10,7 @@ use Rattle.job.proofs.ResourceLaws.{allowed-is}
 use Rattle.job.specs.declared.Job as held
 use Rattle.job.specs.declared.refusal.Verdict.the-variants.{Pass}
 use Rattle.job.specs.Job.{Action, jobIn, actionAt, beyond}
+use Rattle.job.specs.Resources.{HandoversOf}
 use Rattle.job.specs.Refusal.{first}
 use Rattle.job.specs.Valid.{jobRows}
 use Rattle.job.specs.Passed.{PassedAction}
@@ -51,8 +52,9 @@ module _ (job : held.Job) (sets numbers : List ℕ) (filled : Filled job sets nu
           stores = n .stores;
         }
 
-    pub describes : (goal from : ℕ) (kept : Steps) → Describes (jobIn job) sets numbers (frameOf job goal from kept)
-    describes goal from kept =
+    pub describes : (goal from : ℕ) (kept : Steps) (handovers : List ℕ) → HandoversOf (jobIn job) handovers
+        → Describes (jobIn job) sets numbers (frameOf job goal from kept handovers)
+    describes goal from kept handovers same =
         record {
           facts = refl;
           actions = length-tabulate (job .counts .actions) (actionAt job);
@@ -60,6 +62,7 @@ module _ (job : held.Job) (sets numbers : List ℕ) (filled : Filled job sets nu
           stores = length-tabulate (job .counts .stores) (λ k. getD (job .stores) k 0);
           available = λ k l. sym (getD-tabulate (job .counts .pools) (λ m. getD (job .pools) m 0) k 0 l);
           stocks = λ k l. allowed-is job k l;
+          handovers = same;
           inTime = omega arith;
           each = describes-action;
         }

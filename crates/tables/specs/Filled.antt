@@ -11,7 +11,7 @@ use Rattle.job.specs.declared.Action as value
 use Rattle.job.specs.declared.Counts.{Counts}
 use Rattle.job.specs.declared.Job as held
 use Rattle.job.specs.Job.{Job, actionIn, jobIn}
-use Rattle.job.specs.Resources.{storeAmount, allowedIn}
+use Rattle.job.specs.Resources.{storeAmount, allowedIn, HandoversOf}
 use Rattle.timeline.specs.Timeline.{hinders}
 use Rattle.times.specs.Earliest.{actionOf}
 use Rattle.tables.specs.declared.Frame.{Frame}
@@ -46,8 +46,8 @@ pub record Filled (job : held.Job) (sets numbers : List ℕ) : Type 0 where
 
 -- what of the job value is no table, for a search up to the deadline with tables of what is left of the day from the
 -- first free minute on
-abbrev pub frameOf : held.Job → ℕ → ℕ → Steps → Frame
-frameOf job goal first kept =
+abbrev pub frameOf : held.Job → ℕ → ℕ → Steps → List ℕ → Frame
+frameOf job goal first kept handovers =
     record {
       facts = job .facts;
       actions = job .counts .actions;
@@ -55,6 +55,7 @@ frameOf job goal first kept =
       stores = job .counts .stores;
       available = job .pools;
       stocks = allowedIn job;
+      handovers = handovers;
       start = job .start;
       goal = goal;
       first = first;
@@ -64,6 +65,11 @@ frameOf job goal first kept =
       origin = first;
       given = 0;
     }
+
+-- the frame of the job value, with the handovers of its pools
+pub record FramedAs (job : held.Job) (goal first : ℕ) (kept : Steps) (frame : Frame) : Type 0 where
+  pub handovers : HandoversOf (jobIn job) (frame .handovers)
+  pub same : frame ≡ frameOf job goal first kept (frame .handovers)
 
 -- ---- what inner functions promise
 

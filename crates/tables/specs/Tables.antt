@@ -8,7 +8,7 @@ use lib.Dec.{eqb}
 use lib.ListN.{length, getD, set, replicate}
 use Rattle.facts.specs.FactSet.{has}
 use Rattle.job.specs.Job.{Job}
-use Rattle.job.specs.Resources.{storeAmount, storeCap}
+use Rattle.job.specs.Resources.{storeAmount, storeCap, HandoversOf}
 use Rattle.timeline.specs.Step.{Step, stepOf}
 use Rattle.timeline.specs.From.{From, IsNew}
 use Rattle.timeline.specs.Timeline.{hinders}
@@ -68,6 +68,7 @@ pub record Describes (J : Job) (sets numbers : List ℕ) (frame : Frame) : Type 
   pub stores : length (J .stores) ≡ frame .stores
   pub available : (pool : ℕ) → pool < frame .pools → getD (frame .available) pool 0 ≡ getD (J .pools) pool 0
   pub stocks : (store : ℕ) → store < frame .stores → getD (frame .stocks) store 0 ≡ storeCap J store
+  pub handovers : HandoversOf J (frame .handovers)
   pub inTime : frame .horizon ≤ J .deadline
   pub each : DescribesEach J sets numbers (frame .actions)
 

@@ -6,7 +6,7 @@ pub mod longer; // which of two has more minutes
 ghost use mathlib.Core.Path.{_≡_};
 ghost use Prim.Native.Nat.{_<_};
 ghost use Rattle.tables.specs.Tables.{noSteps, pushed};
-ghost use Rattle.tables.specs.Filled.{frameOf};
+ghost use Rattle.tables.specs.Filled.{FramedAs};
 use job::Job;
 use job::resources;
 use timeline::Plan;
@@ -22,6 +22,7 @@ pub struct Frame {
     pub stores: usize,
     pub available: [u32; Job::POOLS],
     pub stocks: [u32; Job::STORES],
+    pub handovers: [u8; Job::POOLS],
     pub start: u64,
     pub goal: u64,
     pub first: u16,
@@ -35,11 +36,12 @@ pub struct Frame {
 impl Frame {
     // The frame of a job up to its deadline, for tables of what is left of the day from the first free minute on.
     pub fn of(job: Job, goal: u64, first: u16, kept: Steps) -> Frame
-        ensures { λ r. ⌜ r ≡ frameOf job goal first kept ⌝ }
+        ensures { λ r. ⌜ FramedAs job goal first kept r ⌝ }
     {
         let counts = job.counts;
         let available = job.pools;
         let stocks = resources::allowed(job);
+        let handovers = resources::handovers(job);
         Frame {
             facts: job.facts,
             actions: counts.actions,
@@ -47,6 +49,7 @@ impl Frame {
             stores: counts.stores,
             available: available,
             stocks: stocks,
+            handovers: handovers,
             start: job.start,
             goal: goal,
             first: first,

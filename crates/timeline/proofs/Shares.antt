@@ -21,11 +21,6 @@ pub free-is : (J : Job) (pool : ℕ) (x : Step) → free J pool x ≡ x .stop + 
 unfolding free
 free-is J pool x = refl
 
--- with no handover a share is free where its step stops
-pub free-at-stop : (J : Job) (pool : ℕ) (x : Step) → free J pool x ≡ x .stop
-unfolding free handover
-free-at-stop J pool x = omega arith
-
 pub store-use-of-action : (J : Job) (store : ℕ) (x y : Step) → x .action ≡ y .action
     → storeUse J store x ≡ storeUse J store y
 store-use-of-action J store x y e = rw e

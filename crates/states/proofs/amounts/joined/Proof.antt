@@ -1,4 +1,4 @@
--- `joined` meets its contract: the step's share counts in the minutes from its start to its stop.
+-- `joined` meets its contract: the step's share of a pool counts from its start to its stop, put off by the handover.
 -- Assumes nothing.
 use Rattle.states.proofs.AmountLaws.{joins-uses}
 use native.Mathlib.Omega.{arith}
@@ -15,27 +15,30 @@ wide-requires c κs = tt
 stop-requires : tie.Need-stop-requires
 stop-requires c κs = let h = c .before .before .pre in (omega arith, h .2)
 
+add-with-shares : tie.Need-add-with-shares
+add-with-shares c = search needs
+
+with-shares-requires : tie.Need-with-shares-requires
+with-shares-requires c κs =
+    let c-pre = c .before .before .before .before .before .before .pre in
+    let h = c-pre in (omega arith, omega arith, h .3 .before, omega arith)
+
+add-with-shares-2 : tie.Need-add-with-shares-2
+add-with-shares-2 c = search needs
+
+add-with-shares-3 : tie.Need-add-with-shares-3
+add-with-shares-3 c = search needs
+
+with-shares-requires-2 : tie.Need-with-shares-requires-2
+with-shares-requires-2 c κs =
+    let c-pre = c .before .before .before .before .before .before .before .pre in
+    let h = c-pre in (omega arith, omega arith, h .3 .now, omega arith)
+
 add-plus : tie.Need-add-plus
 add-plus c = search needs
 
 plus-requires : tie.Need-plus-requires
 plus-requires c κs =
-    let c-pre = c .before .before .before .before .before .before .pre in
-    let h = c-pre in (omega arith, omega arith, h .3 .before)
-
-add-plus-2 : tie.Need-add-plus-2
-add-plus-2 c = search needs
-
-plus-requires-2 : tie.Need-plus-requires-2
-plus-requires-2 c κs =
-    let c-pre = c .before .before .before .before .before .before .before .pre in
-    let h = c-pre in (omega arith, omega arith, h .3 .now)
-
-add-plus-3 : tie.Need-add-plus-3
-add-plus-3 c = search needs
-
-plus-requires-3 : tie.Need-plus-requires-3
-plus-requires-3 c κs =
     let c-pre = c .before .before .before .before .before .before .before .before .pre in
     let h = c-pre in (omega arith, omega arith, h .3 .spent)
 
@@ -48,9 +51,9 @@ returns c =
     let at = c-args in
     let from = c-wide .ensures .0 in
     let stop = c-stop .ensures .0 in
-    joins-uses (at .numbers .now) (at .t) (at .i) (at .start) (at .uses) _
-    (rw (from, stop) at (c .before .before .plus .ensures))
-    (rw (from, stop) at (c .before .plus2 .ensures)) (c .plus3 .ensures)
+    joins-uses (at .numbers .now) (at .handovers) (at .t) (at .i) (at .start) (at .uses) _
+    (rw (from, stop) at (c .before .before .with-shares .ensures))
+    (rw (from, stop) at (c .before .with-shares2 .ensures)) (c .plus .ensures)
 
 pub joined-spec : {M : Type 1} → statement M
 joined-spec =
@@ -59,10 +62,11 @@ joined-spec =
     mul-at
     wide-requires
     stop-requires
+    add-with-shares
+    with-shares-requires
+    add-with-shares-2
+    add-with-shares-3
+    with-shares-requires-2
     add-plus
     plus-requires
-    add-plus-2
-    plus-requires-2
-    add-plus-3
-    plus-requires-3
     returns)

@@ -8,7 +8,7 @@ use Rattle.states.proofs.amounts.plus.Statement.{statement}
 use Rattle.states.proofs.amounts.plus.Tie as tie
 
 abbrev Inv-loop : tie.InvT-loop
-Inv-loop numbers at counts out₀ k₀ out k = (k ≤ 4) × AddedTo numbers at counts out₀ k out
+Inv-loop numbers at counts out₀ k₀ out k = (k ≤ 4) × AddedTo numbers at (λ j. counts) out₀ k out
 
 abbrev μ-loop : tie.MeasureT-loop
 μ-loop numbers at counts out₀ k₀ out k = 4 - k

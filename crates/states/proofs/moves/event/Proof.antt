@@ -1,33 +1,37 @@
--- `event` meets its contract: no start of the first k steps lies between.
+-- `event` meets its contract: no start lies between, nor one less the handover of the first k pools.
 -- Assumes nothing.
 use Prim.Native.Nat.{ℕ, _-_, _≤_, _<_}
 use mathlib.Core.Path.{_≡_}
 use mathlib.Core.Logic.{⊎-elim}
 use lib.ListN.{getD}
 use Rattle.timeline.proofs.Tests.{le-or-lt}
+use Rattle.states.specs.Moves.{NoStartBetween}
 use native.Mathlib.Omega.{arith}
 use Rattle.states.proofs.moves.event.Statement.{statement}
 use Rattle.states.proofs.moves.event.Tie as tie
 
 abbrev Inv-loop : tie.InvT-loop
-Inv-loop first t steps m₀ k₀ m k =
-    (k ≤ steps .count) × (first ≤ m) × (m < t)
-    × ((j : ℕ) → j < k → m < getD (steps .starts) j 0 → getD (steps .starts) j 0 < t → ⊥)
+Inv-loop steps frame t handovers m₀ k₀ m k =
+    (k ≤ frame .pools) × (frame .first ≤ m) × (m < t) × NoStartBetween 0 steps m t
+    × ((pool : ℕ) → pool < k → NoStartBetween (getD handovers pool 0) steps m t)
 
 abbrev μ-loop : tie.MeasureT-loop
-μ-loop first t steps m₀ k₀ m k = steps .count - k
+μ-loop steps frame t handovers m₀ k₀ m k = frame .pools - k
+
+last-start-requires : tie.Need-last-start-requires Inv-loop μ-loop
+last-start-requires c κs = let h = c .before .pre in (h .0, h .1)
 
 loop-holds : tie.Need-loop-holds Inv-loop μ-loop
-loop-holds c = let h = c .pre in (omega arith, omega arith, h .1, λ j l a b. absurd (omega arith))
+loop-holds c =
+    let r = c .last-start .ensures in (omega arith, r .0, r .1, r .2, λ pool l. absurd (omega arith))
 
-mul-later-start : tie.Need-mul-later-start Inv-loop μ-loop
-mul-later-start c = omega arith
+array-read-later-event : tie.Need-array-read-later-event Inv-loop μ-loop
+array-read-later-event c = omega arith
 
-element-copy-out-later-start : tie.Need-element-copy-out-later-start Inv-loop μ-loop
-element-copy-out-later-start c = omega arith
-
-later-start-requires : tie.Need-later-start-requires Inv-loop μ-loop
-later-start-requires c κs = c .before .before .loop .inv .2
+later-event-requires : tie.Need-later-event-requires Inv-loop μ-loop
+later-event-requires c κs =
+    let c-pre = c .before .before .before .before .before .pre in
+    (c-pre .0, c .before .before .loop .inv .2)
 
 add-k : tie.Need-add-k Inv-loop μ-loop
 add-k c = omega arith
@@ -38,30 +42,25 @@ loop-less c = omega arith
 loop-again : tie.Need-loop-again Inv-loop μ-loop
 loop-again c =
     let c-loop = c .before .before .before .loop in
+    let c-loop = c-loop in
     let inv = c-loop .inv in
     let i1 = inv .1 in
-    let r = c .later-start .ensures in
-    let r0 = r .0 in
-    let r1 = r .1 in (
+    let r = c .later-event .ensures in
+    let r0 = r .0 in (
       omega arith,
       omega arith,
-      r1,
-      λ j l a b.
-          ⊎-elim
-          (λ here.
-          let same : j ≡ c-loop .k = omega arith in
-          let b′ = rw same at b in
-          let a′ = rw same at a in
-          let m = r .2 b′ in
-          omega arith)
-          (λ before. inv .3 j before (omega arith) b)
-          (le-or-lt (c-loop .k) j),
+      r .1,
+      λ k l m a b e. inv .3 k l m (omega arith) b e,
+      λ pool l.
+          ⊎-elim (λ here. let same : pool ≡ c-loop .k = omega arith in rw same (r .2 (inv .3)))
+          (λ before k inside m a b e. inv .4 pool before k inside m (omega arith) b e)
+          (le-or-lt (c-loop .k) pool),
     )
 
 returns : tie.Need-returns Inv-loop μ-loop
 returns c =
-    let inv = c .before .loop .inv in
-    (inv .1, inv .2, λ j l. inv .3 j (omega arith))
+    let inv = c .before .before .loop .inv in
+    (inv .1, inv .2, record { starts = inv .3; putOff = λ pool l. inv .4 pool (omega arith) })
 
 pub event-spec : {M : Type 1} → statement M
 event-spec =
@@ -69,10 +68,10 @@ event-spec =
     (tie.spec
     Inv-loop
     μ-loop
+    last-start-requires
     loop-holds
-    mul-later-start
-    element-copy-out-later-start
-    later-start-requires
+    array-read-later-event
+    later-event-requires
     add-k
     loop-less
     loop-again

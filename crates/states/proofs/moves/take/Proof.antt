@@ -20,12 +20,12 @@ joins-as : (sets numbers : List ℕ) (t t′ i start start′ : ℕ) (m r : Minu
     → JoinsStep sets numbers t i start m r → JoinsStep sets numbers t′ i start′ m r
 joins-as sets numbers t t′ i start start′ m r e f joins = rw (← e, ← f) joins
 
-joins-uses-as : (numbers : List ℕ) (t t′ i start start′ : ℕ) (uses r : Uses) → t ≡ t′ → start ≡ start′
-    → JoinsUses numbers t i start uses r → JoinsUses numbers t′ i start′ uses r
-joins-uses-as numbers t t′ i start start′ uses r e f joins = rw (← e, ← f) joins
+joins-uses-as : (numbers handovers : List ℕ) (t t′ i start start′ : ℕ) (uses r : Uses) → t ≡ t′ → start ≡ start′
+    → JoinsUses numbers handovers t i start uses r → JoinsUses numbers handovers t′ i start′ uses r
+joins-uses-as numbers handovers t t′ i start start′ uses r e f joins = rw (← e, ← f) joins
 
 start-of-requires : tie.Need-start-of-requires
-start-of-requires c κs = let h = c .before .before .pre in (h .1, h .2, h .5)
+start-of-requires c κs = let h = c .before .before .before .pre in (h .1, h .2, h .5)
 
 wide-requires : tie.Need-wide-requires
 wide-requires c κs = tt
@@ -41,7 +41,7 @@ mul-common-2 c = search needs
 
 shared-slice-read-common : tie.Need-shared-slice-read-common
 shared-slice-read-common c =
-    let c-pre = c .before .before .before .before .before .before .pre in
+    let c-pre = c .before .before .before .before .before .before .before .pre in
     let h = c-pre in omega arith
 
 common-requires : tie.Need-common-requires
@@ -49,19 +49,20 @@ common-requires c κs = tt
 
 push-requires : tie.Need-push-requires
 push-requires c κs =
-    let c-pre = c .before .before .before .before .before .before .before .pre in
+    let c-pre = c .before .before .before .before .before .before .before .before .pre in
     c-pre .3
 
 joined-requires : tie.Need-joined-requires
 joined-requires c κs =
-    let c-pre = c .before .before .before .before .before .before .before .before .pre in
+    let c-pre = c .before .before .before .before .before .before .before .before .before .pre in
     let h = c-pre in (h .0, h .1, h .2, h .4)
 
 joined-requires-2 : tie.Need-joined-requires-2
 joined-requires-2 c κs =
     let at8 = c .before .before .before .before .before .before .before .before in
-    let c-pre = at8 .before .pre in
-    let h = c-pre in (h .1, h .2, h .4, h .6)
+    let c-pre = at8 .before .before .pre in
+    let c-wide = c .before .before .before .before .before .wide in
+    let h = c-pre in (h .1, h .2, h .4, h .6, c-wide .ensures .1)
 
 union-requires : tie.Need-union-requires
 union-requires c κs = tt
@@ -69,7 +70,7 @@ union-requires c κs = tt
 returns : tie.Need-returns
 returns c =
     let at8 = c .before .before .before .before .before .before .before .before in
-    let c-args = at8 .before .before .before .args in
+    let c-args = at8 .before .before .before .before .args in
     let c-start-of = c .before .before .before .before .before .before .before .before .start-of in
     let c-wide = c .before .before .before .before .before .before .before .wide in
     let c-common = c .before .before .before .before .common in
@@ -82,7 +83,7 @@ returns c =
       minute = refl;
       wanted = refl;
       at = joins-as _ _ _ _ _ _ _ _ _ now start (c .before .before .joined .ensures);
-      uses = joins-uses-as _ _ _ _ _ _ _ _ now start (c .before .joined2 .ensures);
+      uses = joins-uses-as _ _ _ _ _ _ _ _ _ now start (c .before .joined2 .ensures);
       twice = λ n. c .union .ensures .1 n ∙ ap (λ (b : Bool). has (at .st .twice) n || b) (c-common .ensures n);
       since = refl;
     }
