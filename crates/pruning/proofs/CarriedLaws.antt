@@ -23,7 +23,7 @@ use Rattle.tables.specs.declared.Frame.{Frame}
 use Rattle.states.specs.declared.state.State.{State}
 use Rattle.states.specs.Minutes.{runsInto}
 use Rattle.states.specs.States.{Stands}
-use Rattle.states.specs.Moves.{NoStartBetween}
+use Rattle.states.specs.Moves.{NoEventBetween}
 use Rattle.states.proofs.CandidateLaws.{below-next}
 use Rattle.states.proofs.Events.{untouched-between}
 use Rattle.states.proofs.Chosen.{stepAt, place-of-chosen, chosen-at-place}
@@ -80,15 +80,15 @@ module _ (J : Job) (sets numbers : List ℕ) (frame : Frame) (described : Descri
   done a = not (has left a)
 
   -- ---- the event minute
-  pub event-before : (from s : ℕ) → NoStartBetween (st .steps) from t → LatestStart numbers left t from 64 s
-      → EventBefore J t s done L
+  pub event-before : (from s : ℕ) → NoEventBetween (frame .handovers) (frame .pools) (st .steps) from t
+      → LatestStart numbers left t from 64 s → EventBefore J t s done L
   event-before from s none latest =
       let before = latest .before in
       let after = latest .notBefore in
       let count = described .actions in
       record {
         earlier = before;
-        noEvent = λ m a b. untouched-between J (st .steps) from t none m (omega arith) b;
+        noEvent = λ m a b. untouched-between J sets numbers frame described (st .steps) from t none m (omega arith) b;
         openStarts = λ a known undecided.
             let d = described .each a (omega arith) in
             let duration = d .duration in

@@ -3,6 +3,7 @@ ghost use mathlib.Core.Path.{_≡_};
 ghost use Prim.Native.Nat.{_≤_, _<_};
 ghost use lib.ListN.{length};
 ghost use Rattle.tables.specs.Tables.{Known, Lent};
+ghost use Rattle.states.specs.Moves.{NoEventBetween};
 ghost use Rattle.pruning.specs.Carried.{FitAll, AddsOf, LatestStart, DeadUnlessCarried};
 use earliest::set_time;
 use states::minute;
@@ -49,15 +50,15 @@ pub fn in_time(
     frame: Frame,
     st: State,
     left: u64,
+    last: u16,
 ) -> bool
     requires { ⌜ Lent (now sets) (now numbers) (frame .actions) × Known (frame .actions) (st .steps)
         × (length (now times) ≡ 2080) × (frame .facts ≤ 64) × FitAll (now numbers) frame st left
-        × (frame .first < st .minute) × Known (frame .actions) (frame .kept) × (frame .origin ≤ frame .first) ⌝ }
-    ensures { λ r. ⌜ DeadUnlessCarried (now (sets .entry)) (now (numbers .entry)) (now (times .entry))
-        frame st left r ⌝ }
+        × (frame .first < st .minute) × Known (frame .actions) (frame .kept) × (frame .origin ≤ frame .first)
+        × (frame .first ≤ last) × (last < st .minute) ⌝ }
+    ensures { λ r. ⌜ (NoEventBetween (frame .handovers) (frame .pools) (st .steps) last (st .minute)
+        → DeadUnlessCarried (now (sets .entry)) (now (numbers .entry)) (now (times .entry)) frame st left r) ⌝ }
 {
-    let steps = st.steps;
-    let last = moves::event(steps, frame.first, st.minute);
     let event = latest_start(numbers, frame, st, left, last);
     let minute = minute::wide(event);
     let kept = frame.kept;

@@ -21,11 +21,11 @@ use Rattle.regression.specs.DeadEnd.{Until, Open}
 use Rattle.regression.proofs.Decisions.{alsoDecided, dead-choose, dead-decided}
 use Rattle.regression.proofs.Decisions.{dead-when-barred, dead-when-none-decided}
 use Rattle.regression.proofs.Minutes.{no-event, dead-back-to-event}
-use Rattle.tables.specs.Tables.{chosen, fromOf}
+use Rattle.tables.specs.Tables.{Describes, chosen, fromOf}
 use Rattle.tables.specs.declared.Frame.{Frame}
 use Rattle.states.specs.declared.state.State.{State}
 use Rattle.states.specs.States.{DeadFor, Barred, nextStep, OpenIn}
-use Rattle.states.specs.Moves.{NoStartBetween}
+use Rattle.states.specs.Moves.{NoEventBetween}
 use Rattle.states.proofs.Events.{untouched-between}
 
 -- the set of all ones has every fact below 64
@@ -79,10 +79,14 @@ module _ (J : Job) (frame : Frame) (st : State) where
       (λ a known. ap not (in-all-facts a (omega arith))) dead
 
   -- ---- back to the event before
-  module _ (inTime : st .minute ≤ frame .horizon) (s : ℕ)
-      (earlier : s < st .minute) (none : NoStartBetween (st .steps) s (st .minute)) where
+  module _ (sets numbers : List ℕ) (described : Describes J sets numbers frame) (inTime : st .minute ≤ frame .horizon)
+      (s : ℕ) (earlier : s < st .minute)
+      (none : NoEventBetween (frame .handovers) (frame .pools) (st .steps) s (st .minute)) where
     pub dead-back : DeadFor J frame (Until (fromOf frame) s) L → DeadFor J frame (OpenIn frame st 0) L
     dead-back dead =
         dead-back-to-event J (fromOf frame) (frame .goal) (frame .horizon) L s t earlier (λ a. not (has 0 a))
         (λ a l. ap not (has-zero a))
-        (λ m a b. no-event J (frame .horizon) L m (λ e. omega arith) (untouched-between J (st .steps) s t none m a b)) dead
+        (λ m a b.
+        no-event J (frame .horizon) L m (λ e. omega arith)
+        (untouched-between J sets numbers frame described (st .steps) s t none m a b))
+        dead

@@ -57,6 +57,7 @@ module _ (file sets numbers times : List ℕ) (frame : Frame) (T : ℕ) (within 
           stores = task .described .stores;
           available = task .described .available;
           stocks = task .described .stocks;
+          handovers = task .described .handovers;
           inTime = omega arith;
           each = task .described .each;
         };

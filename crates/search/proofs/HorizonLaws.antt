@@ -42,7 +42,7 @@ pub record Begins (sets numbers : List ℕ) (frame : Frame) (st : State) : Type 
   pub minute : st .minute ≡ frame .horizon
   pub wanted : st .wanted ≡ frame .goal
   pub at : LooksAt sets numbers (frame .actions) (st .steps) (frame .horizon) (st .at)
-  pub uses : LooksUses numbers (frame .actions) (st .steps) (frame .horizon) (st .uses)
+  pub uses : LooksUses numbers (frame .handovers) (frame .actions) (st .steps) (frame .horizon) (st .uses)
   pub twice : st .twice ≡ 0
   pub since : st .since ≡ frame .kept .count
 
@@ -106,7 +106,7 @@ module _ (sets numbers times : List ℕ) (frame : Frame) (whole : Whole sets num
         wants = rw (begins .wanted, begins .minute)
             (sym (wanted-at-horizon (frame .goal) (chosen J (st .steps)) (frame .horizon)));
         at = rw (begins .minute) (begins .at J (described .each));
-        uses = rw (begins .minute) (begins .uses .looks J sets (described .each));
+        uses = rw (begins .minute) (begins .uses .looks J sets (described .each) (described .handovers));
         twice = λ n h. absurd (true≢false (sym h ∙ ap (λ (set : ℕ). has set n) (begins .twice) ∙ has-zero n));
         enders = λ k a b.
             let c = ap (λ (s : Steps). s .count) (begins .steps) in let d = begins .since in absurd (omega arith);
@@ -152,7 +152,7 @@ solved-by-finish file sets numbers times frame r whole early finishes =
 
 pub begins-with-goal : (sets numbers : List ℕ) (frame : Frame) (t : ℕ) (at : Minute) (uses : Uses)
     → t ≡ frame .horizon → LooksAt sets numbers (frame .actions) (frame .kept) t at
-    → LooksUses numbers (frame .actions) (frame .kept) t uses
+    → LooksUses numbers (frame .handovers) (frame .actions) (frame .kept) t uses
     → Begins sets numbers frame (record {
       steps = frame .kept;
       minute = frame .horizon;

@@ -17,7 +17,7 @@ use Rattle.leaf.specs.declared.Answer.{Answer}
 use Rattle.leaf.specs.Answer.{Finishes}
 use Rattle.states.specs.declared.state.State.{State}
 use Rattle.states.specs.States.{Stands, DeadFor, nextStep, MayStop, OpenIn}
-use Rattle.states.specs.Moves.{Taken, Back, NoStartBetween}
+use Rattle.states.specs.Moves.{Taken, Back, NoEventBetween}
 use Rattle.pruning.specs.Missing.{Fresh}
 use Rattle.search.specs.Search.{TaskOf, Ready}
 use Rattle.states.proofs.Chosen.{known-pushed, keeps-pushed, starts-pushed}
@@ -33,7 +33,7 @@ starts-in-time {sets} {numbers} {frame} {st} {i} may = fits-in-time numbers fram
 -- ---- an action taken
 module _ (sets numbers times : List ℕ) (frame : Frame) (st : State) (ready : Ready sets numbers times frame st) (i : ℕ)
     (known : i < frame .actions) (may : MayStop sets numbers frame st i true) (r : State)
-    (taken : Taken sets numbers st i r) where
+    (taken : Taken sets numbers (frame .handovers) st i r) where
   known-taken : Known (frame .actions) (r .steps)
   known-taken =
       rw (taken .steps) (known-pushed (st .steps) (frame .actions) i _ (ready .safe .known) (may .room refl) known)
@@ -96,8 +96,8 @@ module _ (sets numbers times : List ℕ) (frame : Frame) (st : State) (ready : R
 
 -- ---- back to the event before
 module _ (sets numbers times : List ℕ) (frame : Frame) (st : State) (ready : Ready sets numbers times frame st)
-    (r : State) (back : Back sets numbers (frame .actions) (r .minute) st r) (notBefore : frame .first ≤ r .minute)
-    (earlier : r .minute < st .minute) (none : NoStartBetween (st .steps) (r .minute) (st .minute)) where
+    (r : State) (s : ℕ) (back : Back sets numbers frame s st r) (notBefore : frame .first ≤ s) (earlier : s < st .minute)
+    (none : NoEventBetween (frame .handovers) (frame .pools) (st .steps) s (st .minute)) where
   pub ready-back : Ready sets numbers times frame r
   ready-back =
       let since = back .since in
@@ -113,8 +113,8 @@ module _ (sets numbers times : List ℕ) (frame : Frame) (st : State) (ready : R
         };
         timeCount = ready .timeCount;
         facts = ready .facts;
-        notBefore = notBefore;
-        minute = let m = ready .minute in omega arith;
+        notBefore = let e = back .minute in omega arith;
+        minute = let m = ready .minute in let e = back .minute in omega arith;
         starts = rw (back .steps) (ready .starts);
         kept = rw (back .steps) (ready .kept);
         keptKnown = ready .keptKnown;
@@ -127,14 +127,14 @@ module _ (sets numbers times : List ℕ) (frame : Frame) (st : State) (ready : R
   pub stands-back : (J : Job) (file : List ℕ) → TaskOf J file sets numbers times frame → Stands J frame st
       → Stands J frame r
   stands-back J file task stands =
-      back-stands J sets numbers frame (task .described) st r (r .minute) back stands earlier none
+      back-stands J sets numbers frame (task .described) st r s back stands earlier none
 
   pub dead-when-back : (J : Job) (file : List ℕ) → TaskOf J file sets numbers times frame → Stands J frame st
       → DeadFor J frame (Until (fromOf frame) (r .minute)) (chosen J (r .steps))
       → DeadFor J frame (OpenIn frame st 0) (chosen J (st .steps))
   dead-when-back J file task stands dead =
-      dead-back J frame st (stands .inTime) (r .minute) earlier none
-      (rw (← back .steps) dead)
+      dead-back J frame st sets numbers (task .described) (stands .inTime) s earlier none
+      (rw (← back .minute, ← back .steps) dead)
 
 -- ---- the first minute
 pub dead-when-unfinished : (J : Job) (file sets numbers times : List ℕ) (frame : Frame) (st : State) (r : Answer)

@@ -26,6 +26,7 @@ until frame T =
       stores = frame .stores;
       available = frame .available;
       stocks = frame .stocks;
+      handovers = frame .handovers;
       start = frame .start;
       goal = frame .goal;
       first = frame .first;

@@ -39,7 +39,7 @@ pub fn solve(sets: &[u64], numbers: &[u32], times: &[u32], file: &[u8], frame: F
         minute: frame.horizon,
         wanted: frame.goal,
         at: at,
-        uses: amounts::look(numbers, frame.actions, steps, minute),
+        uses: amounts::look(numbers, frame, steps, minute),
         twice: 0,
         since: steps.count,
     };

@@ -33,7 +33,7 @@ fn attempt(
         (NoneFrom (now (file .entry)) (now (sets .entry)) (now (numbers .entry)) (now (times .entry)) frame st
         (OpenIn frame st left) (λ J. nextStep J st i ∷ chosen J (st .steps))) r ⌝ }
 {
-    let next = moves::take(sets, numbers, st, i);
+    let next = moves::take(sets, numbers, frame, st, i);
     if !tests::all_needed(sets, frame.actions, next) {
         return leaf::nothing();
     }
@@ -60,10 +60,11 @@ fn choose(
         (NoneFrom (now (file .entry)) (now (sets .entry)) (now (numbers .entry)) (now (times .entry)) frame st
         (OpenIn frame st undecided) (λ J. chosen J (st .steps))) r ⌝ }
 {
+    let last = moves::event(st.steps, frame, st.minute);
     let mut left = rules::candidates(sets, numbers, frame, st, undecided);
-    while carried::in_time(sets, numbers, times, frame, st, left) {
+    while carried::in_time(sets, numbers, times, frame, st, left, last) {
         if left == 0 {
-            let before = moves::back(sets, numbers, frame, st);
+            let before = moves::back(sets, numbers, frame, st, last);
             return regress(sets, numbers, times, file, frame, before);
         }
         let i = rules::pick(numbers, left);

@@ -12,9 +12,6 @@ use borrow.Author.Needs.{needs}
 use Rattle.pruning.proofs.carried.in_time.Statement.{statement}
 use Rattle.pruning.proofs.carried.in_time.Tie as tie
 
-event-requires : tie.Need-event-requires
-event-requires c κs = search needs
-
 latest-start-requires : tie.Need-latest-start-requires
 latest-start-requires c κs = search needs
 
@@ -54,34 +51,31 @@ by-requires c κs = search needs
 returns : tie.Need-returns
 returns c =
     let at8 = c .before .before .before .before .before .before .before .before in
-    let at16 = at8 .before .before .before .before .before .before .before .before in
-    let c-args = at16 .before .args in
-    let c-pre = at16 .before .pre in
-    let c-event = at8 .before .before .before .before .event in
+    let c-args = at8 .before .before .before .before .before .before .before .args in
+    let c-pre = at8 .before .before .before .before .before .before .before .pre in
     let c-latest-start = at8 .before .before .before .latest-start in
     let c-wide = at8 .before .before .wide in
-    let c-wide2 = at8 .wide2 in
+    let c-wide2 = c .before .before .before .before .before .before .before .before .wide2 in
     let c-gone = c .before .before .before .before .before .before .before .gone in
     let c-adds-of = c .before .before .before .before .before .before .adds-of in
     let c-union = c .before .before .before .before .before .union in
     let c-union2 = c .before .before .before .before .union2 in
     let c-difference = c .before .before .before .difference in
     let c-union3 = c .before .before .union3 in
-    let c-wide3 = c .before .wide3 in
-    λ e J described timely keeps stands.
+    λ none e J described timely keeps stands.
     let at = c-args in
     let few = c-pre .0 .amounts .few in
     let w = c-wide .ensures .0 in
-    let o = c-wide3 .ensures .0 in
+    let o = c .before .wide3 .ensures .0 in
     let late = c .by .ensures e in
     let s : ℕ = c-latest-start .result in
-    let after = c-event .ensures .0 in
+    let after = c-pre .8 in
     let latest = c-latest-start .ensures .notBefore in
     let early = c-latest-start .ensures .before in
     let inTime = stands .inTime in
     let origin = c-pre .7 in
     let event = event-before J (at .sets .now) (at .numbers .now) (at .frame) described few (at .st) stands keeps
-    (at .left) _ _ (c-event .ensures .2) (c-latest-start .ensures) in
+    (at .left) _ _ none (c-latest-start .ensures) in
     let given = c-gone .ensures J (described .each)
     ∙ ap₂ (λ (a b : ℕ). addedBetween a b (keptOf J (at .frame))) w (c-wide2 .ensures .0) in
     let is = c-union3 .ensures .0
@@ -98,7 +92,6 @@ pub in-time-spec : {M : Type 1} → statement M
 in-time-spec =
     tie.close
     (tie.spec
-    event-requires
     latest-start-requires
     wide-requires
     wide-requires-2

@@ -33,6 +33,7 @@ pub +attempt+choose+regress-spec : {M : Type 1} → statement M
     (attempt-needs.choose-requires t)
     (attempt-needs.returns-3 t))
     (λ t. choose-lts.spec (choose-needs.calls t) (choose-at t) choose.Post choose-needs.Inv choose-needs.μ-left
+    (choose-needs.event-requires t)
     (choose-needs.candidates-requires t)
     (choose-needs.loop-holds t)
     (choose-needs.in-time-requires t)

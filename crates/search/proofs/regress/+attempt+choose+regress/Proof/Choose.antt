@@ -24,6 +24,7 @@ use Rattle.facts.proofs.single.Reads as single-reads
 use Rattle.leaf.proofs.nothing.Reads as nothing-reads
 use Rattle.pruning.proofs.carried.in_time.Reads as in-time-reads
 use Rattle.states.proofs.moves.back.Reads as back-reads
+use Rattle.states.proofs.moves.event.Reads as event-reads
 use Rattle.states.proofs.rules.candidates.Reads as candidates-reads
 use Rattle.states.proofs.rules.pick.Reads as pick-reads
 use Rattle.search.proofs.regress.+attempt+choose+regress.Proof.Cycle.{choose-at, attempt-below, regress-below}
@@ -31,6 +32,8 @@ use Rattle.search.proofs.regress.+attempt+choose+regress.Proof.Cycle.{c
 -- what the functions that `choose` calls ask and promise
 abbrev pub calls : ℕ → lts.Claims
 calls t = (
+  event-reads.Asked,
+  event-reads.Learnt,
   candidates-reads.Asked,
   candidates-reads.Learnt,
   in-time-reads.Asked,
@@ -53,7 +56,7 @@ calls t = (
 
 -- what the loop keeps: the actions left may stop now, and where they make a dead end, the undecided ones do
 abbrev pub Inv : lts.InvT-loop
-Inv sets numbers times file frame st undecided left₀ left =
+Inv sets numbers times file frame st undecided last left₀ left =
     (left ≤ undecided)
     × ((a : ℕ) → has left a ≡ true → (a < frame .actions) × MayStop sets numbers frame st a true)
     × ((J : Job) → TaskOf J file sets numbers times frame → Stands J frame st
@@ -62,17 +65,22 @@ Inv sets numbers times file frame st undecided left₀ left =
 
 -- and what falls in it: the set of the actions left, as a number
 abbrev pub μ-left : lts.MeasureT-loop
-μ-left sets numbers times file frame st undecided left₀ left = left
+μ-left sets numbers times file frame st undecided last left₀ left = left
+
+pub event-requires : (t : ℕ) → lts.Need-event-requires (calls t) (choose-at t) choose.Post Inv μ-left
+event-requires t c κs =
+    let c-pre = c .before .before .before .before .pre in
+    let h = c-pre .1 in (h .0 .safe .known .few, h .1, h .0 .safe .pools)
 
 pub candidates-requires : (t : ℕ) → lts.Need-candidates-requires (calls t) (choose-at t) choose.Post Inv μ-left
 candidates-requires t c κs =
-    let c-pre = c .before .before .before .before .pre in
+    let c-pre = c .before .before .before .before .before .pre in
     let h = c-pre .1 in let l = h .1 in (h .0 .safe, omega arith)
 
 pub loop-holds : (t : ℕ) → lts.Need-loop-holds (calls t) (choose-at t) choose.Post Inv μ-left
 loop-holds t c =
-    let c-args = c .before .before .before .before .before .args in
-    let c-pre = c .before .before .before .before .before .pre in
+    let c-args = c .before .before .before .before .before .before .args in
+    let c-pre = c .before .before .before .before .before .before .pre in
     let found = c .candidates .ensures in (
       subset-at-most _ _ (found .within),
       found .may,
@@ -86,9 +94,10 @@ loop-holds t c =
 
 pub in-time-requires : (t : ℕ) → lts.Need-in-time-requires (calls t) (choose-at t) choose.Post Inv μ-left
 in-time-requires t c κs =
-    let c-pre = c .before .before .before .before .before .before .pre in
+    let c-pre = c .before .before .before .before .before .before .before .pre in
     let h = c-pre .1 in
     let ready = h .0 in
+    let event = c .before .before .event .ensures in
     let inv = c .loop .inv in (
       ready .safe .lent,
       ready .safe .known,
@@ -98,37 +107,42 @@ in-time-requires t c κs =
       h .1,
       ready .keptKnown,
       ready .origin,
+      event .0,
+      event .1,
     )
 
 pub back-requires : (t : ℕ) → lts.Need-back-requires (calls t) (choose-at t) choose.Post Inv μ-left
 back-requires t c κs =
     let at8 = c .before .before .before .before .before .before .before .before in
-    let c-pre = at8 .before .pre in
-    let h = c-pre .1 in (h .0 .safe .lent, h .0 .safe .known, h .1)
+    let c-pre = at8 .before .before .pre in
+    let h = c-pre .1 in (h .0 .safe .lent, h .0 .safe .known)
 
 pub regress-requires : (t : ℕ) → lts.Need-regress-requires (calls t) (choose-at t) choose.Post Inv μ-left
 regress-requires t c κs =
     let at8 = c .before .before .before .before .before .before .before .before in
-    let c-pre = at8 .before .before .pre in
-    let c-args = at8 .before .before .args in
+    let c-pre = at8 .before .before .before .pre in
+    let c-args = at8 .before .before .before .args in
     let m = c-pre .0 in
     let h = c-pre .1 in
+    let e = c .before .before .before .before .before .before .event .ensures in
     let b = c .back .ensures in
-    let earlier = b .2 in (
+    let earlier = e .1 in
+    let there = b .minute in (
       omega arith,
       (
-        ready-back _ _ _ (c-args .frame) (c-args .st) (h .0) _ (b .0) (b .1) (b .2) (b .3),
-        fresh-back _ _ _ (c-args .frame) (c-args .st) (h .0) _ (b .0) (b .1) (b .2) (b .3),
+        ready-back _ _ _ (c-args .frame) (c-args .st) (h .0) _ _ b (e .0) (e .1) (e .2),
+        fresh-back _ _ _ (c-args .frame) (c-args .st) (h .0) _ _ b (e .0) (e .1) (e .2),
       ),
     )
 
 pub returns : (t : ℕ) → lts.Need-returns (calls t) (choose-at t) choose.Post Inv μ-left
 returns t c =
     let at8 = c .before .before .before .before .before .before .before .before in
-    let c-pre = at8 .before .before .before .pre in
-    let c-args = at8 .before .before .before .args in
+    let c-pre = at8 .before .before .before .before .pre in
+    let c-args = at8 .before .before .before .before .args in
     let c-loop = c .before .before .before .before .before .loop in
     let h = c-pre .1 in
+    let event = c .before .before .before .before .before .before .before .event .ensures in
     let b = c .before .back .ensures in
     let inv = c-loop .inv in
     let none : c-loop .left ≡ 0 = omega arith in
@@ -137,9 +151,10 @@ returns t c =
       dead = λ e J task stands.
           inv .2 J task stands
           (rw none
-          (dead-when-back _ _ _ (c-args .frame) (c-args .st) (h .0) _ (b .0) (b .1) (b .2) (b .3) J _ task stands
+          (dead-when-back _ _ _ (c-args .frame) (c-args .st) (h .0) _ _ b (event .0) (event .1) (event .2) J _ task stands
           (c .regress .ensures .dead e J task
-          (stands-back _ _ _ (c-args .frame) (c-args .st) (h .0) _ (b .0) (b .1) (b .2) (b .3) J _ task stands))));
+          (stands-back _ _ _ (c-args .frame) (c-args .st) (h .0) _ _ b (event .0) (event .1) (event .2) J _ task
+          stands))));
     }
 
 pub pick-requires : (t : ℕ) → lts.Need-pick-requires (calls t) (choose-at t) choose.Post Inv μ-left
@@ -154,7 +169,7 @@ difference-requires t c κs = tt
 pub attempt-requires : (t : ℕ) → lts.Need-attempt-requires (calls t) (choose-at t) choose.Post Inv μ-left
 attempt-requires t c κs =
     let at8 = c .before .before .before .before .before .before .before .before in
-    let c-pre = at8 .before .before .before .before .pre in
+    let c-pre = at8 .before .before .before .before .before .pre in
     let c-loop = c .before .before .before .before .before .before .loop in
     let c-pick = c .before .before .pick in
     let m = c-pre .0 in
@@ -185,7 +200,7 @@ loop-less t c =
 pub loop-again : (t : ℕ) → lts.Need-loop-again (calls t) (choose-at t) choose.Post Inv μ-left
 loop-again t c =
     let at8 = c .before .before .before .before .before .before .before .before in
-    let c-args = at8 .before .before .before .before .before .before .args in
+    let c-args = at8 .before .before .before .before .before .before .before .args in
     let c-loop = c .before .before .before .before .before .before .before .before .loop in
     let c-pick = c .before .before .before .before .pick in
     let c-single = c .before .before .before .single in
@@ -211,13 +226,14 @@ nothing-requires t c κs = tt
 pub returns-3 : (t : ℕ) → lts.Need-returns-3 (calls t) (choose-at t) choose.Post Inv μ-left
 returns-3 t c =
     let at8 = c .before .before .before .before .before .before .before .before in
-    let c-pre = at8 .before .pre in
+    let c-pre = at8 .before .before .pre in
     let c-loop = c .before .before .before .loop in
+    let c-event = c .before .before .before .before .before .event in
     let none = ap (λ (a : Answer). a .found) (c .nothing .ensures) in
     record {
       found = λ e. absurd (true≢false (sym e ∙ none));
       dead = λ e J task stands.
           c-loop .inv .2 J task stands
-          (c .before .before .in-time .ensures (c .before .if1 .left) J (task .described) (task .timely)
+          (c .before .before .in-time .ensures (c-event .ensures .2) (c .before .if1 .left) J (task .described) (task .timely)
           (c-pre .1 .0 .kept) stands);
     }
