@@ -9,9 +9,10 @@ use Rattle.job.specs.declared.Action as act
 use Rattle.job.specs.declared.Job as held
 use Rattle.job.specs.Job.{Action, Job}
 
--- "a share is free again in the minute its step ends": how many minutes a share of the pool stays in use after its step
+-- "Each pool gets a handover of 0 to 30 minutes, and a share stays in use that long after its step." A job whose form
+-- has no handovers means 0
 unfoldable pub handover : Job → ℕ → ℕ
-handover J pool = 0
+handover J pool = getD (J .handovers) pool 0
 
 -- how much of the store a step of the action uses up
 unfoldable pub storeAmount : Job → ℕ → Action → ℕ

@@ -3,13 +3,19 @@ ghost use mathlib.Core.Path.{_≡_};
 ghost use Rattle.job.specs.Job.{jobIn};
 ghost use Rattle.job.specs.Resources.{HandoversOf, chargedIn, allowedIn};
 use crate::Action;
+use crate::Form;
 use crate::Job;
 
 // How many minutes a share of each pool stays in use after its step.
 pub fn handovers(job: Job) -> [u8; Job::POOLS]
     ensures { λ r. ⌜ HandoversOf (jobIn job) r ⌝ }
 {
-    [0u8; Job::POOLS]
+    let form = job.form;
+    let handovers = job.handovers;
+    match form {
+        Form::Four => [0u8; Job::POOLS],
+        Form::Five => handovers,
+    }
 }
 
 // What a step of the action uses up of each store.
