@@ -18,7 +18,7 @@ use Rattle.job.proofs.Resuming.{job-in-resumed}
 use Rattle.job.proofs.Rows.{fits-of-pass}
 use Rattle.timeline.specs.Step.{Step}
 use Rattle.tables.specs.declared.Frame.{Frame}
-use Rattle.tables.specs.Filled.{Filled, frameOf}
+use Rattle.tables.specs.Filled.{Filled, frameOf, FramedAs}
 use Rattle.tables.specs.Tables.{Numbers, Describes, Known, chosen}
 use Rattle.tables.proofs.Describing.{ByteDurations, describes}
 use Rattle.landmarks.specs.Bounds.{AddedByNew}
@@ -109,12 +109,15 @@ known-actions day task fits =
 
 -- day is a value of the job, and frame the frame of the task
 module _ (day : held.Job) (task : Task) (fits : TaskFits (jobIn day) task) (frame : Frame)
-    (same : frame ≡ frameOf day (task .goal) (task .first) (task .kept)) where
+    (framed : FramedAs day (task .goal) (task .first) (task .kept) frame) where
   abbrev J : Job
   J = jobIn day
 
   abbrev whole : Frame
-  whole = frameOf day (task .goal) (task .first) (task .kept)
+  whole = frameOf day (task .goal) (task .first) (task .kept) (frame .handovers)
+
+  same : frame ≡ whole
+  same = framed .same
 
   passes : first (jobRows J) ≡ Pass
   passes = fits .passes
@@ -124,7 +127,9 @@ module _ (day : held.Job) (task : Task) (fits : TaskFits (jobIn day) task) (fram
 
   module _ (sets numbers : List ℕ) (filled : Filled day sets numbers) where
     described : Describes J sets numbers whole
-    described = describes day sets numbers filled passes (task .goal) (task .first) (task .kept)
+    described =
+        describes day sets numbers filled passes (task .goal) (task .first) (task .kept) (frame .handovers)
+        (framed .handovers)
 
     pub numbers-of-frame : Numbers numbers (frame .actions)
     numbers-of-frame =
