@@ -1,4 +1,5 @@
-// The writer: a job and a lent slice in; the file at the front of the slice, or the first refusal of 3 to 11, 26, 23.
+// The writer: a job and a lent slice in; the file at the front of the slice, or the first refusal of 3 to 11, 27,
+// 26, 23.
 mod encode; // the parts of a file
 
 ghost use Rattle.job.specs.Job.{jobIn};
