@@ -14,7 +14,7 @@ use Rattle.job.specs.declared.Form.{Form}
 use Rattle.job.specs.declared.Form.the-variants.{Four, Five}
 use Rattle.job.proofs.Values.{Shape}
 use Rattle.jobfile.specs.File.{headBytes, amountBytes, actionBytes, handoverBytes, extraBodies, bodies, contents}
-use Rattle.jobfile.specs.File.{contentBytes, fileOf}
+use Rattle.jobfile.specs.File.{contentNumbers, fileOf}
 use Rattle.jobfile.proofs.Lengths.{length-contents, length-amounts, length-head, length-handovers, extra-bytes}
 use Rattle.jobfile.proofs.Lengths.{count-bodies}
 
@@ -82,7 +82,7 @@ write-head o at J l =
 -- with n entries and x, y and z bytes of pools, stores and actions
 abbrev pub fileWrites : Job → ℕ → ℕ → ℕ → ℕ → List (ℕ × List ℕ)
 fileWrites J n x y z =
-    (0, contentBytes (bodies J))
+    (0, joined (toBytes 2) (contentNumbers (bodies J)))
     ∷ (4 * n, headBytes J)
     ∷ (4 * n + 19, amountBytes (J .pools))
     ∷ (4 * n + 19 + x, amountBytes (J .stores))
@@ -123,18 +123,17 @@ module _ (J : Job) (h : Shape J) (x y z : ℕ) (ex : length (J .pools) * 4 ≡ x
       ∷ []
 
   -- of which a form has the first
-  pub contents-of : contents (4 * length (bodies J)) (bodies J)
-      ≡ firsts (2 * entries (J .form)) 0
-      (numbersOf (4 * entries (J .form)) (handoverCount (J .form) (length (J .pools))))
+  pub contents-of : (at w : ℕ) → at ≡ 4 * entries (J .form) → w ≡ handoverCount (J .form) (length (J .pools))
+      → firsts (2 * entries (J .form)) 0 (numbersOf at w) ≡ contentNumbers (bodies J)
   unfolding tabulate
-  contents-of =
-      rw (count-bodies J, length-head J, length-amounts (J .pools), length-amounts (J .stores), ex, ey, ez)
-      (by-form (J .form) (h .handovers) (4 * entries (J .form)))
+  contents-of at w ea ew =
+      rw (count-bodies J, length-head J, length-amounts (J .pools), length-amounts (J .stores), ex, ey, ez, ← ea)
+      (sym (by-form (J .form) (h .handovers) w ew at))
     where
       by-form : (form : Form) → length (J .handovers) ≡ handoverCount form (length (J .pools))
-          → (at : ℕ)
+          → (w : ℕ) → w ≡ handoverCount form (length (J .pools)) → (at : ℕ)
           → at ∷ 19 ∷ (at + 19) ∷ x ∷ (at + 19 + x) ∷ y ∷ (at + 19 + x + y) ∷ z
           ∷ contents (at + 19 + x + y + z) (extraBodies form J)
-          ≡ firsts (2 * entries form) 0 (numbersOf at (handoverCount form (length (J .pools))))
-      by-form Four e at = refl
-      by-form Five e at = rw (length-handovers (J .handovers), e)
+          ≡ firsts (2 * entries form) 0 (numbersOf at w)
+      by-form Four e w ew at = refl
+      by-form Five e w ew at = rw (length-handovers (J .handovers), e, ew)

@@ -59,11 +59,11 @@ contents at (body ∷ rest) = at ∷ length body ∷ contents (at + length body)
 
 -- "Contents come first. The bodies follow in the same order without gaps: the first offset is 16", or 20: 4 for each
 -- body
-abbrev pub contentBytes : List (List ℕ) → List ℕ
-contentBytes bs = joined (toBytes 2) (contents (4 * length bs) bs)
+abbrev pub contentNumbers : List (List ℕ) → List ℕ
+contentNumbers bs = contents (4 * length bs) bs
 
 abbrev pub fileOfBodies : List (List ℕ) → List ℕ
-fileOfBodies bs = contentBytes bs ++ joined (λ body. body) bs
+fileOfBodies bs = joined (toBytes 2) (contentNumbers bs) ++ joined (λ body. body) bs
 
 unfoldable pub fileOf : Job → List ℕ
 fileOf J = fileOfBodies (bodies J)

@@ -4,70 +4,80 @@ ghost use Prim.Native.Nat.{_+_, _*_, _≤_};
 ghost use lib.ListN.{length};
 ghost use Rattle.lists.specs.Lists.{firsts};
 ghost use Rattle.encoding.specs.Bytes.{toBytes, joined, overwrite};
-ghost use Rattle.job.specs.Job.{actionIn, jobIn, Fits};
-ghost use Rattle.jobfile.specs.File.{headBytes, amountBytes, actionBytes, actionSize, bodies, contents, fileOf};
+ghost use Rattle.job.specs.Job.{entries, actionIn, jobIn, Fits};
+ghost use Rattle.jobfile.specs.File.{headBytes, amountBytes, actionBytes, handoverBytes, actionSize, bodies};
+ghost use Rattle.jobfile.specs.File.{contentNumbers, fileOf};
 use encoding::write_number;
 use job::Action;
 use job::Counts;
 use job::Job;
 use jobfile::Layout;
 
-// The contents are so many numbers.
-const NUMBERS: usize = Layout::CONTENTS / Layout::NUMBER;
+// An entry of the contents has so many numbers, and five entries so many.
+const ENTRY_NUMBERS: usize = Layout::ENTRY / Layout::NUMBER;
 
-// Where the head's numbers and sets stand in the file, behind the contents.
-const FACTS_AT: usize = Layout::CONTENTS + Layout::FACTS_AT;
+const NUMBERS: usize = Layout::FIVE_ENTRIES / Layout::NUMBER;
 
-const DEADLINE_AT: usize = Layout::CONTENTS + Layout::DEADLINE_AT;
-
-const START_AT: usize = Layout::CONTENTS + Layout::START_AT;
-
-const GOAL_AT: usize = Layout::CONTENTS + Layout::GOAL_AT;
-
-// The contents of the job's file, whose actions take `size` bytes each.
-pub fn contents(out: &mut [u8], job: Job, size: usize)
-    requires { ⌜ Fits (job .counts) × (size ≡ actionSize (job .counts .pools) (job .counts .stores))
-        × (16 ≤ length (now out)) ⌝ }
-    ensures { λ r. ⌜ now (out .exit) ≡
-        overwrite (now (out .entry)) 0 (joined (toBytes 2) (contents 16 (bodies (jobIn job)))) ⌝ }
+// The numbers of five entries for the job's file, whose actions take `size` bytes each. A form has the first of them.
+fn numbers(job: Job, size: usize) -> [usize; NUMBERS]
+    requires { ⌜ Fits (job .counts) × (size ≡ actionSize (job .counts .pools) (job .counts .stores)) ⌝ }
+    ensures { λ r. ⌜ firsts (2 * entries (job .form)) 0 r ≡ contentNumbers (bodies (jobIn job)) ⌝ }
 {
+    let form = job.form;
     let counts = job.counts;
     let pools = Layout::AMOUNT * counts.pools;
     let stores = Layout::AMOUNT * counts.stores;
     let actions = counts.actions * size;
-    let first = Layout::CONTENTS;
+    let first = Layout::ENTRY * form.entries();
     let second = first + Layout::HEAD;
     let third = second + pools;
-    let numbers = [
+    let fourth = third + stores;
+    let fifth = fourth + actions;
+    let handovers = form.handovers(counts.pools);
+    [
         first,
         Layout::HEAD,
         second,
         pools,
         third,
         stores,
-        third + stores,
+        fourth,
         actions,
-    ];
+        fifth,
+        handovers,
+    ]
+}
+
+// The first n numbers of the contents, at the front.
+fn contents(out: &mut [u8], xs: [usize; NUMBERS], n: usize)
+    requires { ⌜ (n ≤ 10) × (2 * n ≤ length (now out)) ⌝ }
+    ensures { λ r. ⌜ now (out .exit) ≡ overwrite (now (out .entry)) 0 (joined (toBytes 2) (firsts n 0 xs)) ⌝ }
+{
     let mut k = 0;
-    while k < NUMBERS {
-        write_number(out, k * Layout::NUMBER, Layout::NUMBER, numbers[k] as u64);
+    while k < n {
+        write_number(out, Layout::NUMBER * k, Layout::NUMBER, xs[k] as u64);
         k += 1;
     }
 }
 
-// The head, behind the contents.
-pub fn head(out: &mut [u8], job: Job)
-    requires { ⌜ 35 ≤ length (now out) ⌝ }
-    ensures { λ r. ⌜ now (out .exit) ≡ overwrite (now (out .entry)) 16 (headBytes (jobIn job)) ⌝ }
+// The head, from place `at` on.
+fn head(out: &mut [u8], at: usize, job: Job)
+    requires { ⌜ at + 19 ≤ length (now out) ⌝ }
+    ensures { λ r. ⌜ now (out .exit) ≡ overwrite (now (out .entry)) at (headBytes (jobIn job)) ⌝ }
 {
-    write_number(out, FACTS_AT, Layout::FACTS, job.facts as u64);
-    write_number(out, DEADLINE_AT, Layout::DEADLINE, job.deadline as u64);
-    write_number(out, START_AT, Layout::SET, job.start);
-    write_number(out, GOAL_AT, Layout::SET, job.goal);
+    write_number(out, at, Layout::FACTS, job.facts as u64);
+    write_number(
+        out,
+        at + Layout::DEADLINE_AT,
+        Layout::DEADLINE,
+        job.deadline as u64,
+    );
+    write_number(out, at + Layout::START_AT, Layout::SET, job.start);
+    write_number(out, at + Layout::GOAL_AT, Layout::SET, job.goal);
 }
 
 // The first n amounts, from place `at` on.
-pub fn amounts(out: &mut [u8], at: usize, xs: [u32; Job::AMOUNTS], n: usize)
+fn amounts(out: &mut [u8], at: usize, xs: [u32; Job::AMOUNTS], n: usize)
     requires { ⌜ (n ≤ 4) × (at + 4 * n ≤ length (now out)) ⌝ }
     ensures { λ r. ⌜ now (out .exit) ≡ overwrite (now (out .entry)) at (amountBytes (firsts n 0 xs)) ⌝ }
 {
@@ -79,6 +89,25 @@ pub fn amounts(out: &mut [u8], at: usize, xs: [u32; Job::AMOUNTS], n: usize)
             Layout::AMOUNT,
             job::wide(xs[i]),
         );
+        i += 1;
+    }
+}
+
+// A byte as a number of 64 bits. A function of its own, since a parameter is known to fit and a read element is not.
+fn wide(byte: u8) -> u64
+    ensures { λ r. ⌜ r ≡ byte ⌝ }
+{
+    byte as u64
+}
+
+// The first n handovers, from place `at` on.
+fn handovers(out: &mut [u8], at: usize, xs: [u8; Job::POOLS], n: usize)
+    requires { ⌜ (n ≤ 4) × (at + n ≤ length (now out)) ⌝ }
+    ensures { λ r. ⌜ now (out .exit) ≡ overwrite (now (out .entry)) at (handoverBytes (firsts n 0 xs)) ⌝ }
+{
+    let mut i = 0;
+    while i < n {
+        write_number(out, at + i, Layout::HANDOVER, wide(xs[i]));
         i += 1;
     }
 }
@@ -101,7 +130,7 @@ fn action(out: &mut [u8], at: usize, counts: Counts, a: Action)
 }
 
 // All actions of a job, of `size` bytes each, from place `at` on.
-pub fn actions(out: &mut [u8], at: usize, size: usize, job: Job)
+fn actions(out: &mut [u8], at: usize, size: usize, job: Job)
     requires { ⌜ Fits (job .counts) × (size ≡ actionSize (job .counts .pools) (job .counts .stores))
         × (at + job .counts .actions * size ≤ length (now out)) ⌝ }
     ensures { λ r. ⌜ now (out .exit) ≡ overwrite (now (out .entry)) at (joined actionBytes (jobIn job .actions)) ⌝ }
@@ -120,10 +149,12 @@ pub fn file_length(job: Job) -> usize
     requires { ⌜ Fits (job .counts) ⌝ }
     ensures { λ r. ⌜ r ≡ length (fileOf (jobIn job)) ⌝ }
 {
+    let form = job.form;
     let counts = job.counts;
+    let contents = Layout::ENTRY * form.entries();
     let size = Layout::action_size(counts.pools, counts.stores);
     let amounts = Layout::AMOUNT * counts.pools + Layout::AMOUNT * counts.stores;
-    Layout::CONTENTS + Layout::HEAD + amounts + counts.actions * size
+    contents + Layout::HEAD + amounts + counts.actions * size + form.handovers(counts.pools)
 }
 
 // The whole file, at the front of a slice that has room for it.
@@ -131,16 +162,22 @@ pub fn file(out: &mut [u8], job: Job)
     requires { ⌜ Fits (job .counts) × (length (fileOf (jobIn job)) ≤ length (now out)) ⌝ }
     ensures { λ r. ⌜ now (out .exit) ≡ overwrite (now (out .entry)) 0 (fileOf (jobIn job)) ⌝ }
 {
+    let form = job.form;
     let counts = job.counts;
     let pools = job.pools;
     let stores = job.stores;
+    let waits = job.handovers;
     let size = Layout::action_size(counts.pools, counts.stores);
-    let pools_at = Layout::CONTENTS + Layout::HEAD;
+    let head_at = Layout::ENTRY * form.entries();
+    let pools_at = head_at + Layout::HEAD;
     let stores_at = pools_at + Layout::AMOUNT * counts.pools;
     let actions_at = stores_at + Layout::AMOUNT * counts.stores;
-    contents(out, job, size);
-    head(out, job);
+    let handovers_at = actions_at + counts.actions * size;
+    let entries = numbers(job, size);
+    contents(out, entries, ENTRY_NUMBERS * form.entries());
+    head(out, head_at, job);
     amounts(out, pools_at, pools, counts.pools);
     amounts(out, stores_at, stores, counts.stores);
     actions(out, actions_at, size, job);
+    handovers(out, handovers_at, waits, form.handovers(counts.pools));
 }
