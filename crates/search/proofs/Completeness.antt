@@ -28,12 +28,6 @@ use Rattle.states.specs.States.{DeadFor, Barred, nextStep, OpenIn}
 use Rattle.states.specs.Moves.{NoEventBetween}
 use Rattle.states.proofs.Events.{untouched-between}
 
--- the set of all ones has every fact below 64
-in-all-facts : (n : ℕ) → n < 64 → has 18446744073709551615 n ≡ true
-unfolding has
-in-all-facts n l =
-    not-false (has 18446744073709551615 n) (below-none 64 (λ k. not (has 18446744073709551615 k)) refl n l)
-
 module _ (J : Job) (frame : Frame) (st : State) where
   abbrev L : List Step
   L = chosen J (st .steps)
@@ -72,11 +66,13 @@ module _ (J : Job) (frame : Frame) (st : State) where
           (λ s. not-both (eq-eqb a i (only-in-single i a s)) other) in
           ap not (in-difference left (single i) a member apart))
 
-  pub dead-until : frame .actions ≤ 64 → length (J .actions) ≡ frame .actions
-      → DeadFor J frame (OpenIn frame st 18446744073709551615) L → DeadFor J frame (Until (fromOf frame) t) L
-  dead-until few count dead =
-      dead-when-none-decided J (fromOf frame) (frame .goal) (frame .horizon) t (λ a. not (has 18446744073709551615 a)) L
-      (λ a known. ap not (in-all-facts a (omega arith))) dead
+  -- with no action of the job decided
+  pub dead-until : length (J .actions) ≡ frame .actions → (undecided : ℕ)
+      → ((a : ℕ) → a < frame .actions → has undecided a ≡ true) → DeadFor J frame (OpenIn frame st undecided) L
+      → DeadFor J frame (Until (fromOf frame) t) L
+  dead-until count undecided all dead =
+      dead-when-none-decided J (fromOf frame) (frame .goal) (frame .horizon) t (λ a. not (has undecided a)) L
+      (λ a known. ap not (all a (omega arith))) dead
 
   -- ---- back to the event before
   module _ (sets numbers : List ℕ) (described : Describes J sets numbers frame) (inTime : st .minute ≤ frame .horizon)

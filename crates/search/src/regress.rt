@@ -99,5 +99,6 @@ pub fn regress(
     if !missing::suffices(sets, numbers, frame, st) {
         return leaf::nothing();
     }
-    choose(sets, numbers, times, file, frame, st, facts::ALL)
+    let undecided = rules::all(frame.actions);
+    choose(sets, numbers, times, file, frame, st, undecided)
 }

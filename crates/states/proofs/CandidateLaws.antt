@@ -91,3 +91,15 @@ subset-at-most a b inside =
     let same = eqb-true (bitAnd a b) a (subset-decides a b .complete inside) in
     let most = and-le-r a b in
     omega arith
+
+-- ---- all actions
+-- the set of all ones has every fact below 64
+in-all-facts : (n : ℕ) → n < 64 → has 18446744073709551615 n ≡ true
+unfolding has
+in-all-facts n l =
+    not-false (has 18446744073709551615 n) (below-none 64 (λ k. not (has 18446744073709551615 k)) refl n l)
+
+-- shifted down, it has those below the number that is left
+pub in-first-facts : (count a : ℕ) → count ≤ 64 → a < count → has (18446744073709551615 / 2 ^ (64 - count)) a ≡ true
+in-first-facts count a few l =
+    has-shifted 18446744073709551615 (64 - count) a ∙ in-all-facts (64 - count + a) (omega arith)

@@ -1,7 +1,7 @@
 // Which actions may stop at the state's minute.
 ghost use mathlib.Core.Path.{_≡_};
 ghost use mathlib.Core.Bool.{true, false};
-ghost use Prim.Native.Nat.{_+_, _<_};
+ghost use Prim.Native.Nat.{ℕ, _+_, _≤_, _<_};
 ghost use lib.ListN.{length};
 ghost use Rattle.facts.specs.FactSet.{has};
 ghost use Rattle.tables.specs.Tables.{Numbers};
@@ -10,6 +10,7 @@ use crate::amounts;
 use crate::beside;
 use crate::minute;
 use crate::state::State;
+use job::Job;
 use tables::Frame;
 use tables::layout::NumberTable;
 use tables::layout::SetTable;
@@ -156,6 +157,17 @@ pub fn candidates(sets: &[u64], numbers: &[u32], frame: Frame, st: State, undeci
         k = facts::next(undecided, k + 1);
     }
     found
+}
+
+// The numbers of all actions of the job, none of them decided.
+pub fn all(actions: usize) -> u64
+    requires { ⌜ actions ≤ 64 ⌝ }
+    ensures { λ r. ⌜ ((a : ℕ) → a < actions → has r a ≡ true) ⌝ }
+{
+    if actions == 0 {
+        return 0;
+    }
+    facts::ALL >> (Job::ACTIONS - actions)
 }
 
 // The candidate to take first: the longest, of equally long ones the last. Any would do; with this one the order of the
