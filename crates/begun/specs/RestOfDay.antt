@@ -45,7 +45,9 @@ restOfJob J M K =
       deadline = J .deadline - M;
       start = held (J .start) K M;
       goal = J .goal;
+      form = J .form;
       pools = J .pools;
+      handovers = J .handovers;
       stores = [];
       actions = J .actions ++ map (restAction M) (running M K);
     }
