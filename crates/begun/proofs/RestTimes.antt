@@ -23,7 +23,9 @@ otherwise J deadline goal stores =
       deadline = deadline;
       start = J .start;
       goal = goal;
+      form = J .form;
       pools = J .pools;
+      handovers = J .handovers;
       stores = stores;
       actions = J .actions;
     }
@@ -52,7 +54,9 @@ module _ (day : value.Job) (M : ℕ) (K : List Step) (start : ℕ) (stores : Lis
         deadline = day .deadline - M;
         start = facts;
         goal = day .goal;
+        form = day .form;
         pools = jobIn day .pools;
+        handovers = jobIn day .handovers;
         stores = [];
         actions = jobIn day .actions ++ actions;
       }

@@ -1,6 +1,6 @@
 -- Every number that a call packs fits its bits: files are short, plans have few steps.
 -- Assumes nothing.
-use Prim.Native.Nat.{ℕ, _≤_}
+use Prim.Native.Nat.{ℕ, _*_, _≤_}
 use mathlib.Core.Path.{_≡_, refl, sym, ap, _∙_}
 use mathlib.Core.Bool.{Bool, true, false, cond}
 use mathlib.Core.List.{List, [], _∷_}
@@ -22,7 +22,7 @@ use Rattle.job.proofs.Table.{first-pass, pass-of-append}
 use Rattle.job.proofs.Values.{job-in-shape}
 use Rattle.jobfile.specs.declared.Written.{Written}
 use Rattle.jobfile.specs.declared.Written.the-variants as written
-use Rattle.jobfile.specs.File.{fileOf, decoded, fileRows}
+use Rattle.jobfile.specs.File.{fileOf, entriesIn, decoded, fileRows}
 use Rattle.jobfile.specs.Answers.{readRows, readingOf, readFile, writeRows, writtenOf, writeFile}
 use Rattle.jobfile.proofs.Lengths.{file-fits}
 use Rattle.timeline.specs.declared.Day.{Day}
@@ -46,7 +46,7 @@ unfolding readFile readRows fileRows
 accepted-file-is-short file h =
     let passes = sym (verdict-read (first (readRows file)) (decoded file)) ∙ h in
     let size = first-pass _ _ _ passes .0 in
-    ltb-false 4096 (length file) (or-right (ltb (length file) 16) (over 4096 (length file)) size)
+    ltb-false 4096 (length file) (or-right (ltb (length file) (4 * entriesIn file)) (over 4096 (length file)) size)
 
 length-told : (v : Verdict) (J : Job) (n : ℕ) → writtenOf v J ≡ written.Length n
     → (v ≡ Pass) × (length (fileOf J) ≡ n)

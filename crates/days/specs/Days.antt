@@ -7,6 +7,7 @@ use lib.ListN.{replicate}
 use Rattle.encoding.specs.Bytes.{toBytes}
 use Rattle.job.specs.Job.{Action, Job}
 use Rattle.job.specs.Refusal.{number, Reply, refused, returned}
+use Rattle.job.specs.declared.Form.the-variants.{Four}
 use Rattle.job.specs.declared.refusal.Refusal.the-variants.{NoPlan}
 use Rattle.timeline.specs.Day.{Told, dayReply}
 use Rattle.checker.specs.Check.{checkPlan}
@@ -18,7 +19,18 @@ use Rattle.makespan.specs.Makespan.{Makespan, endsAt, noPlan, makespan}
 
 -- case 1: "No facts, actions or goals, deadline 0."
 abbrev pub job1 : Job
-job1 = record { facts = 0; deadline = 0; start = 0; goal = 0; pools = []; stores = []; actions = [] }
+job1 =
+    record {
+      facts = 0;
+      deadline = 0;
+      start = 0;
+      goal = 0;
+      form = Four;
+      pools = [];
+      handovers = [];
+      stores = [];
+      actions = [];
+    }
 
 -- an action that uses no pool and no store
 abbrev pub plain : ℕ → ℕ → ℕ → ℕ → Action
@@ -34,7 +46,9 @@ job2 deadline =
       deadline = deadline;
       start = 3;
       goal = 24;
+      form = Four;
       pools = [];
+      handovers = [];
       stores = [];
       actions = plain 3 1 8 0 ∷ plain 2 2 4 0 ∷ plain 5 4 16 0 ∷ [];
     }
@@ -48,7 +62,9 @@ twoActions deadline pools stores poolUses storeUses =
       deadline = deadline;
       start = 0;
       goal = 3;
+      form = Four;
       pools = pools;
+      handovers = [];
       stores = stores;
       actions = adding 1 ∷ adding 2 ∷ [];
     }
@@ -73,7 +89,9 @@ job6 =
       deadline = 3;
       start = 1;
       goal = 3;
+      form = Four;
       pools = [];
+      handovers = [];
       stores = [];
       actions = plain 2 1 2 1 ∷ plain 1 2 1 0 ∷ [];
     }

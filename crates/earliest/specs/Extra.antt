@@ -29,7 +29,9 @@ withActions J actions =
       deadline = J .deadline;
       start = J .start;
       goal = J .goal;
+      form = J .form;
       pools = J .pools;
+      handovers = J .handovers;
       stores = J .stores;
       actions = actions;
     }

@@ -1,6 +1,7 @@
 // A job built up part by part.
 use job::Action;
 use job::Counts;
+use job::Form;
 use job::Job;
 use job::same::same;
 
@@ -83,14 +84,39 @@ pub fn with_counts(mut job: Job, pools: usize, stores: usize, actions: usize) ->
     job
 }
 
-// The job as if it had every pool, store and action.
+// The job in another form, with other handovers.
+pub fn with_handovers(job: Job, form: Form, handovers: [u8; Job::POOLS]) -> Job {
+    let counts = job.counts;
+    let pools = job.pools;
+    let stores = job.stores;
+    let actions = job.actions;
+    Job {
+        facts: job.facts,
+        deadline: job.deadline,
+        start: job.start,
+        goal: job.goal,
+        form,
+        counts,
+        pools,
+        handovers,
+        stores,
+        actions,
+    }
+}
+
+// The job as if it had every pool, store and action, and handovers.
 fn whole(job: Job) -> Job {
+    let handovers = job.handovers;
+    let job = with_handovers(job, Form::Five, handovers);
     with_counts(job, Job::POOLS, Job::STORES, Job::ACTIONS)
 }
 
-// Whether two jobs agree in every place, also beyond their counts.
+// Whether two jobs agree in every place, also beyond their counts and forms.
 pub fn same_everywhere(a: Job, b: Job) -> bool {
-    (a.counts.pools == b.counts.pools)
+    let a_form = a.form;
+    let b_form = b.form;
+    (a_form.entries() == b_form.entries())
+        & (a.counts.pools == b.counts.pools)
         & (a.counts.stores == b.counts.stores)
         & (a.counts.actions == b.counts.actions)
         & same(whole(a), whole(b))
