@@ -1,14 +1,13 @@
 -- Why the search misses no plan: one action after the other, and from event to event.
 -- Assumes nothing.
 use Prim.Native.Nat.{ℕ, _≤_, _<_}
-use mathlib.Core.Path.{_≡_, refl, ap}
+use mathlib.Core.Path.{_≡_, ap}
 use mathlib.Core.Bool.{true, false, not}
 use mathlib.Core.List.{List, _∷_}
 use native.Mathlib.Omega.{arith}
 use lib.Dec.{eqb}
 use lib.ListN.{length}
 use borrow.Author.Tests.{eq-eqb, not-true, not-false}
-use Rattle.lists.proofs.Below.{below-none}
 use Rattle.lists.proofs.Bools.{or-left, or-right}
 use Rattle.facts.specs.FactSet.{has, single, difference}
 use Rattle.facts.proofs.Membership.{has-zero}

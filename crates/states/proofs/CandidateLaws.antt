@@ -1,16 +1,17 @@
 -- Sets of actions, gone over from one to the next: candidates.
 -- Assumes nothing.
-use Prim.Native.Nat.{ℕ, _+_, _-_, _^_, _≤_, _<_}
-use mathlib.Core.Path.{_≡_, sym, ap, _∙_}
-use mathlib.Core.Bool.{true}
+use Prim.Native.Nat.{ℕ, _+_, _-_, _/_, _^_, _≤_, _<_}
+use mathlib.Core.Path.{_≡_, refl, sym, ap, _∙_}
+use mathlib.Core.Bool.{true, not}
 use mathlib.Core.Logic.{_⊎_, inl, inr, ⊎-elim}
 use mathlib.Core.List.{List}
 use native.Mathlib.Nat.{eq-or-lt-of-le}
 use native.Mathlib.Omega.{arith}
 use lib.Bits.{bitAnd, and-le-r}
-use borrow.Author.Tests.{eqb-true}
+use borrow.Author.Tests.{eqb-true, not-false}
+use Rattle.lists.proofs.Below.{below-none}
 use Rattle.facts.specs.FactSet.{has, single, subset, Subset, NextFact}
-use Rattle.facts.proofs.Membership.{has-zero, some-member, subset-decides, word-within}
+use Rattle.facts.proofs.Membership.{has-shifted, has-zero, some-member, subset-decides, word-within}
 use Rattle.facts.proofs.SetLaws.{in-union-left, in-union-right, in-union-cases}
 use Rattle.timeline.proofs.Tests.{not-both, false-unless, le-or-lt}
 use Rattle.times.proofs.Singles.{in-single, only-in-single}

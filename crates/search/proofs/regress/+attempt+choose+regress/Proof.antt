@@ -55,5 +55,6 @@ pub +attempt+choose+regress-spec : {M : Type 1} → statement M
     (regress-needs.suffices-requires t)
     (regress-needs.nothing-requires t)
     (regress-needs.returns-2 t)
+    (regress-needs.all-requires t)
     (regress-needs.choose-requires t)
     (regress-needs.returns-3 t))

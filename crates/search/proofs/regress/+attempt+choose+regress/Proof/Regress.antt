@@ -15,6 +15,7 @@ use Rattle.search.proofs.regress.+attempt+choose+regress.Lts-regress as
 use Rattle.leaf.proofs.finish.Reads as finish-reads
 use Rattle.leaf.proofs.nothing.Reads as nothing-reads
 use Rattle.pruning.proofs.missing.suffices.Reads as suffices-reads
+use Rattle.states.proofs.rules.all.Reads as all-reads
 use Rattle.search.proofs.regress.+attempt+choose+regress.Proof.Cycle.{regress-at, choose-below}
 
 -- what the functions that `regress` calls ask and promise
@@ -26,6 +27,8 @@ calls t = (
   suffices-reads.Learnt,
   nothing-reads.Asked,
   nothing-reads.Learnt,
+  all-reads.Asked,
+  all-reads.Learnt,
   choose-below t,
   choose.Post,
 )
@@ -70,22 +73,26 @@ returns-2 t c =
           (task .marked) (c-pre .1 .0 .kept) stands;
     }
 
+pub all-requires : (t : ℕ) → lts.Need-all-requires (calls t) (regress-at t) regress.Post
+all-requires t c κs =
+    let at8 = c .before .before .before .before .before .before .before .before in
+    at8 .before .pre .1 .0 .safe .lent .amounts .few
+
 pub choose-requires : (t : ℕ) → lts.Need-choose-requires (calls t) (regress-at t) regress.Post
 choose-requires t c κs =
     let at8 = c .before .before .before .before .before .before .before .before in
-    let c-pre = at8 .before .pre in
+    let c-pre = at8 .before .before .pre in
     let m = c-pre .0 in
     (omega arith, (c-pre .1 .0, omega arith))
 
 pub returns-3 : (t : ℕ) → lts.Need-returns-3 (calls t) (regress-at t) regress.Post
 returns-3 t c =
     let at8 = c .before .before .before .before .before .before .before .before in
-    let c-pre = at8 .before .before .pre in
-    let c-args = at8 .before .before .args in
-    let few = c-pre .1 .0 .safe .lent .amounts .few in
+    let c-args = at8 .before .before .before .args in
+    let c-all = c .before .all in
     record {
       found = c .choose .ensures .found;
       dead = λ e J task stands.
-          dead-until J (c-args .frame) (c-args .st) few (task .described .actions)
+          dead-until J (c-args .frame) (c-args .st) (task .described .actions) (c-all .result) (c-all .ensures)
           (c .choose .ensures .dead e J task stands);
     }
