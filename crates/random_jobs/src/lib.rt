@@ -1,17 +1,21 @@
-// Small random jobs for tests: the same seed gives the same job, and every job passes tests 3 to 11. In some an action
-// uses more of a pool or store than there is (26). What stands beyond the counts is drawn as well, since it is to be
-// ignored.
+// Small random jobs for tests: the same seed gives the same job, and every job passes tests 3 to 11 and 27. In some an
+// action uses more of a pool or store than there is (26). What stands beyond the counts and the form is drawn as well,
+// since it is to be ignored.
 mod actions; // the actions of a job
 pub mod draw; // random numbers and sets of facts
 
 ghost use Prim.Native.Nat.{_≤_, _<_};
 use job::Counts;
+use job::Form;
 use job::Job;
+use made_jobs::parts::with_handovers;
 
-// The largest availabilities. An action uses up to 3 of a pool or store.
+// The largest availabilities, and the most that an action uses of a pool or store.
 const MOST_OF_A_POOL: u8 = 6;
 
 const MOST_OF_A_STORE: u8 = 8;
+
+const MOST_USED: u32 = 3;
 
 // What is peculiar to a job.
 pub enum Kind {
@@ -20,14 +24,16 @@ pub enum Kind {
     Token, // each action but the first takes fact 0 away, so that the first may be wanted several times
     Chain, // each action needs what the one before it adds, and the deadline is just met or just missed
     Ties, // all actions have the same length
+    Handed, // a pool that two actions seldom share, and handovers
 }
 
 fn kind_of(seed: u64) -> Kind {
-    match seed % 6 {
+    match seed % 7 {
         0 => Kind::Short,
         1 => Kind::Token,
         2 => Kind::Chain,
         3 => Kind::Ties,
+        4 => Kind::Handed,
         _ => Kind::Plain,
     }
 }
@@ -42,7 +48,8 @@ fn facts_of(seed: u64, kind: Kind) -> u8
     }
 }
 
-// Up to 2 pools and 2 stores, and 2 to 5 actions. A short job has no pools and stores, and may have one action.
+// Up to 2 pools and 2 stores, and 2 to 5 actions. A short job has no pools and stores, and may have one action; one with
+// handovers has a pool.
 fn counts_of(seed: u64, kind: Kind) -> Counts {
     match kind {
         Kind::Short => Counts {
@@ -54,6 +61,11 @@ fn counts_of(seed: u64, kind: Kind) -> Counts {
             pools: draw::number(seed, 3, 3) as usize,
             stores: draw::number(seed, 4, 3) as usize,
             actions: 4 + draw::number(seed, 1, 2) as usize,
+        },
+        Kind::Handed => Counts {
+            pools: 1 + draw::number(seed, 3, 2) as usize,
+            stores: 0,
+            actions: 2 + draw::number(seed, 1, 4) as usize,
         },
         _ => Counts {
             pools: draw::number(seed, 3, 3) as usize,
@@ -71,6 +83,37 @@ fn availabilities(seed: u64, most: u8) -> [u32; Job::AMOUNTS]
     let second = 1 + draw::number(seed, 1, most) as u32;
     let third = 1 + draw::number(seed, 2, most) as u32;
     [first, second, third, 0]
+}
+
+// The pools. Where there are handovers, each action can run, and few beside another.
+fn pools_of(seed: u64, kind: Kind) -> [u32; Job::POOLS] {
+    match kind {
+        Kind::Handed => [MOST_USED; Job::POOLS],
+        _ => availabilities(draw::part(seed, 5), MOST_OF_A_POOL),
+    }
+}
+
+// Half of the jobs have handovers, some only beyond their form.
+fn form_of(seed: u64, kind: Kind) -> Form {
+    match kind {
+        Kind::Handed => Form::Five,
+        _ => {
+            if draw::number(seed, 15, 2) == 0 {
+                Form::Four
+            } else {
+                Form::Five
+            }
+        }
+    }
+}
+
+// Four handovers of 0 to 3 minutes.
+fn handovers(seed: u64) -> [u8; Job::POOLS] {
+    let first = draw::number(seed, 0, 4);
+    let second = draw::number(seed, 1, 4);
+    let third = draw::number(seed, 2, 4);
+    let fourth = draw::number(seed, 3, 4);
+    [first, second, third, fourth]
 }
 
 // A job with five actions and nothing else.
@@ -98,7 +141,7 @@ fn minutes(job: Job) -> u16 {
     sum
 }
 
-// The deadline: 0 to 9, early for a short job. A chain meets it, or misses it by a minute.
+// The deadline: 0 to 9, early for a short job, up to 12 with handovers. A chain meets it, or misses it by a minute.
 fn deadline_of(seed: u64, kind: Kind, job: Job) -> u16 {
     match kind {
         Kind::Short => draw::number(seed, 2, 6) as u16,
@@ -110,6 +153,7 @@ fn deadline_of(seed: u64, kind: Kind, job: Job) -> u16 {
             }
             sum - early
         }
+        Kind::Handed => 6 + draw::number(seed, 2, 7) as u16,
         _ => 3 + draw::number(seed, 2, 7) as u16,
     }
 }
@@ -125,12 +169,12 @@ fn start_of(seed: u64, facts: u8, wanted: u64) -> u64
     draw::without(start, wanted)
 }
 
-// The job of a seed: 2 to 5 facts, 1 to 5 actions of 1 to 4 minutes, up to 2 pools and 2 stores, deadline 0 to 9. The
+// The job of a seed: 2 to 5 facts, 1 to 5 actions of 1 to 4 minutes, up to 2 pools and 2 stores, deadline 0 to 12. The
 // goal is what action 1 and another action add, so that most goals can be reached.
 pub fn random_job(seed: u64) -> Job {
     let kind = kind_of(seed);
     let facts = facts_of(seed, kind);
-    let pools = availabilities(draw::part(seed, 5), MOST_OF_A_POOL);
+    let pools = pools_of(seed, kind);
     let stores = availabilities(draw::part(seed, 6), MOST_OF_A_STORE);
     let mut job = with_actions(seed, kind, facts);
     let action = job.actions[1];
@@ -146,5 +190,5 @@ pub fn random_job(seed: u64) -> Job {
         job.start = 1;
         job.goal = job.goal | 16;
     }
-    job
+    with_handovers(job, form_of(seed, kind), handovers(draw::part(seed, 16)))
 }

@@ -13,7 +13,7 @@ use price::Rates;
 use timeline::Day;
 
 // The shortest day of this job is action 0 at 0 and 1 at 3.
-fn day() -> Job {
+pub fn day() -> Job {
     let job = parts::with_store(parts::with_pool(parts::empty(3, 10, 0b001, 0b110), 2), 3);
     parts::with_two(
         job,
@@ -109,7 +109,7 @@ fn timed(answer: EarliestTime) {
 }
 
 // What is answered to the job, with this plan for the checker and the price, and the goal for the earliest time.
-fn answers(case: &[u8], job: Job, plan: &[u8]) {
+pub fn answers(case: &[u8], job: Job, plan: &[u8]) {
     output::name(case);
     show_day(b"check", checker::check(job, plan));
     show_day(b", plan", planned(job));
@@ -138,7 +138,7 @@ pub fn ignored() {
 }
 
 // Whether two values hold the same job.
-fn compare(case: &[u8], a: Job, b: Job) {
+pub fn compare(case: &[u8], a: Job, b: Job) {
     output::name(case);
     if same(a, b) {
         text(b"same\n");

@@ -1,8 +1,9 @@
 // Job values that no file holds, handed to the calls without the reader: values that 3 to 11, 26 and 27 refuse, other
-// numbers beyond the counts, and whether two values hold the same job. Prints a line for each. What a file can hold
+// numbers beyond the counts and the form, and whether two values hold the same job. Prints a line for each. What a file can hold
 // stands in tests/tables.
 mod refused; // the cases
 mod beyond;
+mod forms;
 mod trips;
 mod calls; // what they are made with
 mod filled;
@@ -17,4 +18,7 @@ fn main() {
     beyond::same_jobs();
     trips::largest();
     trips::every_count();
+    forms::refused();
+    forms::ignored();
+    forms::trips();
 }

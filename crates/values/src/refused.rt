@@ -11,7 +11,7 @@ use made_jobs::parts::with_counts;
 const LAST: u64 = 1 << 63;
 
 // With a slice, a plan and a set that each call would take.
-fn alone(case: &[u8], job: Job) {
+pub fn alone(case: &[u8], job: Job) {
     refusals(case, job, ROOM, &[], 0);
 }
 

@@ -41,7 +41,7 @@ fn trip(job: Job, clean: Job) {
     text(b"\n");
 }
 
-fn named(case: &[u8], job: Job, clean: Job) {
+pub fn named(case: &[u8], job: Job, clean: Job) {
     output::name(case);
     trip(job, clean);
 }
