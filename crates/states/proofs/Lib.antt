@@ -1,5 +1,6 @@
 pub mod Looks
 pub mod AmountLaws
+mod PutOff
 pub mod Chosen
 pub mod Events
 mod BarredActions

@@ -1,7 +1,7 @@
 -- `waits` meets its contract: no handover is above 0, where none of the four tests says so.
 -- Assumes nothing.
 use borrow.Author.Needs.{needs}
-use Rattle.states.proofs.AmountLaws.{no-handover}
+use Rattle.states.proofs.PutOff.{no-handover}
 use Rattle.states.proofs.amounts.waits.Statement.{statement}
 use Rattle.states.proofs.amounts.waits.Tie as tie
 

@@ -3,7 +3,7 @@
 use borrow.Author.Tests.{le-leb}
 use Rattle.lists.proofs.Bools.{and-left}
 use Rattle.timeline.proofs.Tests.{and-both, and-other-false}
-use Rattle.states.proofs.AmountLaws.{added-when-running, added-alike}
+use Rattle.states.proofs.PutOff.{added-when-running, added-alike}
 use Rattle.states.proofs.amounts.with_shares.Statement.{statement}
 use Rattle.states.proofs.amounts.with_shares.Tie as tie
 
