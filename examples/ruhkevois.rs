@@ -41,7 +41,7 @@ pub enum Answer {
     /// A plan's end, an earliest time or a file's length; the number of steps of a plan that was written, else 0; for
     /// each pool the most that a checked or written plan uses together, else 0.
     Done { end: u32, steps: u16, peaks: [u32; POOLS] },
-    /// A refusal by its number, 1 to 26 or 35.
+    /// A refusal by its number, 1 to 27 or 35.
     Refused(u8),
     /// A set of facts that no plan ever has together.
     Unreachable,
@@ -60,7 +60,7 @@ pub struct Rates {
 #[derive(Clone, Copy, Debug, PartialEq, Eq)]
 pub enum Price {
     Cents(u64),
-    /// A refusal by its number, 1 to 26.
+    /// A refusal by its number, 1 to 27.
     Refused(u8),
 }
 

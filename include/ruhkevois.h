@@ -124,9 +124,9 @@ uint64_t ruhkevois_plan(const uint8_t *file, size_t file_length, uint8_t *out, s
  * Done: end, steps, `out` and `peaks` as from ruhkevois_plan, of the whole day with its kept steps. Where these meet
  * the goal none are added; otherwise no accepted plan that keeps them, and starts none other before the minute, ends
  * earlier.
- * Refused: 1 to 11, 26 and 27 for the file; 24 where the job lacks a fact of the goal; 12 to 19 for the current plan; 21
- * where `out` has under 96 bytes; 35 where no plan with the kept steps is accepted; `out` and `peaks` are kept as they
- * were.
+ * Refused: 1 to 11, 26 and 27 for the file; 24 where the job lacks a fact of the goal; 12 to 19 for the current plan;
+ * 21 where `out` has under 96 bytes; 35 where no plan with the kept steps is accepted; `out` and `peaks` are kept as
+ * they were.
  * The search takes as long as the job demands: README.md says how to bound it.
  */
 uint64_t ruhkevois_replan(const uint8_t *file, size_t file_length, const uint8_t *plan, size_t plan_length,
