@@ -1,7 +1,7 @@
 -- `gapless` meets its contract: the bodies before entry k stand in a row up to `at`.
 -- Assumes nothing.
 use Prim.Native.Nat.{_+_, _-_, _*_, _≤_}
-use mathlib.Core.Path.{_≡_, refl, ap, sym, _∙_}
+use mathlib.Core.Path.{_≡_, ap, sym, _∙_}
 use Rattle.jobfile.specs.File.{gapless}
 use Rattle.reader.proofs.ContentsLaws.{gapless-broken, gapless-next, gapless-end}
 use native.Mathlib.Omega.{arith}

@@ -1,7 +1,7 @@
 -- `job_in` meets its contract: its slices are the bodies.
 -- Assumes nothing.
 use Prim.Native.Nat.{ℕ, _*_}
-use mathlib.Core.Path.{_≡_, ap, _∙_}
+use mathlib.Core.Path.{ap, _∙_}
 use Rattle.job.specs.Job.{jobValue}
 use Rattle.reader.proofs.ContentsLaws.{slices-fit-decode, slices-say-job}
 use borrow.Author.Needs.{needs}

@@ -1,6 +1,5 @@
 -- `size_in` meets its contract: the length in the contents, or none.
 -- Assumes nothing.
-use mathlib.Core.Path.{_∙_}
 use borrow.Author.Tests.{lt-ltb, le-ltb}
 use Rattle.jobfile.specs.File.{entriesIn}
 use native.Mathlib.Omega.{arith}

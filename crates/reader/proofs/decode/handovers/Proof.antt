@@ -3,7 +3,7 @@
 use Prim.Native.Nat.{ℕ, _-_, _*_, _/_, _≤_}
 use mathlib.Core.Path.{_≡_, sym, ap, _∙_}
 use mathlib.Core.List.{List}
-use lib.ListN.{length, set}
+use lib.ListN.{length}
 use Rattle.lists.specs.Lists.{tabulate, filled}
 use Rattle.lists.proofs.Tabulate.{filled-tabulate-none, filled-tabulate}
 use Rattle.encoding.specs.Bytes.{fromBytes, part}

@@ -1,7 +1,6 @@
 -- `file` meets its contract: six writes one after the other.
 -- Assumes nothing.
-use Prim.Native.Nat.{ℕ, _*_}
-use mathlib.Core.Path.{_≡_, ap, _∙_}
+use Prim.Native.Nat.{_*_}
 use lib.ListN.{getD}
 use Rattle.lists.proofs.Tabulate.{length-tabulate}
 use Rattle.encoding.proofs.Overwrite.{length-pieces}
@@ -196,7 +195,8 @@ returns c =
     let n = c-entries .ensures in
     let p = length-tabulate (j .counts .pools) (λ k. getD (j .pools) k 0) in
     let s = length-tabulate (j .counts .stores) (λ k. getD (j .stores) k 0) in
-    let a = length-pieces actionBytes (actionAt j) size (rw (c-action-size .ensures) (length-action-at j)) (j .counts .actions) in
+    let a = length-pieces actionBytes (actionAt j) size (rw (c-action-size .ensures) (length-action-at j))
+    (j .counts .actions) in
     rw (
       c .before .before .handovers2 .ensures,
       c-handovers .ensures,

@@ -1,7 +1,7 @@
 -- `numbers` meets its contract: the offset and the length of each body.
 -- Assumes nothing.
 use Prim.Native.Nat.{ℕ, _*_}
-use mathlib.Core.Path.{_≡_, sym, ap, _∙_}
+use mathlib.Core.Path.{sym, ap, _∙_}
 use lib.ListN.{getD}
 use Rattle.lists.proofs.Tabulate.{length-tabulate}
 use Rattle.encoding.proofs.Overwrite.{length-pieces}
@@ -83,7 +83,8 @@ returns c =
     let ls = length-tabulate (j .counts .stores) (λ k. getD (j .stores) k 0) in
     let la = length-pieces actionBytes (actionAt j) s (rw (c-pre .1) (length-action-at j)) (j .counts .actions) in
     contents-of (jobIn j) (job-in-shape j) (4 * j .counts .pools) (4 * j .counts .stores) (j .counts .actions * s)
-    (omega arith) (omega arith) la (4 * c-entries .result) (c .handovers .result) (ap (λ (n : ℕ). 4 * n) (c-entries .ensures))
+    (omega arith) (omega arith) la (4 * c-entries .result) (c .handovers .result)
+    (ap (λ (n : ℕ). 4 * n) (c-entries .ensures))
     (c .handovers .ensures ∙ ap (handoverCount (j .form)) (sym lp))
 
 pub numbers-spec : {M : Type 1} → statement M
