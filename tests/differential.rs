@@ -321,7 +321,7 @@ fn counts(of: &[u64]) -> String {
 }
 
 /// A run of so many cases, the gate's, sees every refusal of the table.
-const ALL_SEEN: u64 = 100_000;
+const ALL_SEEN: u64 = 50_000;
 
 /// The numbers of the table that were never told.
 fn never_told(refusals: &[u64]) -> Vec<usize> {
