@@ -77,16 +77,17 @@ impl Form {
     }
 }
 
-// A job. Pools are renewable resources, stores consumable ones: an availability for each.
+// A job. Pools are renewable resources, stores consumable ones: an availability for each. Its small parts stand first,
+// so that a value, which is often copied, has no gaps.
 pub struct Job {
     pub facts: u8,
+    pub form: Form,
     pub deadline: u16,
+    pub handovers: [u8; Job::POOLS], // minutes that a share of the pool stays in use after its step
     pub start: u64,
     pub goal: u64,
-    pub form: Form,
     pub counts: Counts,
     pub pools: [u32; Job::POOLS],
-    pub handovers: [u8; Job::POOLS], // minutes that a share of the pool stays in use after its step
     pub stores: [u32; Job::STORES],
     pub actions: [Action; Job::ACTIONS],
 }
