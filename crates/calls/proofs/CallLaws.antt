@@ -20,10 +20,10 @@ use Rattle.earliest.specs.Answer.{Answers}
 use Rattle.timeline.specs.declared.Day.{Day}
 use Rattle.planner.specs.Plan.{Plans}
 use Rattle.replanner.specs.Replan.{Replans}
-use Rattle.calls.specs.Answer.{done, refusal, writtenNumber, checkedNumber, timeNumber, plannedNumber}
-use Rattle.calls.specs.Answer.{peaksBy}
+use Rattle.packing.specs.Answer.{done, refusal, writtenNumber, checkedNumber, timeNumber, plannedNumber}
+use Rattle.packing.specs.Answer.{peaksBy}
 use Rattle.calls.specs.Calls.{jobOf, unlessRefused, keptIfRefused, peaksAfter, peaksByCheck, EarliestBy, DayBy}
-use Rattle.calls.specs.Answer.{pricedNumber}
+use Rattle.packing.specs.Answer.{pricedNumber}
 use Rattle.calls.specs.Calls.{priceAnswer}
 use Rattle.calls.specs.Calls.{readAnswer, checkAnswer, rewriteAnswer, leftByRewrite, EarliestAnswers}
 use Rattle.calls.specs.Calls.{PlanAnswers, ReplanAnswers}

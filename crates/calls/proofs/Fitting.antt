@@ -34,7 +34,7 @@ use Rattle.timeline.proofs.RunRows.{run-rows}
 use Rattle.makespan.specs.Makespan.{Makespan, endsAt, noPlan, begun, passes, makespanFrom, makespan}
 use Rattle.planner.specs.Plan.{planRefusals, PlansFor, PlansBy, Plans}
 use Rattle.replanner.specs.Replan.{replanRows, keptSteps, ReplansWith, ReplansBy, Replans}
-use Rattle.calls.specs.Answer.{ShortFile}
+use Rattle.packing.specs.Answer.{ShortFile}
 
 verdict-read : (v : Verdict) (J : Job) → readingOf v J .verdict ≡ v
 verdict-read Pass J = refl

@@ -17,9 +17,9 @@ use Rattle.earliest.specs.Answer.{Answers}
 use Rattle.timeline.specs.declared.Day.{Day}
 use Rattle.planner.specs.Plan.{Plans}
 use Rattle.replanner.specs.Replan.{Replans}
-use Rattle.calls.specs.Answer.{done, refusal, writtenNumber, checkedNumber, timeNumber, plannedNumber}
-use Rattle.calls.specs.Answer.{peaksBy}
-use Rattle.calls.specs.Answer.{pricedNumber}
+use Rattle.packing.specs.Answer.{done, refusal, writtenNumber, checkedNumber, timeNumber, plannedNumber}
+use Rattle.packing.specs.Answer.{peaksBy}
+use Rattle.packing.specs.Answer.{pricedNumber}
 
 -- the job that reading a file gives
 abbrev pub jobOf : List ℕ → Job

@@ -2,10 +2,10 @@
 -- Assumes nothing.
 use Prim.Native.Nat.{ℕ}
 use mathlib.Core.Path.{ap, _∙_}
-use Rattle.calls.specs.Answer.{packed}
+use Rattle.packing.specs.Answer.{packed}
 use borrow.Author.Needs.{needs}
-use Rattle.calls.proofs.refused.Statement.{statement}
-use Rattle.calls.proofs.refused.Tie as tie
+use Rattle.packing.proofs.refused.Statement.{statement}
+use Rattle.packing.proofs.refused.Tie as tie
 
 number-requires : tie.Need-number-requires
 number-requires c κs = search needs

@@ -1,10 +1,10 @@
 -- `price_told` meets its contract: a way out for each kind of answer.
 -- Assumes nothing.
 use mathlib.Core.Path.{sym, ap, _∙_}
-use Rattle.calls.specs.Answer.{pricedNumber}
+use Rattle.packing.specs.Answer.{pricedNumber}
 use borrow.Author.Needs.{needs}
-use Rattle.calls.proofs.price_told.Statement.{statement}
-use Rattle.calls.proofs.price_told.Tie as tie
+use Rattle.packing.proofs.price_told.Statement.{statement}
+use Rattle.packing.proofs.price_told.Tie as tie
 
 enum-known-answer : tie.Need-enum-known-answer
 enum-known-answer c = search needs

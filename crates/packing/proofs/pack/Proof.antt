@@ -1,10 +1,10 @@
 -- `pack` meets its contract: the sum is the definition's.
 -- Assumes nothing.
 use mathlib.Core.Path.{refl}
-use Rattle.calls.specs.Answer.{packed}
+use Rattle.packing.specs.Answer.{packed}
 use borrow.Author.Needs.{needs}
-use Rattle.calls.proofs.pack.Statement.{statement}
-use Rattle.calls.proofs.pack.Tie as tie
+use Rattle.packing.proofs.pack.Statement.{statement}
+use Rattle.packing.proofs.pack.Tie as tie
 
 mul-result : tie.Need-mul-result
 mul-result c = search needs

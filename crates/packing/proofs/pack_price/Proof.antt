@@ -1,10 +1,10 @@
 -- `pack_price` meets its contract: the kind 0 adds nothing.
 -- Assumes nothing.
-use Rattle.calls.specs.Answer.{cost}
+use Rattle.packing.specs.Answer.{cost}
 use native.Mathlib.Omega.{arith}
 use borrow.Author.Needs.{needs}
-use Rattle.calls.proofs.pack_price.Statement.{statement}
-use Rattle.calls.proofs.pack_price.Tie as tie
+use Rattle.packing.proofs.pack_price.Statement.{statement}
+use Rattle.packing.proofs.pack_price.Tie as tie
 
 cast-result : tie.Need-cast-result
 cast-result c = search needs

@@ -1,10 +1,10 @@
 -- `told` meets its contract: a way out for each kind of answer.
 -- Assumes nothing.
 use mathlib.Core.Path.{sym, ap, _∙_}
-use Rattle.calls.specs.Answer.{timeNumber}
+use Rattle.packing.specs.Answer.{timeNumber}
 use borrow.Author.Needs.{needs}
-use Rattle.calls.proofs.told.Statement.{statement}
-use Rattle.calls.proofs.told.Tie as tie
+use Rattle.packing.proofs.told.Statement.{statement}
+use Rattle.packing.proofs.told.Tie as tie
 
 enum-known-answer : tie.Need-enum-known-answer
 enum-known-answer c = search needs

@@ -2,10 +2,10 @@
 -- Assumes nothing.
 use mathlib.Core.Path.{sym, ap, _∙_}
 use Rattle.job.specs.declared.refusal.Verdict.{Verdict}
-use Rattle.calls.specs.Answer.{dayNumber}
+use Rattle.packing.specs.Answer.{dayNumber}
 use borrow.Author.Needs.{needs}
-use Rattle.calls.proofs.day_told.Statement.{statement}
-use Rattle.calls.proofs.day_told.Tie as tie
+use Rattle.packing.proofs.day_told.Statement.{statement}
+use Rattle.packing.proofs.day_told.Tie as tie
 
 enum-told : tie.Need-enum-told
 enum-told c = search needs

@@ -1,11 +1,11 @@
 -- `written` meets its contract: a way out for each kind of answer.
 -- Assumes nothing.
 use mathlib.Core.Path.{sym, ap, _∙_}
-use Rattle.calls.specs.Answer.{writtenNumber}
+use Rattle.packing.specs.Answer.{writtenNumber}
 use native.Mathlib.Omega.{arith}
 use borrow.Author.Needs.{needs}
-use Rattle.calls.proofs.written.Statement.{statement}
-use Rattle.calls.proofs.written.Tie as tie
+use Rattle.packing.proofs.written.Statement.{statement}
+use Rattle.packing.proofs.written.Tie as tie
 
 enum-known-answer : tie.Need-enum-known-answer
 enum-known-answer c = search needs
