@@ -27,6 +27,7 @@ otherwise J deadline goal stores =
       pools = J .pools;
       handovers = J .handovers;
       stores = stores;
+      shortest = J .shortest;
       actions = J .actions;
     }
 
@@ -58,6 +59,7 @@ module _ (day : value.Job) (M : ℕ) (K : List Step) (start : ℕ) (stores : Lis
         pools = jobIn day .pools;
         handovers = jobIn day .handovers;
         stores = [];
+        shortest = jobIn day .shortest;
         actions = jobIn day .actions ++ actions;
       }
 

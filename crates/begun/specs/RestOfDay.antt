@@ -49,6 +49,7 @@ restOfJob J M K =
       pools = J .pools;
       handovers = J .handovers;
       stores = [];
+      shortest = J .shortest;
       actions = J .actions ++ map (restAction M) (running M K);
     }
 

@@ -35,13 +35,7 @@ pub fn kept_plan(job: Job, kept: Steps) -> Plan
     requires { ⌜ Fits (job .counts) × Known (job .counts .actions) kept ⌝ }
     ensures { λ r. ⌜ (r .length ≤ 32) × (r .counts ≡ job .counts) × (stepsOf r ≡ chosen (jobIn job) kept) ⌝ }
 {
-    let action = Action::unused();
-    let unused = Step {
-        number: 0,
-        action,
-        start: 0,
-        stop: 0,
-    };
+    let unused = Step::unused();
     let mut steps = [unused; Plan::STEPS];
     let mut i = 0;
     while i < kept.count {

@@ -9,23 +9,15 @@ use Rattle.job.specs.declared.refusal.Refusal.{Refusal}
 use Rattle.job.specs.declared.refusal.Verdict.{Verdict}
 use Rattle.job.specs.declared.refusal.Verdict.the-variants.{Pass, Refused}
 use Rattle.jobfile.specs.declared.Reading.{Reading}
-use Rattle.jobfile.specs.declared.Written.{Written}
-use Rattle.jobfile.specs.Answers.{readFile, writeFile, leftByWrite}
-use Rattle.checker.specs.Check.{checkPlan}
-use Rattle.price.specs.declared.Rates.{Rates}
-use Rattle.price.specs.declared.Priced.{Priced}
-use Rattle.price.specs.Price.{pricePlan}
+use Rattle.jobfile.specs.Answers.{readFile, leftByWrite}
 use Rattle.earliest.specs.declared.EarliestTime.{EarliestTime}
 use Rattle.earliest.specs.Answer.{Answers}
 use Rattle.timeline.specs.declared.Day.{Day}
 use Rattle.planner.specs.Plan.{Plans}
 use Rattle.replanner.specs.Replan.{Replans}
-use Rattle.packing.specs.Answer.{done, refusal, writtenNumber, checkedNumber, timeNumber, plannedNumber}
-use Rattle.packing.specs.Answer.{peaksBy}
-use Rattle.calls.specs.Calls.{jobOf, unlessRefused, keptIfRefused, peaksAfter, peaksByCheck, EarliestBy, DayBy}
-use Rattle.packing.specs.Answer.{pricedNumber}
-use Rattle.calls.specs.Calls.{priceAnswer}
-use Rattle.calls.specs.Calls.{readAnswer, checkAnswer, rewriteAnswer, leftByRewrite, EarliestAnswers}
+use Rattle.packing.specs.Answer.{done, refusal, timeNumber, plannedNumber, peaksBy}
+use Rattle.calls.specs.Calls.{jobOf, unlessRefused, keptIfRefused, peaksAfter, EarliestBy, DayBy}
+use Rattle.calls.specs.Calls.{readAnswer, leftByRewrite, EarliestAnswers}
 use Rattle.calls.specs.Calls.{PlanAnswers, ReplanAnswers}
 
 module _ (file : List ℕ) (reading : Reading) (same : reading ≡ readFile file) where
@@ -64,26 +56,14 @@ module _ (file : List ℕ) (reading : Reading) (same : reading ≡ readFile file
     pub read-accepted : done (length file) 0 ≡ readAnswer file
     read-accepted = file-accepted (done (length file) 0)
 
-    pub check-accepted : (plan : List ℕ) (answer : Day) → answer ≡ checkPlan (jobIn (reading .job)) plan
-        → checkedNumber answer ≡ checkAnswer file plan
-    check-accepted plan answer told =
-        ap checkedNumber told
-        ∙ ap (λ (x : Reading). checkedNumber (checkPlan (jobIn (x .job)) plan)) same
-        ∙ file-accepted (checkedNumber (checkPlan (jobOf file) plan))
-
-    pub price-accepted : (plan : List ℕ) (rates : Rates) (answer : Priced)
-        → answer ≡ pricePlan (jobIn (reading .job)) rates plan → pricedNumber answer ≡ priceAnswer file plan rates
-    price-accepted plan rates answer told =
-        ap pricedNumber told
-        ∙ ap (λ (x : Reading). pricedNumber (pricePlan (jobIn (x .job)) rates plan)) same
-        ∙ file-accepted (pricedNumber (pricePlan (jobOf file) rates plan))
-
-    pub rewrite-accepted : (slice : List ℕ) (answer : Written) → answer ≡ writeFile (jobIn (reading .job)) slice
-        → writtenNumber answer ≡ rewriteAnswer file slice
-    rewrite-accepted slice answer told =
-        ap writtenNumber told
-        ∙ ap (λ (x : Reading). writtenNumber (writeFile (jobIn (x .job)) slice)) same
-        ∙ file-accepted (writtenNumber (writeFile (jobOf file) slice))
+    -- the number of an answer that the job alone fixes
+    pub number-accepted : {A : Type 0} (said : Job → A) (number : A → ℕ) (answer : A)
+        → answer ≡ said (jobIn (reading .job))
+        → number answer ≡ unlessRefused (readFile file .verdict) (number (said (jobOf file)))
+    number-accepted said number answer told =
+        ap number told
+        ∙ ap (λ (x : Reading). number (said (jobIn (x .job)))) same
+        ∙ file-accepted (number (said (jobOf file)))
 
     pub left-accepted : (slice after : List ℕ) → after ≡ leftByWrite (jobIn (reading .job)) slice
         → after ≡ leftByRewrite file slice
@@ -119,10 +99,12 @@ module _ (file : List ℕ) (reading : Reading) (same : reading ≡ readFile file
     replan-accepted plan minute goal slice after =
         day-accepted (λ J answer. Replans J plan minute goal slice answer after) slice after
 
-    pub peaks-told : (plan peaks peaksThen : List ℕ) (answer : Day) → answer ≡ checkPlan (jobIn (reading .job)) plan
-        → peaksThen ≡ peaksBy (answer .verdict) (answer .peaks) peaks → peaksThen ≡ peaksByCheck file plan peaks
-    peaks-told plan peaks peaksThen answer told put =
+    -- and the peaks of a day
+    pub peaks-told : (said : Job → Day) (peaks peaksThen : List ℕ) (answer : Day) → answer ≡ said (jobIn (reading .job))
+        → peaksThen ≡ peaksBy (answer .verdict) (answer .peaks) peaks
+        → peaksThen ≡ peaksAfter (readFile file .verdict) (said (jobOf file)) peaks
+    peaks-told said peaks peaksThen answer told put =
         put
         ∙ ap (λ (d : Day). peaksBy (d .verdict) (d .peaks) peaks) told
-        ∙ ap (λ (x : Reading). peaksAfter Pass (checkPlan (jobIn (x .job)) plan) peaks) same
-        ∙ sym (ap (λ (v : Verdict). peaksAfter v (checkPlan (jobOf file) plan) peaks) accepted)
+        ∙ ap (λ (x : Reading). peaksAfter Pass (said (jobIn (x .job))) peaks) same
+        ∙ sym (ap (λ (v : Verdict). peaksAfter v (said (jobOf file)) peaks) accepted)

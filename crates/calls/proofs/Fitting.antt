@@ -1,9 +1,9 @@
 -- Every number that a call packs fits its bits: files are short, plans have few steps.
 -- Assumes nothing.
-use Prim.Native.Nat.{ℕ, _*_, _≤_}
+use Prim.Native.Nat.{ℕ, suc, _*_, _≤_}
 use mathlib.Core.Path.{_≡_, refl, sym, ap, _∙_}
 use mathlib.Core.Bool.{Bool, true, false, cond}
-use mathlib.Core.List.{List, [], _∷_}
+use mathlib.Core.List.{List, [], _∷_, _++_}
 use native.Mathlib.Omega.{arith}
 use lib.ListN.{length}
 use lib.Dec.{ltb}
@@ -27,10 +27,13 @@ use Rattle.jobfile.specs.Answers.{readRows, readingOf, readFile, writeRows, wri
 use Rattle.jobfile.proofs.Lengths.{file-fits}
 use Rattle.timeline.specs.declared.Day.{Day}
 use Rattle.timeline.specs.Step.{Step, stepsIn}
-use Rattle.timeline.specs.Accepted.{runRows}
-use Rattle.timeline.specs.Day.{noDay}
+use Rattle.timeline.specs.Accepted.{planRows, runRows}
+use Rattle.timeline.specs.Day.{noDay, dayOf}
+use Rattle.timeline.specs.TrueLengths.{withLengths}
 use Rattle.timeline.proofs.PlanBytes.{few-steps-of-accepted}
 use Rattle.timeline.proofs.RunRows.{run-rows}
+use Rattle.checker.specs.Check.{checkRows}
+use Rattle.true_day.specs.TrueDay.{trueRows, trueSteps, trueDay}
 use Rattle.makespan.specs.Makespan.{Makespan, endsAt, noPlan, begun, passes, makespanFrom, makespan}
 use Rattle.planner.specs.Plan.{planRefusals, PlansFor, PlansBy, Plans}
 use Rattle.replanner.specs.Replan.{replanRows, keptSteps, ReplansWith, ReplansBy, Replans}
@@ -66,6 +69,28 @@ written-file-is-short job slice answer told n same =
 -- no plan has no steps
 few-without-day : (why : Refusal) (answer : Day) → answer ≡ noDay why → answer .steps ≤ 32
 few-without-day why answer told = let zero = ap (λ (d : Day). d .steps) told in omega arith
+
+same-count : (P : List Step) (lengths : List ℕ) → length (withLengths P lengths) ≡ length P
+same-count [] lengths = refl
+same-count (x ∷ P) [] = refl
+same-count (x ∷ P) (n ∷ lengths) = ap suc (same-count P lengths)
+
+-- a plan that is run with true lengths has as many steps as the plan
+pub true-steps-are-few : (J : Job) (bytes lengths : List ℕ) (answer : Day) → answer ≡ trueDay J bytes lengths
+    → answer .steps ≤ 32
+unfolding trueDay trueRows checkRows
+true-steps-are-few J bytes lengths answer told = by-verdict (first (trueRows J bytes lengths)) refl told
+  where
+    by-verdict : (v : Verdict) → first (trueRows J bytes lengths) ≡ v
+        → answer ≡ dayOf v J (trueSteps J bytes lengths) → answer .steps ≤ 32
+    by-verdict Pass e h =
+        let checks = pass-of-append (jobRows J ++ planRows J (J .goal) bytes) _ e in
+        let accepted = pass-of-append (jobRows J) (planRows J (J .goal) bytes) (checks .0) .1 in
+        let few = few-steps-of-accepted J (J .goal) bytes accepted in
+        let count = ap (λ (d : Day). d .steps) h in
+        let same = same-count (stepsIn J bytes) lengths in
+        omega arith
+    by-verdict (Refused why) e h = few-without-day why answer h
 
 -- a shortest plan that is handed out has at most 32 steps
 few-when-planned : (m : Makespan) (none : Refusal) (J : Job) (goal minute : ℕ) (K : List Step) (slice : List ℕ)

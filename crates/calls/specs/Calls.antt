@@ -12,14 +12,14 @@ use Rattle.jobfile.specs.Answers.{readFile, writeFile, leftByWrite}
 use Rattle.checker.specs.Check.{checkPlan}
 use Rattle.price.specs.declared.Rates.{Rates}
 use Rattle.price.specs.Price.{pricePlan}
+use Rattle.true_day.specs.TrueDay.{trueDay}
 use Rattle.earliest.specs.declared.EarliestTime.{EarliestTime}
 use Rattle.earliest.specs.Answer.{Answers}
 use Rattle.timeline.specs.declared.Day.{Day}
 use Rattle.planner.specs.Plan.{Plans}
 use Rattle.replanner.specs.Replan.{Replans}
 use Rattle.packing.specs.Answer.{done, refusal, writtenNumber, checkedNumber, timeNumber, plannedNumber}
-use Rattle.packing.specs.Answer.{peaksBy}
-use Rattle.packing.specs.Answer.{pricedNumber}
+use Rattle.packing.specs.Answer.{peaksBy, pricedNumber}
 
 -- the job that reading a file gives
 abbrev pub jobOf : List ℕ → Job
@@ -38,13 +38,22 @@ readAnswer file = unlessRefused (readFile file .verdict) (done (length file) 0)
 abbrev pub checkAnswer : List ℕ → List ℕ → ℕ
 checkAnswer file plan = unlessRefused (readFile file .verdict) (checkedNumber (checkPlan (jobOf file) plan))
 
--- the peaks that the checker tells, in a lent array
+-- the peaks of a day that is told, in a lent array
 abbrev pub peaksAfter : Verdict → Day → List ℕ → List ℕ
 peaksAfter Pass day before = peaksBy (day .verdict) (day .peaks) before
 peaksAfter (Refused why) day before = before
 
 abbrev pub peaksByCheck : List ℕ → List ℕ → List ℕ → List ℕ
 peaksByCheck file plan before = peaksAfter (readFile file .verdict) (checkPlan (jobOf file) plan) before
+
+-- what the day of the plan was, by the true lengths of its steps
+abbrev pub trueDayAnswer : List ℕ → List ℕ → List ℕ → ℕ
+trueDayAnswer file plan lengths =
+    unlessRefused (readFile file .verdict) (plannedNumber (trueDay (jobOf file) plan lengths))
+
+abbrev pub peaksByTrueDay : List ℕ → List ℕ → List ℕ → List ℕ → List ℕ
+peaksByTrueDay file plan lengths before =
+    peaksAfter (readFile file .verdict) (trueDay (jobOf file) plan lengths) before
 
 -- what the plan costs at these rates, for the job of the file
 abbrev pub priceAnswer : List ℕ → List ℕ → Rates → ℕ

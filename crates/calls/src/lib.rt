@@ -2,7 +2,7 @@
 // file that is refused is answered before anything else is looked at.
 ghost use mathlib.Core.Path.{_≡_};
 ghost use Rattle.calls.specs.Calls.{readAnswer, checkAnswer, peaksByCheck, rewriteAnswer, leftByRewrite};
-ghost use Rattle.calls.specs.Calls.{priceAnswer, ratesIn};
+ghost use Rattle.calls.specs.Calls.{priceAnswer, ratesIn, trueDayAnswer, peaksByTrueDay};
 ghost use Rattle.calls.specs.Calls.{EarliestAnswers, PlanAnswers, ReplanAnswers};
 use job::Job;
 use job::refusal::Verdict;
@@ -16,7 +16,7 @@ use packing::told;
 use packing::written;
 use price::Rates;
 
-// Whether a job file is accepted: its length, or the first refusal of 1 to 11, 26 and 27.
+// Whether a job file is accepted: its length, or its first refusal.
 #[no_mangle]
 pub extern "C" fn ruhkevois_read(file: &[u8]) -> u64
     ensures { λ r. ⌜ r ≡ readAnswer (now (file .entry)) ⌝ }
@@ -29,8 +29,8 @@ pub extern "C" fn ruhkevois_read(file: &[u8]) -> u64
     pack(DONE, 0, file.len() as u32, 0)
 }
 
-// Reads a job file and writes it again to the front of the slice: its length, or the first refusal of 1 to 11, 26, 27
-// and 23. The bytes behind the file are kept; a refusal changes no byte.
+// Reads a job file and writes it again to the front of the slice: its length, or the first refusal of the file
+// and of 23. The bytes behind the file are kept; a refusal changes no byte.
 #[no_mangle]
 pub extern "C" fn ruhkevois_rewrite(file: &[u8], out: &mut [u8]) -> u64
     ensures { λ r. ⌜ r ≡ rewriteAnswer (now (file .entry)) (now (out .entry)) ⌝ }
@@ -46,7 +46,7 @@ pub extern "C" fn ruhkevois_rewrite(file: &[u8], out: &mut [u8]) -> u64
 }
 
 // Whether a plan is accepted for the job of a file: its end, with the peak of each pool in the array, or the first
-// refusal of 1 to 11, 26, 27 and 12 to 20, which leaves the array as it was.
+// refusal of the file and of 12 to 20, which leaves the array as it was.
 #[no_mangle]
 pub extern "C" fn ruhkevois_check(file: &[u8], plan: &[u8], peaks: &mut [u32; Job::POOLS]) -> u64
     ensures { λ r. ⌜ r ≡ checkAnswer (now (file .entry)) (now (plan .entry)) ⌝ }
@@ -64,7 +64,7 @@ pub extern "C" fn ruhkevois_check(file: &[u8], plan: &[u8], peaks: &mut [u32; Jo
 }
 
 // What a plan for the job of a file costs at these rates for pools and stores and this evening percentage: the cents,
-// or the first refusal of 1 to 11, 26, 27, 12 to 20 and 25.
+// or the first refusal of the file, of 12 to 20 and of 25.
 #[no_mangle]
 pub extern "C" fn ruhkevois_price(
     file: &[u8],
@@ -90,8 +90,32 @@ pub extern "C" fn ruhkevois_price(
     price_told(answer)
 }
 
-// The earliest time of a set of facts in the job of a file: the minute, unreachable, or the first refusal of 1 to
-// 11, 26 and 24.
+// What the day of a plan for the job of a file was, by the true length of each step: its end and its number of steps,
+// with the peak of each pool in the array, or the first refusal of the file, of 12 to 20 and of 30, which leaves the
+// array as it was.
+#[no_mangle]
+pub extern "C" fn ruhkevois_true_day(
+    file: &[u8],
+    plan: &[u8],
+    lengths: &[u8],
+    peaks: &mut [u32; Job::POOLS],
+) -> u64
+    ensures { λ r. ⌜ r ≡ trueDayAnswer (now (file .entry)) (now (plan .entry)) (now (lengths .entry)) ⌝ }
+    ensures { λ _. ⌜ now (peaks .exit) ≡
+        peaksByTrueDay (now (file .entry)) (now (plan .entry)) (now (lengths .entry)) (now (peaks .entry)) ⌝ }
+{
+    let reading = reader::read(file);
+    let verdict = reading.verdict;
+    if let Verdict::Refused(why) = verdict {
+        return refused(why);
+    }
+    let day = true_day::true_day(reading.job, plan, lengths);
+    put_peaks(peaks, day);
+    day_told(day, day.steps as u16)
+}
+
+// The earliest time of a set of facts in the job of a file: the minute, unreachable, or the first refusal of the
+// file and of 24.
 #[no_mangle]
 pub extern "C" fn ruhkevois_earliest(file: &[u8], set: u64) -> u64
     ensures { λ r. ⌜ EarliestAnswers (now (file .entry)) set r ⌝ }
@@ -106,7 +130,7 @@ pub extern "C" fn ruhkevois_earliest(file: &[u8], set: u64) -> u64
 }
 
 // Writes a shortest plan for the job of a file to the front of the slice: its end and its number of steps, with the
-// peak of each pool in the array, or the first refusal of 1 to 11, 26, 27, 21, 22. The bytes behind the plan are kept;
+// peak of each pool in the array, or the first refusal of the file, of 21 and 22. The bytes behind the plan are kept;
 // a refusal changes nothing.
 #[no_mangle]
 pub extern "C" fn ruhkevois_plan(file: &[u8], out: &mut [u8], peaks: &mut [u32; Job::POOLS]) -> u64
@@ -124,8 +148,8 @@ pub extern "C" fn ruhkevois_plan(file: &[u8], out: &mut [u8], peaks: &mut [u32; 
 }
 
 // Replans the day of a file that has begun: writes a shortest plan for the new goal that keeps the steps of the current
-// plan begun before the minute to the front of the slice. Answers as the planner does, or the first refusal of 1 to 11,
-// 26, 24, 12 to 19 of the current plan, 21, 35. A refusal changes nothing.
+// plan begun before the minute to the front of the slice. Answers as the planner does, or the first refusal of the file,
+// of 24, 12 to 19 of the current plan, 21 and 35. A refusal changes nothing.
 #[no_mangle]
 pub extern "C" fn ruhkevois_replan(
     file: &[u8],

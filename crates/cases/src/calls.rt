@@ -4,6 +4,7 @@ use crate::lending;
 use crate::peaks;
 use crate::rates;
 use crate::replans;
+use crate::true_days;
 use earliest::EarliestTime;
 use job::Job;
 use job::refusal::Refusal;
@@ -47,7 +48,8 @@ fn refused_file(why: Refusal, job: Job) {
     choose(same_everywhere(job, Job::zero()), b"", b", job not zero");
 }
 
-// The answer to a record whose file holds this job: of the reader, the writer, the planner and the replanner.
+// The answer to a record whose file holds this job: of the reader, the writer, the planner, the replanner and the true
+// day.
 fn answer_for(job: Job, record: Record, file: &[u8], plan: &[u8]) {
     let call = record.call;
     match call {
@@ -56,6 +58,7 @@ fn answer_for(job: Job, record: Record, file: &[u8], plan: &[u8]) {
         b'b' => print_bytes(job, record.set as usize, record.room),
         b'p' => print_plan(job, record.room),
         b'm' => replans::print(job, record, plan),
+        b't' => true_days::print(job, plan),
         _ => answer_asked(job, call, record.set, plan),
     }
 }
@@ -185,12 +188,26 @@ pub fn print_day(job: Job, goal: u64, slice: &[u8], day: Day) {
     }
 }
 
-fn print_handed_out(job: Job, goal: u64, slice: &[u8], day: Day) {
+// The end, the number of steps and the peaks of a day.
+fn print_told(job: Job, day: Day) {
     print_end(day.end);
     text(b", ");
     number(day.steps as u64);
     text(b" steps");
     peaks::print(job, day);
+}
+
+// A day of which nothing is handed out.
+pub fn print_run(job: Job, day: Day) {
+    let verdict = day.verdict;
+    match verdict {
+        Verdict::Pass => print_told(job, day),
+        Verdict::Refused(why) => print_no_day(why, day),
+    }
+}
+
+fn print_handed_out(job: Job, goal: u64, slice: &[u8], day: Day) {
+    print_told(job, day);
     choose(
         lent::handed_out(job, goal, slice, day, day.end),
         b"",

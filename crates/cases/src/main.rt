@@ -5,6 +5,7 @@ mod lending; // the slices that are lent
 mod peaks; // the peaks of a day
 mod rates; // the rates of a price
 mod replans; // begun days, planned anew
+mod true_days; // days that have run
 
 use lending::rest;
 use lent::front;
@@ -15,8 +16,8 @@ const HEAD: usize = 16;
 const BODY: usize = 4_800;
 
 // The head of a record: the letter of its call, the lengths of its title, its file and its body, and the numbers that
-// the call is given. The body is the title, the file and, behind them, a plan, before which the rates of a price or the
-// minute of a begun day stand.
+// the call is given. The body is the title, the file and, behind them, a plan, before which the rates of a price, the
+// minute of a begun day or the true lengths of a day stand.
 pub struct Record {
     pub call: u8,
     pub title: usize,

@@ -5,4 +5,4 @@ pub mod WatchLaws
 mod ChainLaws
 pub mod StepLaws
 mod PlanLaws
-mod PeakLaws
+pub mod PeakLaws

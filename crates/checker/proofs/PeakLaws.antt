@@ -26,14 +26,19 @@ passed-when-ends : (v : Verdict) (P : List Step) (e : ℕ) → checkedOf v P ≡
 passed-when-ends Pass P e h = refl
 passed-when-ends (Refused why) P e h = cc
 
-pub small-peaks : (job : held.Job) (plan : Plan) (goal : ℕ) → Passed (jobIn job) → (c : Checked)
-    → c ≡ checkedOf (first (stepRows (jobIn job) goal (stepsOf plan))) (stepsOf plan) → (e : ℕ) → c ≡ Ends e
-    → SmallPeaks job plan
-small-peaks job plan goal within c checked e ends pool inside =
+pub small-peaks-of-pass : (job : held.Job) (plan : Plan) (goal : ℕ) → Passed (jobIn job)
+    → first (stepRows (jobIn job) goal (stepsOf plan)) ≡ Pass → SmallPeaks job plan
+small-peaks-of-pass job plan goal within pass pool inside =
     let J = jobIn job in
     let count = length-tabulate (job .counts .pools) (λ k. getD (job .pools) k 0) in
-    let pass = passed-when-ends (first (stepRows J goal (stepsOf plan))) (stepsOf plan) e (sym checked ∙ ends) in
     let keeps = accepted-steps J goal (stepsOf plan) pass in
     let available = each-at (λ x. x ≤ 1000000) (J .pools) 0 (within .pools) pool (omega arith) in
     let most = peak-at-most J pool (stepsOf plan) (getD (J .pools) pool 0) (λ t. keeps .pools pool t (omega arith)) in
     omega arith
+
+pub small-peaks : (job : held.Job) (plan : Plan) (goal : ℕ) → Passed (jobIn job) → (c : Checked)
+    → c ≡ checkedOf (first (stepRows (jobIn job) goal (stepsOf plan))) (stepsOf plan) → (e : ℕ) → c ≡ Ends e
+    → SmallPeaks job plan
+small-peaks job plan goal within c checked e ends =
+    small-peaks-of-pass job plan goal within
+    (passed-when-ends (first (stepRows (jobIn job) goal (stepsOf plan))) (stepsOf plan) e (sym checked ∙ ends))

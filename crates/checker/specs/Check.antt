@@ -22,7 +22,7 @@ use Rattle.checker.specs.declared.Checked.{Checked}
 use Rattle.checker.specs.declared.Checked.the-variants as checked
 use Rattle.checker.specs.declared.CheckedPlan.{CheckedPlan}
 
--- tests 3 to 11, 26 and 27 of the job, then 12 to 20 of the plan with the job's goal
+-- the tests of the job, then 12 to 20 of the plan with the job's goal
 unfoldable pub checkRows : Job → List ℕ → List Row
 checkRows J bytes = jobRows J ++ planRows J (J .goal) bytes
 
@@ -43,7 +43,7 @@ checkFor J goal bytes =
     dayOf (first (jobRows J ++ (ForeignAskedFact when foreign (J .facts) goal ∷ planRows J goal bytes))) J
     (stepsIn J bytes)
 
--- a job value that passes tests 3 to 11, 26 and 27
+-- a job value that passes its tests
 abbrev pub Valid : held.Job → Type 0
 Valid job = first (jobRows (jobIn job)) ≡ Pass
 

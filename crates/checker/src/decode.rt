@@ -12,7 +12,6 @@ ghost use Rattle.timeline.specs.Step.{stepOf, stepsIn};
 ghost use Rattle.timeline.specs.Accepted.{unknown, wrongSize};
 ghost use Rattle.timeline.specs.Value.{stepOfValue, stepsOf};
 use encoding::read_number;
-use job::Action;
 use job::Job;
 use job::refusal::Refusal;
 use job::refusal::Verdict;
@@ -67,13 +66,7 @@ pub fn plan(job: Job, bytes: &[u8]) -> Plan
     ensures { λ r. ⌜ (r .length ≤ 32) × (r .counts ≡ job .counts)
         × (stepsOf r ≡ stepsIn (jobIn job) (now (bytes .entry))) ⌝ }
 {
-    let action = Action::unused();
-    let unused = Step {
-        number: 0,
-        action,
-        start: 0,
-        stop: 0,
-    };
+    let unused = Step::unused();
     let mut steps = [unused; Plan::STEPS];
     let count = bytes.len() / Plan::STEP;
     let mut i = 0;

@@ -1,8 +1,8 @@
-// The checker: a job and a plan's bytes in; the plan's end, number of steps and peaks, or the first refusal of 3 to 11,
-// 26 and 12 to 20, out.
+// The checker: a job and a plan's bytes in; the plan's end, number of steps and peaks, or the first refusal of the
+// job and of 12 to 20, out.
 pub mod decode; // the steps in a plan's bytes
-mod rules; // one check for each rule
-mod pools; // how much of each pool is in use
+pub mod rules; // one check for each rule
+pub mod pools; // how much of each pool is in use
 pub mod clock; // the facts that hold, minute by minute
 mod watch; // the clock over a whole plan
 
@@ -117,8 +117,8 @@ pub fn checked_plan(job: Job, goal: u64, bytes: &[u8]) -> CheckedPlan
     with_day(job, plan, check_steps(plan, job, goal))
 }
 
-// Whether the plan is accepted for the job's goal: its end, number of steps and peaks, or the first refusal of 3 to 11,
-// 26 and 12 to 20.
+// Whether the plan is accepted for the job's goal: its end, number of steps and peaks, or the first refusal of the
+// job and of 12 to 20.
 pub fn check(job: Job, plan: &[u8]) -> Day
     ensures { λ r. ⌜ Checks (jobIn job) (now (plan .entry)) r ⌝ }
 {

@@ -7,6 +7,7 @@ use Rattle.lists.specs.Lists.{tabulate, any, Each}
 use Rattle.facts.specs.FactSet.{has, union, difference, subset, meets, foreign}
 use Rattle.encoding.specs.Bytes.{fromBytes, toBytes}
 use Rattle.job.specs.Resources.{handover, storeAmount, storeCap}
+use Rattle.job.specs.Lengths.{shortestOf}
 use Rattle.job.specs.Job.{Job}
 use Rattle.job.specs.Refusal.{first}
 use Rattle.job.specs.Valid.{actionRows, limitRows, usesBeyond, jobRows}
@@ -44,7 +45,7 @@ x and y = (x, y)
 
 pub days-hold : Each Holds days
 unfolding tabulate any has union difference subset meets foreign fromBytes toBytes first actionRows limitRows usesBeyond jobRows stepsIn free
-    handover storeAmount storeCap peak stepRows planRows checkRows checkPlan rightSide makespanFrom
+    handover storeAmount storeCap shortestOf peak stepRows planRows checkRows checkPlan rightSide makespanFrom
 days-hold =
     -- 1, 2, 3
     refl and refl and refl and refl

@@ -29,6 +29,7 @@ job1 =
       pools = [];
       handovers = [];
       stores = [];
+      shortest = [];
       actions = [];
     }
 
@@ -50,6 +51,7 @@ job2 deadline =
       pools = [];
       handovers = [];
       stores = [];
+      shortest = [];
       actions = plain 3 1 8 0 ∷ plain 2 2 4 0 ∷ plain 5 4 16 0 ∷ [];
     }
 
@@ -66,6 +68,7 @@ twoActions deadline pools stores poolUses storeUses =
       pools = pools;
       handovers = [];
       stores = stores;
+      shortest = [];
       actions = adding 1 ∷ adding 2 ∷ [];
     }
   where
@@ -93,6 +96,7 @@ job6 =
       pools = [];
       handovers = [];
       stores = [];
+      shortest = [];
       actions = plain 2 1 2 1 ∷ plain 1 2 1 0 ∷ [];
     }
 

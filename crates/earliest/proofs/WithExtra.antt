@@ -11,12 +11,11 @@ use Rattle.lists.specs.Lists.{tabulate}
 use Rattle.lists.proofs.Tabulate.{length-tabulate, getD-tabulate}
 use Rattle.job.specs.declared.Job as held
 use Rattle.job.specs.declared.refusal.Verdict.the-variants.{Pass}
-use Rattle.job.specs.Job.{Action, Job, jobIn, actionAt, beyond}
+use Rattle.job.specs.Job.{Action, Job, jobIn, actionAt, beyond, noAction}
 use Rattle.job.specs.Refusal.{first}
 use Rattle.job.specs.Valid.{jobRows}
 use Rattle.job.proofs.Passed.{passed}
 use Rattle.job.proofs.Rows.{fits-of-pass}
-use Rattle.timeline.specs.Step.{noAction}
 use Rattle.earliest.specs.declared.extra.Extra.{Extra}
 use Rattle.earliest.specs.Extra.{noExtra, extraAt, extraActions, withActions, withExtra, AllFit}
 use Rattle.earliest.specs.Sweep.{HasPools, IsAction, Filled}

@@ -15,7 +15,7 @@ use Rattle.times.specs.Earliest.{Table, timeOf, Solves}
 use Rattle.earliest.specs.declared.EarliestTime.{EarliestTime}
 use Rattle.earliest.specs.declared.EarliestTime.the-variants as answer
 
--- tests 3 to 11, 26 and 27 of the job, then 24: "asked set has a bit at or above the number of facts"
+-- the tests of the job, then 24: "asked set has a bit at or above the number of facts"
 abbrev pub earliestRows : Job → ℕ → List Row
 earliestRows J set = jobRows J ++ (ForeignAskedFact when foreign (J .facts) set ∷ [])
 

@@ -33,6 +33,7 @@ withActions J actions =
       pools = J .pools;
       handovers = J .handovers;
       stores = J .stores;
+      shortest = J .shortest;
       actions = actions;
     }
 

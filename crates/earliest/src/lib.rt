@@ -37,7 +37,7 @@ fn answer(time: u32) -> EarliestTime
     EarliestTime::At(time)
 }
 
-// The earliest time of a set of facts: 3 to 11, 26, 27, then 24, then a number or unreachable.
+// The earliest time of a set of facts: a refusal of the job, 24, a number or unreachable.
 pub fn earliest(job: Job, set: u64) -> EarliestTime
     ensures { λ r. ⌜ Answers (jobIn job) set r ⌝ }
 {

@@ -7,5 +7,6 @@ mod Answers
 mod Agree
 mod SameParts
 pub mod ResourceLaws
+pub mod LengthLaws
 mod BeyondLaws
 mod BrokenLaws

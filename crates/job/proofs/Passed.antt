@@ -1,13 +1,16 @@
--- What a job that passes tests 3 to 11 and 27 is like.
+-- What a job that passes tests 3 to 11, 27 and 29 is like.
 -- Assumes nothing.
-use Prim.Native.Nat.{ℕ, _≤_}
+use Prim.Native.Nat.{ℕ, _≤_, _<_}
 use mathlib.Core.Path.{_≡_}
 use mathlib.Core.Bool.{Bool, false, _||_}
 use mathlib.Core.List.{List, [], _∷_, _++_}
 use native.Mathlib.Omega.{arith}
+use lib.Dec.{eqb}
+use lib.ListN.{length}
 use borrow.Author.Tests.{ltb-false, eqb-false}
 use Rattle.lists.specs.Lists.{any, Each}
 use Rattle.lists.proofs.Any.{any-append, any-none}
+use Rattle.lists.proofs.Below.{below-none}
 use Rattle.lists.proofs.Bools.{or-left, or-right}
 use Rattle.lists.proofs.Tabulate.{each-map}
 use Rattle.facts.specs.FactSet.{foreign}
@@ -15,7 +18,8 @@ use Rattle.facts.proofs.Membership.{within-word}
 use Rattle.job.specs.declared.refusal.Verdict.the-variants.{Pass}
 use Rattle.job.specs.Job.{Action, Job, jobValue}
 use Rattle.job.specs.Refusal.{first}
-use Rattle.job.specs.Valid.{ActionRule, Duration, Facts, Effects, Uses, over, breaks}
+use Rattle.job.specs.Lengths.{longestOf, shortestOf}
+use Rattle.job.specs.Valid.{ActionRule, Duration, Facts, Effects, Uses, over, breaks, hasWrongRange}
 use Rattle.job.specs.Valid.{actionRows, limitRows, jobRows}
 use Rattle.job.specs.Passed.{Amounts, WithinFacts, PassedAction, Passed}
 use Rattle.job.proofs.Table.{first-pass}
@@ -71,6 +75,12 @@ rules broken d f e u Facts = f
 rules broken d f e u Effects = e
 rules broken d f e u Uses = u
 
+right-range : (J : Job) (i : ℕ) → hasWrongRange J i ≡ false → (0 < shortestOf J i) × (shortestOf J i ≤ longestOf J i)
+right-range J i h =
+    let zero = eqb (shortestOf J i) 0 in
+    let none = eqb-false (shortestOf J i) 0 (or-left zero _ h) in
+    (omega arith, ltb-false (longestOf J i) (shortestOf J i) (or-right zero _ h))
+
 -- what the limits say of a job; test 26 adds nothing to it
 pub within-limits : (J : Job) → first (limitRows J) ≡ Pass → Passed J
 unfolding limitRows actionRows
@@ -82,7 +92,8 @@ within-limits J h =
     let t7 = first-pass _ _ _ (t6 .1) in
     let t27 = first-pass _ _ _ (t7 .1) in
     let t8 = first-pass _ _ _ (t27 .1) in
-    let t9 = first-pass _ _ _ (t8 .1) in
+    let t29 = first-pass _ _ _ (t8 .1) in
+    let t9 = first-pass _ _ _ (t29 .1) in
     let t10 = first-pass _ _ _ (t9 .1) in
     let t11 = first-pass _ _ _ (t10 .1) in
     let counts = fits-of-counts (jobValue J .counts) (t3 .0) in
@@ -104,6 +115,7 @@ within-limits J h =
       handovers = each-map (λ x e. ltb-false 30 x e) (J .handovers) (any-none (over 30) (J .handovers) (t27 .0));
       actions = passed-actions (J .facts) few (J .actions)
           (λ rule. any-none (breaks rule (J .facts)) (J .actions) (kept rule));
+      ranges = λ i l. right-range J i (below-none (length (J .actions)) (hasWrongRange J) (t29 .0) i l);
     }
 
 pub passed : (J : Job) → first (jobRows J) ≡ Pass → Passed J

@@ -1,14 +1,15 @@
 -- What a value charges and allows, and for how long its shares stay in use, is what its job says.
 -- Assumes nothing.
 use Prim.Native.Nat.{ℕ, zero, suc, _<_}
-use mathlib.Core.Path.{_≡_, refl, sym}
+use mathlib.Core.Path.{_≡_, refl, sym, ap}
 use lib.ListN.{getD, replicate}
 use Rattle.lists.specs.Lists.{tabulate}
 use Rattle.lists.proofs.Tabulate.{getD-tabulate, length-tabulate}
 use Rattle.job.specs.declared.Action as act
-use Rattle.job.specs.declared.Form.the-variants.{Four, Five}
+use Rattle.job.specs.declared.Form.{Form}
+use Rattle.job.specs.declared.Form.the-variants.{Four, Five, Six}
 use Rattle.job.specs.declared.Job as held
-use Rattle.job.specs.Job.{actionIn, jobIn}
+use Rattle.job.specs.Job.{handoverCount, actionIn, jobIn}
 use Rattle.job.specs.Resources.{handover, storeAmount, storeCap, HandoversOf, chargedIn, allowedIn}
 
 pub charged-is : (job : held.Job) (a : act.Action) (store : ℕ) → store < job .counts .stores
@@ -33,9 +34,17 @@ pub handovers-of-four : (job : held.Job) → job .form ≡ Four → HandoversOf 
 unfolding handover tabulate
 handovers-of-four job four pool known = rw four (only-zeros 4 pool)
 
-pub handovers-of-five : (job : held.Job) → job .form ≡ Five → HandoversOf (jobIn job) (job .handovers)
+-- with handovers in its form it has those of its pools
+handovers-of-pools : (job : held.Job) → handoverCount (job .form) (job .counts .pools) ≡ job .counts .pools
+    → HandoversOf (jobIn job) (job .handovers)
 unfolding handover
-handovers-of-five job five pool known =
+handovers-of-pools job all pool known =
     let n = job .counts .pools in
-    rw five
+    rw all
     (sym (getD-tabulate n (λ k. getD (job .handovers) k 0) pool 0 (rw (length-tabulate n (λ k. getD (job .pools) k 0)) at known)))
+
+pub handovers-of-five : (job : held.Job) → job .form ≡ Five → HandoversOf (jobIn job) (job .handovers)
+handovers-of-five job five = handovers-of-pools job (ap (λ (f : Form). handoverCount f (job .counts .pools)) five)
+
+pub handovers-of-six : (job : held.Job) → job .form ≡ Six → HandoversOf (jobIn job) (job .handovers)
+handovers-of-six job six = handovers-of-pools job (ap (λ (f : Form). handoverCount f (job .counts .pools)) six)

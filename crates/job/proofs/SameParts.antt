@@ -13,9 +13,9 @@ use Rattle.lists.proofs.Bools.{absurd}
 use Rattle.job.specs.declared.Action as act
 use Rattle.job.specs.declared.Counts.{Counts}
 use Rattle.job.specs.declared.Form.{Form}
-use Rattle.job.specs.declared.Form.the-variants.{Four, Five}
+use Rattle.job.specs.declared.Form.the-variants.{Four, Five, Six}
 use Rattle.job.specs.declared.Job as held
-use Rattle.job.specs.Job.{Job, entries, handoverCount, actionIn, jobIn}
+use Rattle.job.specs.Job.{Job, entries, handoverCount, shortestCount, actionIn, jobIn}
 use Rattle.job.proofs.Answers.{equal, _and_, _also_}
 use Rattle.job.proofs.Agree.{same-count}
 
@@ -33,8 +33,13 @@ same-form a b = decides-iff (equal (entries a) (entries b)) (one-form a b) (λ e
     one-form : (a b : Form) → entries a ≡ entries b → a ≡ b
     one-form Four Four e = refl
     one-form Four Five e = absurd (omega arith)
+    one-form Four Six e = absurd (omega arith)
     one-form Five Four e = absurd (omega arith)
     one-form Five Five e = refl
+    one-form Five Six e = absurd (omega arith)
+    one-form Six Four e = absurd (omega arith)
+    one-form Six Five e = absurd (omega arith)
+    one-form Six Six e = refl
 
 -- n amounts of two arrays are the same
 abbrev SameAmounts : ℕ → List ℕ → List ℕ → Type 0
@@ -75,6 +80,7 @@ counted f n j =
       pools = j .pools;
       handovers = j .handovers;
       stores = j .stores;
+      shortest = j .shortest;
       actions = j .actions;
     }
 
@@ -86,12 +92,13 @@ counts-of-same a b e =
     let x = same-count _ _ _ _ (λ i. e i .actions) in
     λ i. record { pools = p i; stores = s i; actions = x i }
 
-module _ (a b : held.Job) {f c p w s x : Bool} where
+module _ (a b : held.Job) {f c p w s l x : Bool} where
   pub same-job : Decides f (a .form ≡ b .form)
       → Decides c (a .counts ≡ b .counts)
       → Decides p (SameAmounts (a .counts .pools) (a .pools) (b .pools))
       → Decides w (SameAmounts (handoverCount (a .form) (a .counts .pools)) (a .handovers) (b .handovers))
       → Decides s (SameAmounts (a .counts .stores) (a .stores) (b .stores))
+      → Decides l (SameAmounts (shortestCount (a .form) (a .counts .actions)) (a .shortest) (b .shortest))
       → Decides x (counted (a .form) (a .counts) a .actions ≡ counted (a .form) (a .counts) b .actions)
       → Decides
       (eqb (a .facts) (b .facts) && eqb (a .deadline) (b .deadline) && eqb (a .start) (b .start)
@@ -101,9 +108,10 @@ module _ (a b : held.Job) {f c p w s x : Bool} where
       && p
       && w
       && s
+      && l
       && x)
       (jobIn a ≡ jobIn b)
-  same-job form counts pools handovers stores actions =
+  same-job form counts pools handovers stores shortest actions =
       decides-iff
       (equal (a .facts) (b .facts) and equal (a .deadline) (b .deadline) and equal (a .start) (b .start)
       and equal (a .goal) (b .goal)
@@ -112,10 +120,11 @@ module _ (a b : held.Job) {f c p w s x : Bool} where
       and pools
       and handovers
       and stores
+      and shortest
       and actions)
       (λ h.
       let e : counted (a .form) (a .counts) a ≡ counted (a .form) (a .counts) b = cc in
-      e ∙ ap₂ (λ (g : Form) (n : Counts). counted g n b) (h .0 .0 .0 .0 .0 .1) (h .0 .0 .0 .0 .1))
+      e ∙ ap₂ (λ (g : Form) (n : Counts). counted g n b) (h .0 .0 .0 .0 .0 .0 .1) (h .0 .0 .0 .0 .0 .1))
       (λ e.
       let g : a .form ≡ b .form = λ i. e i .form in
       let n = counts-of-same a b e in
@@ -127,4 +136,5 @@ module _ (a b : held.Job) {f c p w s x : Bool} where
       also (λ i. j i .pools)
       also (λ i. j i .handovers)
       also (λ i. j i .stores)
+      also (λ i. j i .shortest)
       also (λ i. j i .actions))

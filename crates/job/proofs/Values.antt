@@ -1,5 +1,5 @@
--- A job and its value: the value holds the job, and in every value each action has a use of each pool and store, and
--- each pool a handover if the form has them.
+-- A job and its value: the value holds the job, and in every value each action has a use of each pool and store, and,
+-- if the form has them, each pool a handover and each action a shortest length.
 -- Assumes nothing.
 use Prim.Native.Nat.{ℕ, _≤_}
 use mathlib.Core.Path.{_≡_, refl, ap, sym, _∙_}
@@ -10,25 +10,34 @@ use Rattle.lists.specs.Lists.{firsts, filled, Each}
 use Rattle.lists.proofs.Tabulate.{length-tabulate, map-tabulate, firsts-filled, each-tabulate}
 use Rattle.job.specs.declared.Counts.{Counts}
 use Rattle.job.specs.declared.Form.{Form}
-use Rattle.job.specs.declared.Form.the-variants.{Four, Five}
+use Rattle.job.specs.declared.Form.the-variants.{Four, Five, Six}
 use Rattle.job.specs.declared.Job as held
-use Rattle.job.specs.Job.{Action, Job, handoverCount, beyond, actionIn, actionAt, jobIn, unusedAction}
-use Rattle.job.specs.Job.{actionValue, jobValue}
+use Rattle.job.specs.Job.{Action, Job, handoverCount, shortestCount, beyond, actionIn, actionAt, jobIn}
+use Rattle.job.specs.Job.{unusedAction, actionValue, jobValue}
 
 -- no more handovers than pools
 pub few-handovers : (form : Form) (pools : ℕ) → handoverCount form pools ≤ pools
 few-handovers Four pools = omega arith
 few-handovers Five pools = omega arith
+few-handovers Six pools = omega arith
+
+-- no more shortest lengths than actions
+pub few-shortest : (form : Form) (actions : ℕ) → shortestCount form actions ≤ actions
+few-shortest Four actions = omega arith
+few-shortest Five actions = omega arith
+few-shortest Six actions = omega arith
 
 -- the action has a use of each of p pools and s stores
 pub record Shaped (p s : ℕ) (a : Action) : Type 0 where
   pub pools : length (a .pools) ≡ p
   pub stores : length (a .stores) ≡ s
 
--- each action has a use of each pool and each store of the job, and there are as many handovers as the form has
+-- each action has a use of each pool and each store of the job, and there are as many handovers and shortest lengths as
+-- the form has
 pub record Shape (J : Job) : Type 0 where
   pub actions : Each (Shaped (length (J .pools)) (length (J .stores))) (J .actions)
   pub handovers : length (J .handovers) ≡ handoverCount (J .form) (length (J .pools))
+  pub shortest : length (J .shortest) ≡ shortestCount (J .form) (length (J .actions))
 
 pub job-in-shape : (j : held.Job) → Shape (jobIn j)
 job-in-shape j =
@@ -36,6 +45,7 @@ job-in-shape j =
       actions = each-tabulate _ (j .counts .actions) (actionAt j)
           (λ i h. record { pools = simp length-tabulate; stores = simp length-tabulate });
       handovers = simp length-tabulate;
+      shortest = simp length-tabulate;
     }
 
 action-of-value : (n : Counts) (a : Action) → Shaped (n .pools) (n .stores) a → actionIn n (actionValue a) ≡ a
@@ -56,15 +66,17 @@ actions-of-job-value J h =
     ∙ ap (map (actionIn n)) (firsts-filled 64 unusedAction beyond (map actionValue (J .actions)))
     ∙ actions-of-values n (J .actions) (h .actions)
 
-handovers-of-job-value : (J : Job) → Shape J → jobIn (jobValue J) .handovers ≡ J .handovers
-handovers-of-job-value J h =
-    ap (λ (k : ℕ). firsts k 0 (filled 4 0 (J .handovers))) (sym (h .handovers)) ∙ firsts-filled 4 0 0 (J .handovers)
+-- numbers in an array, as many as are counted
+counted-again : (places count : ℕ) (xs : List ℕ) → length xs ≡ count → firsts count 0 (filled places 0 xs) ≡ xs
+counted-again places count xs e =
+    ap (λ (k : ℕ). firsts k 0 (filled places 0 xs)) (sym e) ∙ firsts-filled places 0 0 xs
 
 pub value-holds-job : (J : Job) → Shape J → jobIn (jobValue J) ≡ J
 value-holds-job J h =
     rw (
       firsts-filled 4 0 0 (J .pools),
-      handovers-of-job-value J h,
+      counted-again 4 _ (J .handovers) (h .handovers),
       firsts-filled 4 0 0 (J .stores),
+      counted-again 64 _ (J .shortest) (h .shortest),
       actions-of-job-value J h,
     )

@@ -8,7 +8,7 @@ use Rattle.job.specs.declared.Action as act
 use Rattle.job.specs.declared.Job as held
 use Rattle.job.specs.declared.Counts.{Counts}
 use Rattle.job.specs.declared.Form.{Form}
-use Rattle.job.specs.declared.Form.the-variants.{Four, Five}
+use Rattle.job.specs.declared.Form.the-variants.{Four, Five, Six}
 
 -- "An action has a length of 1 to 255 minutes, a set of needed facts, one of added and one of deleted facts,
 -- and a use of 0 to 1,000,000 of each pool and store." Needed facts are the field's preconditions; a pool is a
@@ -24,7 +24,8 @@ pub record Action : Type 0 where
 -- "A job has 0 to 64 facts, numbered from 0, a start set and a goal set. Its deadline is 0 to 1,440 minutes. It has
 -- 0 to 4 pools and 0 to 4 stores, each with an availability of 0 to 1,000,000. It has 0 to 64 actions."
 -- "Each pool gets a handover of 0 to 30 minutes": one for each pool in a form that has them, else none. "The form
--- belongs to the job."
+-- belongs to the job." "A sixth body gives one byte of shortest length for each action": one for each action in a form
+-- that has them, else none.
 pub record Job : Type 0 where
   pub facts : ℕ
   pub deadline : ℕ
@@ -34,17 +35,29 @@ pub record Job : Type 0 where
   pub pools : List ℕ
   pub handovers : List ℕ
   pub stores : List ℕ
+  pub shortest : List ℕ
   pub actions : List Action
+
+-- what stands for an action that the job lacks
+abbrev pub noAction : Action
+noAction = record { duration = 0; needs = 0; adds = 0; deletes = 0; pools = []; stores = [] }
 
 -- how many entries the contents of a file of the form have
 abbrev pub entries : Form → ℕ
 entries Four = 4
 entries Five = 5
+entries Six = 6
 
--- how many handovers a job of the form has
+-- how many handovers a job of the form with so many pools has, and how many shortest lengths one with so many actions
 abbrev pub handoverCount : Form → ℕ → ℕ
 handoverCount Four pools = 0
 handoverCount Five pools = pools
+handoverCount Six pools = pools
+
+abbrev pub shortestCount : Form → ℕ → ℕ
+shortestCount Four actions = 0
+shortestCount Five actions = 0
+shortestCount Six actions = actions
 
 -- ── the job in a value: "what is beyond its counts is ignored; two jobs are the same if their counts and all
 -- within them agree"; "what a job value holds beyond its form is ignored, in refusals and when jobs are compared too" ──
@@ -79,6 +92,7 @@ jobIn j =
       pools = firsts (j .counts .pools) 0 (j .pools);
       handovers = firsts (handoverCount (j .form) (j .counts .pools)) 0 (j .handovers);
       stores = firsts (j .counts .stores) 0 (j .stores);
+      shortest = firsts (shortestCount (j .form) (j .counts .actions)) 0 (j .shortest);
       actions = tabulate (j .counts .actions) (actionAt j);
     }
 
@@ -115,6 +129,7 @@ jobValue J =
       pools = filled 4 0 (J .pools);
       handovers = filled 4 0 (J .handovers);
       stores = filled 4 0 (J .stores);
+      shortest = filled 64 0 (J .shortest);
       actions = filled 64 unusedAction (map actionValue (J .actions));
     }
 
@@ -131,5 +146,6 @@ zeroValue =
       pools = [];
       handovers = [];
       stores = [];
+      shortest = [];
       actions = [];
     })

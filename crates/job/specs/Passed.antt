@@ -1,4 +1,4 @@
--- What a job that passes tests 3 to 11 and 27 is like.
+-- What a job that passes tests 3 to 11, 27 and 29 is like.
 -- Inner functions and laws alone cite these. Assumes nothing.
 use Prim.Native.Nat.{ℕ, _^_, _≤_, _<_}
 use mathlib.Core.Path.{_≡_}
@@ -8,6 +8,7 @@ use lib.ListN.{length}
 use Rattle.lists.specs.Lists.{Each}
 use Rattle.facts.specs.FactSet.{meets, foreign}
 use Rattle.job.specs.Job.{Action, Job}
+use Rattle.job.specs.Lengths.{longestOf, shortestOf}
 
 -- an amount of a pool or a store, available or used
 abbrev pub Amounts : List ℕ → Type 0
@@ -28,7 +29,7 @@ pub record PassedAction (facts : ℕ) (a : Action) : Type 0 where
   pub pools : Amounts (a .pools)
   pub stores : Amounts (a .stores)
 
--- a job that passes tests 3 to 11 and 27
+-- a job that passes tests 3 to 11, 27 and 29
 pub record Passed (J : Job) : Type 0 where
   pub fewPools : length (J .pools) ≤ 4
   pub fewStores : length (J .stores) ≤ 4
@@ -41,3 +42,4 @@ pub record Passed (J : Job) : Type 0 where
   pub stores : Amounts (J .stores)
   pub handovers : Each (λ x. x ≤ 30) (J .handovers)
   pub actions : Each (PassedAction (J .facts)) (J .actions)
+  pub ranges : (i : ℕ) → i < length (J .actions) → (0 < shortestOf J i) × (shortestOf J i ≤ longestOf J i)

@@ -38,6 +38,8 @@ number why.ForeignAskedFact = 24
 number why.RateOver = 25
 number why.UseBeyond = 26
 number why.HandoverOver = 27
+number why.ShortestLength = 29
+number why.TrueLengths = 30
 number why.NoPlanWithKept = 35
 
 -- a row of the table: the refusal, and whether it holds

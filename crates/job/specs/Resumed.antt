@@ -19,6 +19,7 @@ resumed J start stores =
       pools = J .pools;
       handovers = J .handovers;
       stores = firsts (length (J .stores)) 0 stores;
+      shortest = J .shortest;
       actions = J .actions;
     }
 
@@ -35,5 +36,6 @@ resumedValue job start stores =
       pools = job .pools;
       handovers = job .handovers;
       stores = stores;
+      shortest = job .shortest;
       actions = job .actions;
     }

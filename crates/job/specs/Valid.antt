@@ -1,4 +1,4 @@
--- Tests 3 to 11, 26 and 27 of a job, in the order of the table.
+-- Tests 3 to 11, 26, 27 and 29 of a job, in the order of the table.
 -- Assumes nothing.
 use Prim.Native.Nat.{ℕ}
 use mathlib.Core.Bool.{Bool, _||_}
@@ -10,9 +10,11 @@ use Rattle.facts.specs.FactSet.{meets, foreign}
 use Rattle.job.specs.declared.refusal.Refusal.the-variants.{BodySizes, FactCount, Deadline, ForeignFact}
 use Rattle.job.specs.declared.refusal.Refusal.the-variants.{Availability, ZeroDuration, ForeignActionFact}
 use Rattle.job.specs.declared.refusal.Refusal.the-variants.{AddedAndDeleted, ActionUse, UseBeyond, HandoverOver}
+use Rattle.job.specs.declared.refusal.Refusal.the-variants.{ShortestLength}
 use Rattle.job.specs.declared.validate.Broken.{Broken}
 use Rattle.job.specs.Job.{Action, Job}
 use Rattle.job.specs.Resources.{storeAmount, storeCap}
+use Rattle.job.specs.Lengths.{longestOf, shortestOf}
 use Rattle.job.specs.Refusal.{Row, _when_}
 
 -- x is over the limit
@@ -48,10 +50,18 @@ eitherBroken x y =
       uses = x .uses || y .uses;
     }
 
--- tests 8 to 11: each over all actions
+-- "a shortest length 0 or over the longest": of two lengths, and of the action with the number i
+abbrev pub wrongRange : ℕ → ℕ → Bool
+wrongRange shortest longest = eqb shortest 0 || over longest shortest
+
+abbrev pub hasWrongRange : Job → ℕ → Bool
+hasWrongRange J i = wrongRange (shortestOf J i) (longestOf J i)
+
+-- tests 8 to 11: each over all actions; 29 stands "after 8 and before 9"
 unfoldable pub actionRows : Job → List Row
 actionRows J =
     ZeroDuration when any (breaks Duration (J .facts)) (J .actions)
+    ∷ ShortestLength when anyBelow (length (J .actions)) (hasWrongRange J)
     ∷ ForeignActionFact when any (breaks Facts (J .facts)) (J .actions)
     ∷ AddedAndDeleted when any (breaks Effects (J .facts)) (J .actions)
     ∷ ActionUse when any (breaks Uses (J .facts)) (J .actions)

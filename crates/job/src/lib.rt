@@ -1,18 +1,19 @@
 // The job of a day by value: its actions, its resources and its sets of facts, with every limit once.
 pub mod refusal; // the table of refusals
-pub mod validate; // tests 3 to 11, 26 and 27 of a job value
+pub mod validate; // the tests of a job value
 mod beyond; // test 26
+pub mod lengths; // how long an action lasts at least, and test 29
 pub mod same; // whether two values hold the same job
 pub mod resources; // what an action takes of pools and stores
 pub mod resumed; // the job of what is left of a day
 
 ghost use mathlib.Core.Path.{_≡_};
 ghost use Prim.Native.Nat.{_^_, _<_};
-ghost use Rattle.job.specs.Job.{entries, handoverCount, unusedAction, zeroValue};
+ghost use Rattle.job.specs.Job.{entries, handoverCount, shortestCount, unusedAction, zeroValue};
 
 // An action of a job. Sets of facts are words: fact n is bit n.
 pub struct Action {
-    pub duration: u8, // minutes (document 01: length)
+    pub duration: u8, // minutes (document 01: length), the longest where it is known only within a range
     pub needs: u64, // preconditions
     pub adds: u64,
     pub deletes: u64,
@@ -53,6 +54,7 @@ pub struct Counts {
 pub enum Form {
     Four, // the head, the pools, the stores and the actions
     Five, // and the handovers of the pools
+    Six, // and the shortest lengths of the actions
 }
 
 impl Form {
@@ -63,6 +65,7 @@ impl Form {
         match self {
             Form::Four => 4,
             Form::Five => 5,
+            Form::Six => 6,
         }
     }
 
@@ -73,6 +76,18 @@ impl Form {
         match self {
             Form::Four => 0,
             Form::Five => pools,
+            Form::Six => pools,
+        }
+    }
+
+    // How many shortest lengths a job of this form with so many actions has.
+    pub fn shortest(self, actions: usize) -> usize
+        ensures { λ r. ⌜ r ≡ shortestCount self actions ⌝ }
+    {
+        match self {
+            Form::Four => 0,
+            Form::Five => 0,
+            Form::Six => actions,
         }
     }
 }
@@ -89,6 +104,7 @@ pub struct Job {
     pub counts: Counts,
     pub pools: [u32; Job::POOLS],
     pub stores: [u32; Job::STORES],
+    pub shortest: [u8; Job::ACTIONS], // minutes that the action lasts at least
     pub actions: [Action; Job::ACTIONS],
 }
 
@@ -135,6 +151,7 @@ impl Job {
             pools: [0u32; Job::POOLS],
             handovers: [0u8; Job::POOLS],
             stores: [0u32; Job::STORES],
+            shortest: [0u8; Job::ACTIONS],
             actions: [unused; Job::ACTIONS],
         }
     }

@@ -41,6 +41,10 @@ pub enum Refusal {
     UseBeyond,
     // the handovers of its pools
     HandoverOver,
+    // the shortest lengths of its actions
+    ShortestLength,
+    // the true lengths of a plan's steps
+    TrueLengths,
     // the replanner
     NoPlanWithKept,
 }
@@ -83,6 +87,8 @@ pub fn number(refusal: Refusal) -> u8
         Refusal::RateOver => 25,
         Refusal::UseBeyond => 26,
         Refusal::HandoverOver => 27,
+        Refusal::ShortestLength => 29,
+        Refusal::TrueLengths => 30,
         Refusal::NoPlanWithKept => 35,
     }
 }

@@ -15,6 +15,7 @@ pub fn handovers(job: Job) -> [u8; Job::POOLS]
     match form {
         Form::Four => [0u8; Job::POOLS],
         Form::Five => handovers,
+        Form::Six => handovers,
     }
 }
 

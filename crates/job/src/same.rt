@@ -1,6 +1,6 @@
 // Whether two values hold the same job.
 ghost use mathlib.Core.Path.{_≡_};
-ghost use lib.ListN.{getD};
+ghost use lib.ListN.{length, getD};
 ghost use Rattle.lists.specs.Lists.{tabulate, firsts};
 ghost use Rattle.lists.specs.Answer.{Decides};
 ghost use Rattle.job.specs.Job.{beyond, actionIn, jobIn};
@@ -23,18 +23,33 @@ fn same_form(a: Form, b: Form) -> bool
     a.entries() == b.entries()
 }
 
-// Whether the first n handovers agree. Past their ends two arrays agree by themselves.
-fn same_handovers(n: usize, a: [u8; Job::POOLS], b: [u8; Job::POOLS]) -> bool
-    ensures { λ r. ⌜ Decides r (firsts n 0 a ≡ firsts n 0 b) ⌝ }
+// Whether the first n bytes agree. Past their ends two slices of one length agree by themselves.
+fn same_bytes(n: usize, a: &[u8], b: &[u8]) -> bool
+    requires { ⌜ length (now a) ≡ length (now b) ⌝ }
+    ensures { λ r. ⌜ Decides r (firsts n 0 (now (a .entry)) ≡ firsts n 0 (now (b .entry))) ⌝ }
 {
     let mut i = 0;
-    while (i < n) & (i < Job::POOLS) {
+    while (i < n) & (i < a.len()) {
         if a[i] != b[i] {
             return false;
         }
         i += 1;
     }
     true
+}
+
+// Whether the first n handovers agree.
+fn same_handovers(n: usize, a: [u8; Job::POOLS], b: [u8; Job::POOLS]) -> bool
+    ensures { λ r. ⌜ Decides r (firsts n 0 a ≡ firsts n 0 b) ⌝ }
+{
+    same_bytes(n, &a, &b)
+}
+
+// Whether the first n shortest lengths agree.
+fn same_shortest(n: usize, a: [u8; Job::ACTIONS], b: [u8; Job::ACTIONS]) -> bool
+    ensures { λ r. ⌜ Decides r (firsts n 0 a ≡ firsts n 0 b) ⌝ }
+{
+    same_bytes(n, &a, &b)
 }
 
 // Whether the first n amounts agree. Past their ends two arrays agree by themselves.
@@ -99,6 +114,8 @@ pub fn same(a: Job, b: Job) -> bool
     let b_handovers = b.handovers;
     let a_stores = a.stores;
     let b_stores = b.stores;
+    let a_shortest = a.shortest;
+    let b_shortest = b.shortest;
     let a_actions = a.actions;
     let b_actions = b.actions;
     (a.facts == b.facts)
@@ -110,5 +127,6 @@ pub fn same(a: Job, b: Job) -> bool
         & same_amounts(a_counts.pools, a_pools, b_pools)
         & same_handovers(a_form.handovers(a_counts.pools), a_handovers, b_handovers)
         & same_amounts(a_counts.stores, a_stores, b_stores)
+        & same_shortest(a_form.shortest(a_counts.actions), a_shortest, b_shortest)
         & same_actions(a_counts, a_actions, b_actions)
 }

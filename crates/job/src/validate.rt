@@ -1,4 +1,4 @@
-// Tests 3 to 11, 26 and 27 of a job value, in the order of the table over the whole job.
+// The tests of a job value, 3 to 11, 26, 27 and 29, in the order of the table over the whole job.
 ghost use mathlib.Core.Path.{_≡_};
 ghost use Prim.Native.Nat.{_≤_};
 ghost use Rattle.lists.specs.Lists.{firsts, any};
@@ -9,6 +9,7 @@ use crate::Action;
 use crate::Counts;
 use crate::Job;
 use crate::beyond;
+use crate::lengths;
 use crate::refusal::Refusal;
 use crate::refusal::Verdict;
 
@@ -96,7 +97,7 @@ fn any_broken(job: Job) -> Broken
     broken
 }
 
-// The first of tests 8 to 11 that fails.
+// The first of tests 8, 29 and 9 to 11 that fails.
 fn validate_actions(job: Job) -> Verdict
     requires { ⌜ Fits (job .counts) ⌝ }
     ensures { λ r. ⌜ r ≡ first (actionRows (jobIn job)) ⌝ }
@@ -104,6 +105,9 @@ fn validate_actions(job: Job) -> Verdict
     let broken = any_broken(job);
     if broken.duration {
         return Verdict::Refused(Refusal::ZeroDuration);
+    }
+    if lengths::any_wrong_range(job) {
+        return Verdict::Refused(Refusal::ShortestLength);
     }
     if broken.facts {
         return Verdict::Refused(Refusal::ForeignActionFact);
@@ -117,7 +121,7 @@ fn validate_actions(job: Job) -> Verdict
     Verdict::Pass
 }
 
-// The first of tests 3 to 11 and 27 that the job fails.
+// The first of tests 3 to 11, 27 and 29 that the job fails.
 fn validate_limits(job: Job) -> Verdict
     ensures { λ r. ⌜ r ≡ first (limitRows (jobIn job)) ⌝ }
 {
@@ -152,7 +156,7 @@ fn validate_limits(job: Job) -> Verdict
     validate_actions(job)
 }
 
-// The first of tests 3 to 11, 26 and 27 that the job fails. Every call that is handed a job value begins with it.
+// The first of its tests that the job fails. Every call that is handed a job value begins with it.
 pub fn validate(job: Job) -> Verdict
     ensures { λ r. ⌜ r ≡ first (jobRows (jobIn job)) ⌝ }
 {

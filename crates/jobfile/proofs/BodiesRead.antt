@@ -7,34 +7,58 @@ use native.Mathlib.Omega.{arith}
 use lib.ListN.{length, getD}
 use Rattle.lists.specs.Lists.{tabulate, Each}
 use Rattle.lists.proofs.Bools.{absurd}
-use Rattle.lists.proofs.Tabulate.{each-map}
+use Rattle.lists.proofs.Tabulate.{each-map, each-at, each-by-place}
 use Rattle.encoding.specs.Bytes.{fromBytes, toBytes, split, joined}
 use Rattle.encoding.proofs.Numbers.{length-bytes, number-bytes}
 use Rattle.encoding.proofs.Pieces.{split-joined}
-use Rattle.job.specs.Job.{Action, Job, handoverCount}
+use Rattle.job.specs.Job.{Action, Job, noAction, handoverCount, shortestCount}
+use Rattle.job.specs.Lengths.{longestOf, shortestOf}
 use Rattle.job.specs.Passed.{Amounts, PassedAction, Passed}
 use Rattle.job.specs.declared.Form.{Form}
-use Rattle.job.specs.declared.Form.the-variants.{Four, Five}
-use Rattle.job.proofs.Values.{Shaped, Shape}
-use Rattle.jobfile.specs.File.{headBytes, amountBytes, actionBytes, extraBodies, bodies, actionSize, actionOf}
-use Rattle.jobfile.specs.File.{jobOf}
+use Rattle.job.specs.declared.Form.the-variants.{Four, Five, Six}
+use Rattle.job.proofs.Values.{few-shortest, Shaped, Shape}
+use Rattle.jobfile.specs.File.{headBytes, amountBytes, actionBytes, minuteBytes, extraBodies, bodies, actionSize}
+use Rattle.jobfile.specs.File.{actionOf, jobOf}
 use Rattle.jobfile.proofs.Lengths.{length-amounts, length-action}
 use Rattle.jobfile.proofs.Fields.{fields-read, numbers-read}
 
 amounts-read : (xs : List ℕ) → Amounts xs → split 4 fromBytes (amountBytes xs) ≡ xs
 amounts-read xs h = numbers-read 4 xs (omega arith) (each-map (λ x e. omega arith) xs h)
 
--- the handovers, which are missing beyond the form
+minutes-read : (xs : List ℕ) → Each (λ x. x < 256) xs → split 1 fromBytes (minuteBytes xs) ≡ xs
+minutes-read xs h = numbers-read 1 xs (omega arith) (each-map (λ x l. omega arith) xs h)
+
+none : (xs : List ℕ) → length xs ≡ 0 → [] ≡ xs
+none [] e = refl
+none (x ∷ xs) e = absurd (omega arith)
+
+-- handovers and shortest lengths, which are missing beyond the form
 handovers-read : (form : Form) (J : Job) (pools : ℕ) → length (J .handovers) ≡ handoverCount form pools
-    → Each (λ x. x ≤ 30) (J .handovers) → split 1 fromBytes (getD (extraBodies form J) 0 []) ≡ J .handovers
+    → Each (λ x. x < 256) (J .handovers) → split 1 fromBytes (getD (extraBodies form J) 0 []) ≡ J .handovers
 unfolding tabulate
 handovers-read Four J pools e h = none (J .handovers) e
-  where
-    none : (xs : List ℕ) → length xs ≡ 0 → [] ≡ xs
-    none [] e = refl
-    none (x ∷ xs) e = absurd (omega arith)
-handovers-read Five J pools e h =
-    numbers-read 1 (J .handovers) (omega arith) (each-map (λ x l. omega arith) (J .handovers) h)
+handovers-read Five J pools e h = minutes-read (J .handovers) h
+handovers-read Six J pools e h = minutes-read (J .handovers) h
+
+shortest-read : (form : Form) (J : Job) (actions : ℕ) → length (J .shortest) ≡ shortestCount form actions
+    → Each (λ x. x < 256) (J .shortest) → split 1 fromBytes (getD (extraBodies form J) 1 []) ≡ J .shortest
+unfolding tabulate
+shortest-read Four J actions e h = none (J .shortest) e
+shortest-read Five J actions e h = none (J .shortest) e
+shortest-read Six J actions e h = minutes-read (J .shortest) h
+
+-- a shortest length is a byte, since it is not over the longest
+shortest-small : (J : Job) → Shape J → Each (λ a. a .duration < 256) (J .actions) → Passed J
+    → Each (λ x. x < 256) (J .shortest)
+unfolding shortestOf
+shortest-small J h d f =
+    each-by-place (λ x. x < 256) (J .shortest) (longestOf J)
+    (λ i l.
+    let few = few-shortest (J .form) (length (J .actions)) in
+    let count = h .shortest in
+    let range = f .ranges i (omega arith) .1 in
+    let longest = each-at (λ a. a .duration < 256) (J .actions) noAction d i (omega arith) in
+    omega arith)
 
 module _ (p s facts : ℕ) where
   action-read : (a : Action) → Shaped p s a → PassedAction facts a → a .duration < 256
@@ -70,7 +94,7 @@ module _ (p s facts : ℕ) where
 -- the job that bodies say, as many as there are
 abbrev pub jobOfBodies : Form → List (List ℕ) → Job
 jobOfBodies form bs =
-    jobOf form (getD bs 0 []) (getD bs 1 []) (getD bs 2 []) (getD bs 3 []) (getD bs 4 [])
+    jobOf form (getD bs 0 []) (getD bs 1 []) (getD bs 2 []) (getD bs 3 []) (getD bs 4 []) (getD bs 5 [])
 
 module _ (J : Job) (h : Shape J) (d : Each (λ a. a .duration < 256) (J .actions)) (f : Passed J) where
   abbrev pools : ℕ
@@ -106,7 +130,9 @@ module _ (J : Job) (h : Shape J) (d : Each (λ a. a .duration < 256) (J .actions
         number-bytes 8 (J .start) (f .start .word),
         number-bytes 8 (J .goal) (f .goal .word),
         amounts-read (J .pools) (f .pools),
-        handovers-read (J .form) J pools (h .handovers) (f .handovers),
+        handovers-read (J .form) J pools (h .handovers)
+            (each-map (λ x l. omega arith) (J .handovers) (f .handovers)),
         amounts-read (J .stores) (f .stores),
+        shortest-read (J .form) J _ (h .shortest) (shortest-small J h d f),
         all-actions-read (length P / 4) (length S / 4) (omega arith) (omega arith),
       ))

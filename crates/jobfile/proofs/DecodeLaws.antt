@@ -9,7 +9,7 @@ use Rattle.lists.proofs.Tabulate.{length-tabulate, each-tabulate}
 use Rattle.encoding.specs.Bytes.{part}
 use Rattle.encoding.proofs.Parts.{length-part}
 use Rattle.encoding.proofs.Pieces.{piece-within}
-use Rattle.job.specs.Job.{handoverCount, jobIn, jobValue}
+use Rattle.job.specs.Job.{handoverCount, shortestCount, jobIn, jobValue}
 use Rattle.job.specs.declared.Form.{Form}
 use Rattle.job.specs.declared.Job as held
 use Rattle.job.proofs.Values.{Shaped, Shape, value-holds-job}
@@ -23,11 +23,12 @@ action-of-shape p s bytes e =
     let b = length-part bytes (25 + 4 * p) (4 * s) (omega arith) in
     record { pools = simp length-tabulate (omega arith); stores = simp length-tabulate (omega arith) }
 
-module _ (form : Form) (head pools stores actions handovers : List ℕ) where
+module _ (form : Form) (head pools stores actions handovers shortest : List ℕ) where
   job-of-shape : length handovers ≡ handoverCount form (length pools / 4)
-      → Shape (jobOf form head pools stores actions handovers)
+      → length shortest ≡ shortestCount form (length actions / actionSize (length pools / 4) (length stores / 4))
+      → Shape (jobOf form head pools stores actions handovers shortest)
   unfolding jobOf
-  job-of-shape e =
+  job-of-shape e g =
       let p = length pools / 4 in
       let s = length stores / 4 in
       let n = actionSize p s in
@@ -38,6 +39,7 @@ module _ (form : Form) (head pools stores actions handovers : List ℕ) where
             action-of-shape p s (part actions (i * n) n)
             (length-part actions (i * n) n (piece-within (length actions) n i h))));
         handovers = simp length-tabulate (omega arith);
+        shortest = simp length-tabulate (omega arith);
       }
 
 pub value-holds-decoded : (file : List ℕ) → Laid file → (j : held.Job) → j ≡ jobValue (decoded file)
@@ -45,6 +47,10 @@ pub value-holds-decoded : (file : List ℕ) → Laid file → (j : held.Job) →
 value-holds-decoded file l j e =
     let count : length (bodyIn file 4) ≡ handoverCount (formIn file) (length (bodyIn file 1) / 4) =
     rw (l .lengths 1) (l .lengths 4 ∙ l .sizes .handovers) in
+    let least : length (bodyIn file 5) ≡ shortestCount (formIn file)
+    (length (bodyIn file 3) / actionSize (length (bodyIn file 1) / 4) (length (bodyIn file 2) / 4)) =
+    rw (l .lengths 1, l .lengths 2, l .lengths 3) (l .lengths 5 ∙ l .sizes .shortest) in
     ap jobIn e
     ∙ value-holds-job (decoded file)
-    (job-of-shape (formIn file) (bodyIn file 0) (bodyIn file 1) (bodyIn file 2) (bodyIn file 3) (bodyIn file 4) count)
+    (job-of-shape (formIn file) (bodyIn file 0) (bodyIn file 1) (bodyIn file 2) (bodyIn file 3) (bodyIn file 4)
+    (bodyIn file 5) count least)

@@ -3,19 +3,20 @@
 use Prim.Native.Nat.{ℕ, _+_, _*_, _/_, _%_, _≤_}
 use mathlib.Core.Path.{_≡_, refl, sym, ap, _∙_}
 use mathlib.Core.Bool.{Bool, true, false, not, _||_}
-use mathlib.Core.List.{List, []}
+use mathlib.Core.List.{List}
 use native.Mathlib.Omega.{arith}
 use lib.Dec.{eqb}
-use lib.ListN.{length, getD}
+use lib.ListN.{length}
 use borrow.Author.Tests.{eqb-true, eq-eqb, ltb-false, le-ltb, not-false}
 use Rattle.lists.proofs.Bools.{or-left, or-right}
 use Rattle.encoding.specs.Bytes.{part}
-use Rattle.job.specs.Job.{entries, handoverCount}
+use Rattle.job.specs.Job.{entries, handoverCount, shortestCount}
 use Rattle.job.specs.Valid.{over}
 use Rattle.job.specs.declared.Form.{Form}
-use Rattle.job.specs.declared.Form.the-variants.{Four, Five}
+use Rattle.job.specs.declared.Form.the-variants.{Four, Five, Six}
 use Rattle.jobfile.specs.declared.Layout.{Layout}
 use Rattle.jobfile.specs.File.{formIn, entriesIn, sizeIn, bodyIn, layoutIn, actionSize, missized, inOrder}
+use Rattle.jobfile.specs.File.{layoutOf}
 use Rattle.jobfile.proofs.Bodies.{InRow, bodiesIn, count-in, in-row-when-gapless, size-in-row, body-in-row}
 
 -- the lengths of the bodies are those that a job gives
@@ -28,6 +29,7 @@ pub record Sized (l : Layout) : Type 0 where
   pub wholeActions : l .actions % actionSize (l .pools / 4) (l .stores / 4) ≡ 0
   pub fewActions : l .actions / actionSize (l .pools / 4) (l .stores / 4) ≤ 64
   pub handovers : l .handovers ≡ handoverCount (l .form) (l .pools / 4)
+  pub shortest : l .shortest ≡ shortestCount (l .form) (l .actions / actionSize (l .pools / 4) (l .stores / 4))
 
 last-equal : (b : Bool) (m n : ℕ) → (b || not (eqb m n)) ≡ false → (b ≡ false) × (m ≡ n)
 last-equal b m n h =
@@ -44,7 +46,8 @@ module _ (l : Layout) where
   pub sized : missized l ≡ false → Sized l
   unfolding missized
   sized m =
-      let m7 = last-equal _ (l .handovers) (handoverCount (l .form) (l .pools / 4)) m in
+      let m8 = last-equal _ (l .shortest) (shortestCount (l .form) (l .actions / one)) m in
+      let m7 = last-equal _ (l .handovers) (handoverCount (l .form) (l .pools / 4)) (m8 .0) in
       let m6 = last-within _ 64 (l .actions / one) (m7 .0) in
       let m5 = last-equal _ (l .actions % one) 0 (m6 .0) in
       let m4 = last-within _ 16 (l .stores) (m5 .0) in
@@ -60,6 +63,7 @@ module _ (l : Layout) where
         wholeActions = m5 .1;
         fewActions = m6 .1;
         handovers = m7 .1;
+        shortest = m8 .1;
       }
 
   pub not-missized : Sized l → missized l ≡ false
@@ -74,20 +78,10 @@ module _ (l : Layout) where
         eq-eqb (l .actions % one) 0 (s .wholeActions),
         le-ltb 64 (l .actions / one) (s .fewActions),
         eq-eqb (l .handovers) (handoverCount (l .form) (l .pools / 4)) (s .handovers),
+        eq-eqb (l .shortest) (shortestCount (l .form) (l .actions / one)) (s .shortest),
       )
 
 -- ── of bodies in a row ──
-
-abbrev pub layoutOf : Form → List (List ℕ) → Layout
-layoutOf form bs =
-    record {
-      form = form;
-      head = length (getD bs 0 []);
-      pools = length (getD bs 1 []);
-      stores = length (getD bs 2 []);
-      actions = length (getD bs 3 []);
-      handovers = length (getD bs 4 []);
-    }
 
 pub layout-in-row : (file : List ℕ) (at : ℕ) (bs : List (List ℕ)) → InRow file at 0 bs → length bs ≡ entriesIn file
     → layoutIn file ≡ layoutOf (formIn file) bs
@@ -98,6 +92,7 @@ layout-in-row file at bs r e =
       size-in-row file at bs r e 2,
       size-in-row file at bs r e 3,
       size-in-row file at bs r e 4,
+      size-in-row file at bs r e 5,
     )
 
 pub record Laid (file : List ℕ) : Type 0 where
@@ -127,8 +122,12 @@ pub record Standing (file : List ℕ) (at : ℕ) : Type 0 where
   pub handovers : part file
       (at + length (bodyIn file 0) + length (bodyIn file 1) + length (bodyIn file 2) + length (bodyIn file 3))
       (length (bodyIn file 4)) ≡ bodyIn file 4
+  pub shortest : part file
+      (at + length (bodyIn file 0) + length (bodyIn file 1) + length (bodyIn file 2) + length (bodyIn file 3)
+      + length (bodyIn file 4))
+      (length (bodyIn file 5)) ≡ bodyIn file 5
   pub end : at + length (bodyIn file 0) + length (bodyIn file 1) + length (bodyIn file 2) + length (bodyIn file 3)
-      + length (bodyIn file 4) ≡ length file
+      + length (bodyIn file 4) + length (bodyIn file 5) ≡ length file
 
 pub standing : (file : List ℕ) → Laid file → Standing file (4 * entriesIn file)
 standing file l = by-form (formIn file) refl (l .row)
@@ -146,6 +145,7 @@ standing file l = by-form (formIn file) refl (l .row)
           stores = rw e (c .0 .bytes);
           actions = rw e (d .0 .bytes);
           handovers = rw e refl;
+          shortest = rw e refl;
           end = rw e (omega arith);
         }
     by-form Five e r =
@@ -159,5 +159,21 @@ standing file l = by-form (formIn file) refl (l .row)
           stores = rw e (c .0 .bytes);
           actions = rw e (d .0 .bytes);
           handovers = rw e (f .0 .bytes);
-          end = rw e (f .1);
+          shortest = rw e refl;
+          end = let last = f .1 in rw e (omega arith);
+        }
+    by-form Six e r =
+        let b = r .1 in
+        let c = b .1 in
+        let d = c .1 in
+        let f = d .1 in
+        let g = f .1 in
+        record {
+          head = rw e (r .0 .bytes);
+          pools = rw e (b .0 .bytes);
+          stores = rw e (c .0 .bytes);
+          actions = rw e (d .0 .bytes);
+          handovers = rw e (f .0 .bytes);
+          shortest = rw e (g .0 .bytes);
+          end = rw e (g .1);
         }

@@ -17,7 +17,7 @@ use Rattle.job.specs.declared.refusal.Refusal.the-variants.{FileSize, Offsets, 
 use Rattle.job.specs.declared.refusal.Verdict.{Verdict}
 use Rattle.job.specs.declared.refusal.Verdict.the-variants.{Pass, Refused}
 use Rattle.job.proofs.Table.{first-here, first-next, first-pass}
-use Rattle.job.proofs.Values.{few-handovers}
+use Rattle.job.proofs.Values.{few-handovers, few-shortest}
 use Rattle.jobfile.specs.declared.Reading.{Reading}
 use Rattle.jobfile.specs.File.{formIn, entriesIn, sizeIn, bodyIn, layoutIn, actionSize, jobOf, decoded}
 use Rattle.jobfile.specs.File.{missized, wrongSize, inOrder, fileRows}
@@ -84,19 +84,21 @@ module _ (file : List ℕ) where
     pub read-passed : first (jobRows (jobIn j)) ≡ Pass → readFile file ≡ record { verdict = Pass; job = j }
     read-passed h = read-validated ∙ ap (λ (v : Verdict). readingOf v (decoded file)) h ∙ rw e
 
--- ── the slices that begin at a, b, c, d and e are the bodies ──
+-- ── the slices that begin at a, b, c, d, e and g are the bodies ──
 
 slice-is : (file : List ℕ) (at n at₀ n₀ : ℕ) (body : List ℕ) → at ≡ at₀ → n ≡ n₀ → part file at₀ n₀ ≡ body
     → part file at n ≡ body
 slice-is file at n at₀ n₀ body e f h = rw (e, f) h
 
-module _ (file : List ℕ) (l : Laid file) (a b c d e : ℕ) (ea : a ≡ 4 * entriesIn file) (eb : b ≡ a + sizeIn file 0)
-    (ec : c ≡ b + sizeIn file 1) (ed : d ≡ c + sizeIn file 2) (ee : e ≡ d + sizeIn file 3) where
+module _ (file : List ℕ) (l : Laid file) (a b c d e g : ℕ) (ea : a ≡ 4 * entriesIn file) (eb : b ≡ a + sizeIn file 0)
+    (ec : c ≡ b + sizeIn file 1) (ed : d ≡ c + sizeIn file 2) (ee : e ≡ d + sizeIn file 3)
+    (eg : g ≡ e + sizeIn file 4) where
   slices-are-bodies : (part file a (b - a) ≡ bodyIn file 0)
       × (part file b (c - b) ≡ bodyIn file 1)
       × (part file c (d - c) ≡ bodyIn file 2)
       × (part file d (e - d) ≡ bodyIn file 3)
-      × (part file e (length file - e) ≡ bodyIn file 4)
+      × (part file e (g - e) ≡ bodyIn file 4)
+      × (part file g (length file - g) ≡ bodyIn file 5)
   slices-are-bodies =
       let s = standing file l in
       let end = s .end in
@@ -105,21 +107,24 @@ module _ (file : List ℕ) (l : Laid file) (a b c d e : ℕ) (ea : a ≡ 4 * ent
       let n1 = l .lengths 1 in
       let n2 = l .lengths 2 in
       let n3 = l .lengths 3 in
+      let n4 = l .lengths 4 in
       let at0 = 4 * entriesIn file in
       let at1 = at0 + size 0 in
       let at2 = at1 + size 1 in
       let at3 = at2 + size 2 in
-      let at4 = at3 + size 3 in (
+      let at4 = at3 + size 3 in
+      let at5 = at4 + size 4 in (
         slice-is file a (b - a) at0 (size 0) (bodyIn file 0) ea (omega arith) (s .head),
         slice-is file b (c - b) at1 (size 1) (bodyIn file 1) (omega arith) (omega arith) (s .pools),
         slice-is file c (d - c) at2 (size 2) (bodyIn file 2) (omega arith) (omega arith) (s .stores),
         slice-is file d (e - d) at3 (size 3) (bodyIn file 3) (omega arith) (omega arith) (s .actions),
-        slice-is file e (length file - e) at4 (size 4) (bodyIn file 4) (omega arith) (omega arith) (s .handovers),
+        slice-is file e (g - e) at4 (size 4) (bodyIn file 4) (omega arith) (omega arith) (s .handovers),
+        slice-is file g (length file - g) at5 (size 5) (bodyIn file 5) (omega arith) (omega arith) (s .shortest),
       )
 
   pub decoded-by-slices : jobOf (formIn file) (part file a (b - a)) (part file b (c - b)) (part file c (d - c))
-      (part file d (e - d)) (part file e (length file - e)) ≡ decoded file
-  decoded-by-slices = let s = slices-are-bodies in rw (s .0, s .1, s .2, s .3, s .4)
+      (part file d (e - d)) (part file e (g - e)) (part file g (length file - g)) ≡ decoded file
+  decoded-by-slices = let s = slices-are-bodies in rw (s .0, s .1, s .2, s .3, s .4, s .5)
 
   -- what decoding them requires
   pub slices-fit : (length (part file a (b - a)) ≡ 19)
@@ -127,15 +132,21 @@ module _ (file : List ℕ) (l : Laid file) (a b c d e : ℕ) (ea : a ≡ 4 * ent
       × (length (part file c (d - c)) ≤ 16)
       × (length (part file d (e - d))
       / actionSize (length (part file b (c - b)) / 4) (length (part file c (d - c)) / 4) ≤ 64)
-      × (length (part file e (length file - e)) ≤ 4)
+      × (length (part file e (g - e)) ≤ 4)
+      × (length (part file g (length file - g)) ≤ 64)
   slices-fit =
       let s = slices-are-bodies in
       let z = l .sizes in
       let few = z .fewPools in
       let waits = z .handovers in
       let fewer = few-handovers (formIn file) (sizeIn file 1 / 4) in
-      rw (s .0, s .1, s .2, s .3, s .4, l .lengths 0, l .lengths 1, l .lengths 2, l .lengths 3, l .lengths 4)
-      (z .head, few, z .fewStores, z .fewActions, omega arith)
+      let count = sizeIn file 3 / actionSize (sizeIn file 1 / 4) (sizeIn file 2 / 4) in
+      let most = z .fewActions in
+      let least = z .shortest in
+      let fewest = few-shortest (formIn file) count in
+      rw (s .0, s .1, s .2, s .3, s .4, s .5)
+      (rw (l .lengths 0, l .lengths 1, l .lengths 2, l .lengths 3, l .lengths 4, l .lengths 5)
+      (z .head, few, z .fewStores, most, omega arith, omega arith))
 
 -- what is answered makes the papers' reply
 pub reads-of-answer : (file : List ℕ) (r : Reading) → r ≡ readFile file → Reads file r

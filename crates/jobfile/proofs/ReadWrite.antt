@@ -14,9 +14,9 @@ use Rattle.encoding.proofs.Pieces.{joined-split}
 use Rattle.job.specs.Job.{Job, entries}
 use Rattle.job.specs.Refusal.{first}
 use Rattle.job.specs.declared.Form.{Form}
-use Rattle.job.specs.declared.Form.the-variants.{Four, Five}
+use Rattle.job.specs.declared.Form.the-variants.{Four, Five, Six}
 use Rattle.job.specs.declared.refusal.Verdict.the-variants.{Pass}
-use Rattle.jobfile.specs.File.{headBytes, amountBytes, actionBytes, handoverBytes, extraBodies, bodies}
+use Rattle.jobfile.specs.File.{headBytes, amountBytes, actionBytes, minuteBytes, extraBodies, bodies}
 use Rattle.jobfile.specs.File.{fileOfBodies, fileOf, formIn, entriesIn, bodyIn, actionSize, actionOf, jobOf}
 use Rattle.jobfile.specs.File.{offset, size, body, decoded}
 use Rattle.jobfile.specs.Answers.{readRows}
@@ -30,10 +30,10 @@ use Rattle.jobfile.proofs.ReadLaws.{passes-laid}
 amounts-again : (bs : List ℕ) → Bytes bs → length bs % 4 ≡ 0 → amountBytes (split 4 fromBytes bs) ≡ bs
 amounts-again bs h e = numbers-again 4 bs (omega arith) h e
 
-head-again : (form : Form) (head pools stores actions handovers : List ℕ) → Bytes head → length head ≡ 19
-    → headBytes (jobOf form head pools stores actions handovers) ≡ head
+head-again : (form : Form) (head pools stores actions handovers shortest : List ℕ) → Bytes head → length head ≡ 19
+    → headBytes (jobOf form head pools stores actions handovers shortest) ≡ head
 unfolding headBytes jobOf
-head-again form head pools stores actions handovers h l =
+head-again form head pools stores actions handovers shortest h l =
     rw (
       number-again head 0 1 h (omega arith),
       number-again head 1 2 h (omega arith),
@@ -83,12 +83,14 @@ module _ (file : List ℕ) (h : Bytes file) (l : Laid file) where
       go false = λ i. omega arith
 
   -- the bodies of the file, one by one
-  one-by-one : (form : Form) → formIn file ≡ form → (handovers : List ℕ) → handovers ≡ bodyIn file 4 → (J : Job)
-      → handoverBytes (J .handovers) ≡ handovers
+  one-by-one : (form : Form) → formIn file ≡ form → (handovers shortest : List ℕ) → handovers ≡ bodyIn file 4
+      → shortest ≡ bodyIn file 5 → (J : Job) → minuteBytes (J .handovers) ≡ handovers
+      → minuteBytes (J .shortest) ≡ shortest
       → bodyIn file 0 ∷ bodyIn file 1 ∷ bodyIn file 2 ∷ bodyIn file 3 ∷ extraBodies form J
       ≡ bodiesIn file 0 (entries form)
-  one-by-one Four e x y J z = rw e
-  one-by-one Five e x y J z = rw (z, y, e)
+  one-by-one Four e x y p q J h s = rw e
+  one-by-one Five e x y p q J h s = rw (h, p, e)
+  one-by-one Six e x y p q J h s = rw (h, s, p, q, e)
 
   bodies-again : bodies (decoded file) ≡ bodiesIn file 0 (entriesIn file)
   unfolding jobOf
@@ -98,16 +100,18 @@ module _ (file : List ℕ) (h : Bytes file) (l : Laid file) where
       let pools = bodyIn file 1 in
       let stores = bodyIn file 2 in
       let handovers = bodyIn file 4 in
+      let shortest = bodyIn file 5 in
       rw (
-        head-again (formIn file) (bodyIn file 0) pools stores (bodyIn file 3) handovers (body-bytes 0)
+        head-again (formIn file) (bodyIn file 0) pools stores (bodyIn file 3) handovers shortest (body-bytes 0)
             (n 0 ∙ z .head),
         amounts-again pools (body-bytes 1) (rw (n 1) (z .wholePools)),
         amounts-again stores (body-bytes 2) (rw (n 2) (z .wholeStores)),
         actions-again (length pools / 4) (length stores / 4) (bodyIn file 3) (body-bytes 3)
             (rw (n 1, n 2, n 3) (z .wholeActions)),
       )
-      (one-by-one (formIn file) refl handovers refl (decoded file)
-      (numbers-again 1 handovers (omega arith) (body-bytes 4) (omega arith)))
+      (one-by-one (formIn file) refl handovers shortest refl refl (decoded file)
+      (numbers-again 1 handovers (omega arith) (body-bytes 4) (omega arith))
+      (numbers-again 1 shortest (omega arith) (body-bytes 5) (omega arith)))
 
 pub read-write : (file : List ℕ) → Bytes file → first (readRows file) ≡ Pass → fileOf (decoded file) ≡ file
 unfolding fileOf

@@ -46,7 +46,7 @@ passed-reading : (v : Verdict) (J : Job) (j : held.Job) → readingOf v J ≡ re
 passed-reading Pass J j h = (refl, sym (ap (λ (r : Reading). r .job) h))
 passed-reading (Refused why) J j h = let e = ap (λ (r : Reading). r .verdict) h in (e, cc)
 
--- a file that is accepted passes tests 1 to 11, 26 and 27, and has the job that is read
+-- a file that is accepted passes its tests and those of its job, and has the job that is read
 accepted-file : (file : List ℕ) (j : held.Job) → readFile file ≡ record { verdict = Pass; job = j }
     → (first (readRows file) ≡ Pass) × (jobIn j ≡ decoded file)
 unfolding readFile

@@ -2,39 +2,34 @@
 -- Assumes nothing.
 use Prim.Native.Nat.{ℕ, _*_, _/_, _<_}
 use mathlib.Core.Path.{_≡_, refl, sym, ap, _∙_}
-use mathlib.Core.List.{[]}
 use native.Mathlib.Nat.{mul-div-cancel, mul-mod-left}
 use native.Mathlib.Omega.{arith}
-use lib.ListN.{length, getD}
+use lib.ListN.{length}
 use Rattle.lists.specs.Lists.{Each}
-use Rattle.job.specs.Job.{Job, entries, handoverCount}
+use Rattle.job.specs.Job.{Job, entries}
 use Rattle.job.specs.Refusal.{first}
 use Rattle.job.specs.Valid.{jobRows}
 use Rattle.job.specs.Passed.{Passed}
 use Rattle.job.specs.declared.Form.{Form}
-use Rattle.job.specs.declared.Form.the-variants.{Four, Five}
+use Rattle.job.specs.declared.Form.the-variants.{Four, Five, Six}
 use Rattle.job.specs.declared.refusal.Verdict.the-variants.{Pass}
 use Rattle.job.proofs.Passed.{passed}
 use Rattle.job.proofs.Values.{Shape}
-use Rattle.jobfile.specs.File.{amountBytes, extraBodies, bodies, fileOf, formOf, formIn, entriesIn, actionSize}
-use Rattle.jobfile.specs.File.{decoded}
+use Rattle.jobfile.specs.File.{amountBytes, bodies, fileOf, formOf, formIn, entriesIn, actionSize}
+use Rattle.jobfile.specs.File.{decoded, layoutOf}
 use Rattle.jobfile.specs.Answers.{readRows}
-use Rattle.jobfile.proofs.Lengths.{length-head, length-amounts, length-actions, length-handovers, length-file}
-use Rattle.jobfile.proofs.Lengths.{count-bodies, file-fits}
+use Rattle.jobfile.proofs.Lengths.{length-head, length-amounts, length-actions, length-file}
+use Rattle.jobfile.proofs.Lengths.{count-bodies, handovers-sized, shortest-sized, file-fits}
 use Rattle.jobfile.proofs.Bodies.{InRow, gapless-when-in-row, body-in-row, written-in-row}
 use Rattle.jobfile.proofs.BodiesRead.{jobOfBodies, bodies-read}
-use Rattle.jobfile.proofs.Laid.{Sized, layoutOf, not-missized, layout-in-row}
+use Rattle.jobfile.proofs.Laid.{Sized, not-missized, layout-in-row}
 use Rattle.jobfile.proofs.ReadLaws.{right-size, file-rows-pass}
 
 -- the first offset tells the form
 form-of-entries : (form : Form) → formOf (4 * entries form) ≡ form
 form-of-entries Four = refl
 form-of-entries Five = refl
-
-handovers-sized : (form : Form) (J : Job) (pools : ℕ) → length (J .handovers) ≡ handoverCount form pools
-    → length (getD (extraBodies form J) 0 []) ≡ handoverCount form pools
-handovers-sized Four J pools e = refl
-handovers-sized Five J pools e = length-handovers (J .handovers) ∙ e
+form-of-entries Six = refl
 
 module _ (J : Job) (h : Shape J) (f : Passed J) where
   job-in-row : InRow (fileOf J) (4 * length (bodies J)) 0 (bodies J)
@@ -68,6 +63,7 @@ module _ (J : Job) (h : Shape J) (f : Passed J) where
         wholeActions = rw (p, s, a) (mul-mod-left n one);
         fewActions = rw (p, s, a, mul-div-cancel n {n = one} (omega arith)) (f .fewActions);
         handovers = rw p (handovers-sized (J .form) J (length (J .pools)) (h .handovers));
+        shortest = rw (p, s, a, mul-div-cancel n {n = one} (omega arith)) (shortest-sized (J .form) J n (h .shortest));
       }
 
   decoded-file : Each (λ a. a .duration < 256) (J .actions) → decoded (fileOf J) ≡ J
@@ -75,7 +71,7 @@ module _ (J : Job) (h : Shape J) (f : Passed J) where
       let at = 4 * length (bodies J) in
       let body = body-in-row (fileOf J) at (bodies J) job-in-row entries-read in
       let said : decoded (fileOf J) ≡ jobOfBodies (formIn (fileOf J)) (bodies J) =
-      rw (body 0, body 1, body 2, body 3, body 4) in
+      rw (body 0, body 1, body 2, body 3, body 4, body 5) in
       said ∙ ap (λ (form : Form). jobOfBodies form (bodies J)) form-read ∙ bodies-read J h d f
 
 pub write-read : (J : Job) → Shape J → Each (λ a. a .duration < 256) (J .actions) → first (jobRows J) ≡ Pass

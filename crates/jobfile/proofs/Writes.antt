@@ -9,13 +9,15 @@ use Rattle.lists.specs.Lists.{tabulate, firsts}
 use Rattle.encoding.specs.Bytes.{toBytes, joined, overwrite}
 use Rattle.encoding.proofs.Numbers.{length-bytes}
 use Rattle.encoding.proofs.Overwrite.{overwrite-none, overwrite-overwrite}
-use Rattle.job.specs.Job.{Action, Job, entries, handoverCount}
+use Rattle.job.specs.Job.{Action, Job, entries}
 use Rattle.job.specs.declared.Form.{Form}
-use Rattle.job.specs.declared.Form.the-variants.{Four, Five}
+use Rattle.job.specs.declared.Form.the-variants.{Four, Five, Six}
 use Rattle.job.proofs.Values.{Shape}
-use Rattle.jobfile.specs.File.{headBytes, amountBytes, actionBytes, handoverBytes, extraBodies, bodies, contents}
-use Rattle.jobfile.specs.File.{contentNumbers, fileOf}
-use Rattle.jobfile.proofs.Lengths.{length-contents, length-amounts, length-head, length-handovers, extra-bytes}
+use Rattle.jobfile.specs.File.{headBytes, amountBytes, actionBytes, minuteBytes, extraBodies, bodies, contents}
+use Rattle.jobfile.specs.declared.Layout.{Layout}
+use Rattle.jobfile.specs.declared.Places.{Places}
+use Rattle.jobfile.specs.File.{contentNumbers, fileOf, layoutOf, placesOf, numbersOf}
+use Rattle.jobfile.proofs.Lengths.{length-contents, length-amounts, length-minutes, extra-bytes, handovers-sized}
 use Rattle.jobfile.proofs.Lengths.{count-bodies}
 
 -- each list of bytes in turn written over o at its place
@@ -79,61 +81,51 @@ write-head o at J l =
     writes-in-turn o at (headWrites at J) (simp length-bytes (omega arith))
     ∙ ap (overwrite o at) (simp (append-assoc, append-nil))
 
--- with n entries and x, y and z bytes of pools, stores and actions
-abbrev pub fileWrites : Job → ℕ → ℕ → ℕ → ℕ → List (ℕ × List ℕ)
-fileWrites J n x y z =
+-- the contents, then each body at its place
+abbrev pub fileWrites : Job → Places → List (ℕ × List ℕ)
+fileWrites J at =
     (0, joined (toBytes 2) (contentNumbers (bodies J)))
-    ∷ (4 * n, headBytes J)
-    ∷ (4 * n + 19, amountBytes (J .pools))
-    ∷ (4 * n + 19 + x, amountBytes (J .stores))
-    ∷ (4 * n + 19 + x + y, joined actionBytes (J .actions))
-    ∷ (4 * n + 19 + x + y + z, handoverBytes (J .handovers))
+    ∷ (at .head, headBytes J)
+    ∷ (at .pools, amountBytes (J .pools))
+    ∷ (at .stores, amountBytes (J .stores))
+    ∷ (at .actions, joined actionBytes (J .actions))
+    ∷ (at .handovers, minuteBytes (J .handovers))
+    ∷ (at .shortest, minuteBytes (J .shortest))
     ∷ []
 
-module _ (J : Job) (h : Shape J) (x y z : ℕ) (ex : length (J .pools) * 4 ≡ x) (ey : length (J .stores) * 4 ≡ y)
-    (ez : length (joined actionBytes (J .actions)) ≡ z) where
-  pub write-file : (o : List ℕ) → 4 * entries (J .form) + 19 + x + y + z ≤ length o
-      → writes o (fileWrites J (entries (J .form)) x y z) ≡ overwrite o 0 (fileOf J)
+module _ (J : Job) (h : Shape J) where
+  abbrev layout : Layout
+  layout = layoutOf (J .form) (bodies J)
+
+  pub write-file : (o : List ℕ) → placesOf layout .end ≤ length o
+      → writes o (fileWrites J (placesOf layout)) ≡ overwrite o 0 (fileOf J)
   unfolding fileOf
   write-file o l =
       let c = length-contents (4 * length (bodies J)) (bodies J) in
       let n = count-bodies J in
-      let f = length-head J in
-      let p = length-amounts (J .pools) in
-      let s = length-amounts (J .stores) in
-      let extra = extra-bytes (J .form) J (length (J .pools)) (h .handovers) in
-      writes-in-turn o 0 (fileWrites J (entries (J .form)) x y z) (omega arith)
+      let w = handovers-sized (J .form) J _ (h .handovers) in
+      let m = length-minutes (J .handovers) in
+      let e = h .handovers in
+      let extra = extra-bytes (J .form) J _ _ (h .handovers) (h .shortest) in
+      writes-in-turn o 0 (fileWrites J (placesOf layout)) (omega arith)
       ∙ ap (overwrite o 0) (rw (extra, append-nil))
 
-  -- ── the numbers of the contents, as the writer computes them ──
-
-  -- of five entries, where the first body stands at `at` and there are w bytes of handovers
-  abbrev pub numbersOf : ℕ → ℕ → List ℕ
-  numbersOf at w =
-      at
-      ∷ 19
-      ∷ (at + 19)
-      ∷ x
-      ∷ (at + 19 + x)
-      ∷ y
-      ∷ (at + 19 + x + y)
-      ∷ z
-      ∷ (at + 19 + x + y + z)
-      ∷ w
-      ∷ []
-
-  -- of which a form has the first
-  pub contents-of : (at w : ℕ) → at ≡ 4 * entries (J .form) → w ≡ handoverCount (J .form) (length (J .pools))
-      → firsts (2 * entries (J .form)) 0 (numbersOf at w) ≡ contentNumbers (bodies J)
+  -- the numbers of the contents
+  pub contents-of : firsts (2 * entries (J .form)) 0 (numbersOf layout (placesOf layout)) ≡ contentNumbers (bodies J)
   unfolding tabulate
-  contents-of at w ea ew =
-      rw (count-bodies J, length-head J, length-amounts (J .pools), length-amounts (J .stores), ex, ey, ez, ← ea)
-      (sym (by-form (J .form) (h .handovers) w ew at))
+  contents-of = rw (count-bodies J) (by-form (J .form))
     where
-      by-form : (form : Form) → length (J .handovers) ≡ handoverCount form (length (J .pools))
-          → (w : ℕ) → w ≡ handoverCount form (length (J .pools)) → (at : ℕ)
-          → at ∷ 19 ∷ (at + 19) ∷ x ∷ (at + 19 + x) ∷ y ∷ (at + 19 + x + y) ∷ z
-          ∷ contents (at + 19 + x + y + z) (extraBodies form J)
-          ≡ firsts (2 * entries form) 0 (numbersOf at w)
-      by-form Four e w ew at = refl
-      by-form Five e w ew at = rw (length-handovers (J .handovers), e, ew)
+      of : Form → List (List ℕ)
+      of form =
+          headBytes J
+          ∷ amountBytes (J .pools)
+          ∷ amountBytes (J .stores)
+          ∷ joined actionBytes (J .actions)
+          ∷ extraBodies form J
+
+      by-form : (form : Form)
+          → firsts (2 * entries form) 0 (numbersOf (layoutOf form (of form)) (placesOf (layoutOf form (of form))))
+          ≡ contents (4 * entries form) (of form)
+      by-form Four = refl
+      by-form Five = refl
+      by-form Six = refl

@@ -20,7 +20,7 @@ use Rattle.jobfile.specs.File.{fileOf, decoded, fileRows}
 
 -- ── reading ──
 
--- tests 1 to 11, 26 and 27 of a file
+-- tests 1 to 3 of a file, then those of the job in it
 unfoldable pub readRows : List ℕ → List Row
 readRows file = fileRows file ++ jobRows (decoded file)
 
@@ -43,7 +43,7 @@ pub record Reads (file : List ℕ) (r : Reading) : Type 0 where
 
 -- ── writing ──
 
--- tests 3 to 11, 26 and 27 of the job; then "slice shorter than the file"
+-- the tests of the job; then "slice shorter than the file"
 unfoldable pub writeRows : Job → List ℕ → List Row
 writeRows J slice = jobRows J ++ (FileSlice when ltb (length slice) (length (fileOf J)) ∷ [])
 

@@ -4,15 +4,16 @@ use Prim.Native.Nat.{ℕ, zero, suc, _+_, _*_, _/_, _%_, _<_}
 use mathlib.Core.Bool.{Bool, not, cond, _&&_, _||_}
 use mathlib.Core.List.{List, [], _∷_, _++_}
 use lib.Dec.{eqb, ltb}
-use lib.ListN.{length}
+use lib.ListN.{length, getD}
 use Rattle.encoding.specs.Bytes.{fromBytes, toBytes, part, split, joined}
-use Rattle.job.specs.Job.{Action, Job, entries, handoverCount}
+use Rattle.job.specs.Job.{Action, Job, entries, handoverCount, shortestCount}
 use Rattle.job.specs.Refusal.{Row, _when_}
 use Rattle.job.specs.Valid.{over}
 use Rattle.job.specs.declared.Form.{Form}
-use Rattle.job.specs.declared.Form.the-variants.{Four, Five}
+use Rattle.job.specs.declared.Form.the-variants.{Four, Five, Six}
 use Rattle.job.specs.declared.refusal.Refusal.the-variants.{FileSize, Offsets, BodySizes}
 use Rattle.jobfile.specs.declared.Layout.{Layout}
+use Rattle.jobfile.specs.declared.Places.{Places}
 
 -- ── the bytes of a job ──
 
@@ -34,14 +35,16 @@ actionBytes a =
     ++ amountBytes (a .pools)
     ++ amountBytes (a .stores)
 
--- "its fifth body, behind the actions, is one byte for each pool"
-abbrev pub handoverBytes : List ℕ → List ℕ
-handoverBytes = joined (toBytes 1)
+-- handovers and shortest lengths are minutes: one byte for each
+abbrev pub minuteBytes : List ℕ → List ℕ
+minuteBytes = joined (toBytes 1)
 
--- the bodies behind the actions
+-- "its fifth body, behind the actions, is one byte for each pool"; "A sixth body gives one byte of shortest length for
+-- each action; such a file has six entries, and always a fifth body"
 abbrev pub extraBodies : Form → Job → List (List ℕ)
 extraBodies Four J = []
-extraBodies Five J = handoverBytes (J .handovers) ∷ []
+extraBodies Five J = minuteBytes (J .handovers) ∷ []
+extraBodies Six J = minuteBytes (J .handovers) ∷ minuteBytes (J .shortest) ∷ []
 
 abbrev pub bodies : Job → List (List ℕ)
 bodies J =
@@ -57,8 +60,8 @@ abbrev pub contents : ℕ → List (List ℕ) → List ℕ
 contents at [] = []
 contents at (body ∷ rest) = at ∷ length body ∷ contents (at + length body) rest
 
--- "Contents come first. The bodies follow in the same order without gaps: the first offset is 16", or 20: 4 for each
--- body
+-- "Contents come first. The bodies follow in the same order without gaps: the first offset is 16", 20 or 24: 4 for
+-- each body
 abbrev pub contentNumbers : List (List ℕ) → List ℕ
 contentNumbers bs = contents (4 * length bs) bs
 
@@ -80,9 +83,9 @@ size file k = fromBytes (part file (4 * k + 2) 2)
 abbrev pub body : List ℕ → ℕ → List ℕ
 body file k = part file (offset file k) (size file k)
 
--- "five entries in its contents, first offset 20"; any other has four
+-- "five entries in its contents, first offset 20"; "six entries, first offset 24"; any other has four
 abbrev pub formOf : ℕ → Form
-formOf first = cond (eqb first 20) Five Four
+formOf first = cond (eqb first 20) Five (cond (eqb first 24) Six Four)
 
 abbrev pub formIn : List ℕ → Form
 formIn file = formOf (offset file 0)
@@ -107,6 +110,7 @@ layoutIn file =
       stores = sizeIn file 2;
       actions = sizeIn file 3;
       handovers = sizeIn file 4;
+      shortest = sizeIn file 5;
     }
 
 -- the bytes of an action in a job with so many pools and stores
@@ -125,8 +129,8 @@ actionOf pools stores bytes =
     }
 
 -- the job that the bodies say
-unfoldable pub jobOf : Form → List ℕ → List ℕ → List ℕ → List ℕ → List ℕ → Job
-jobOf form head pools stores actions handovers =
+unfoldable pub jobOf : Form → List ℕ → List ℕ → List ℕ → List ℕ → List ℕ → List ℕ → Job
+jobOf form head pools stores actions handovers shortest =
     let p = length pools / 4 in
     let s = length stores / 4 in
     record {
@@ -138,12 +142,13 @@ jobOf form head pools stores actions handovers =
       pools = split 4 fromBytes pools;
       handovers = split 1 fromBytes handovers;
       stores = split 4 fromBytes stores;
+      shortest = split 1 fromBytes shortest;
       actions = split (actionSize p s) (actionOf p s) actions;
     }
 
 abbrev pub decoded : List ℕ → Job
 decoded file =
-    jobOf (formIn file) (bodyIn file 0) (bodyIn file 1) (bodyIn file 2) (bodyIn file 3) (bodyIn file 4)
+    jobOf (formIn file) (bodyIn file 0) (bodyIn file 1) (bodyIn file 2) (bodyIn file 3) (bodyIn file 4) (bodyIn file 5)
 
 -- ── tests 1 to 3 of a file ──
 
@@ -154,7 +159,7 @@ gapless file at k zero = eqb at (length file)
 gapless file at k (suc n) = eqb (offset file k) at && gapless file (at + size file k) (suc k) n
 
 -- "head not 19 bytes; pools or stores not a multiple of 4 or over 16 bytes; actions not whole or over 64"; the fifth
--- body "is one byte for each pool, and another length is 3"
+-- body "is one byte for each pool, and another length is 3"; "another length of the sixth body is 3"
 unfoldable pub missized : Layout → Bool
 missized l =
     let action = actionSize (l .pools / 4) (l .stores / 4) in
@@ -166,8 +171,9 @@ missized l =
     || not (eqb (l .actions % action) 0)
     || over 64 (l .actions / action)
     || not (eqb (l .handovers) (handoverCount (l .form) (l .pools / 4)))
+    || not (eqb (l .shortest) (shortestCount (l .form) (l .actions / action)))
 
--- "under 16 or over 4,096 bytes", with five entries "at least 20 bytes (else 1)"
+-- "under 16 or over 4,096 bytes"; with five entries "at least 20 bytes (else 1)", with six "at least 24 bytes, else 1"
 abbrev pub wrongSize : List ℕ → Bool
 wrongSize file = ltb (length file) (4 * entriesIn file) || over 4096 (length file)
 
@@ -182,6 +188,57 @@ fileRows file =
     ∷ BodySizes when missized (layoutIn file)
     ∷ []
 
+-- ── what inner functions ask and promise ──
+
+-- the lengths of these bodies, 0 for one that is missing
+abbrev pub layoutOf : Form → List (List ℕ) → Layout
+layoutOf form bs =
+    record {
+      form = form;
+      head = length (getD bs 0 []);
+      pools = length (getD bs 1 []);
+      stores = length (getD bs 2 []);
+      actions = length (getD bs 3 []);
+      handovers = length (getD bs 4 []);
+      shortest = length (getD bs 5 []);
+    }
+
+-- where bodies of these lengths stand: "without gaps"
+abbrev pub placesOf : Layout → Places
+placesOf l =
+    let head = 4 * entries (l .form) in
+    let pools = head + l .head in
+    let stores = pools + l .pools in
+    let actions = stores + l .stores in
+    let handovers = actions + l .actions in
+    let shortest = handovers + l .handovers in
+    record {
+      head = head;
+      pools = pools;
+      stores = stores;
+      actions = actions;
+      handovers = handovers;
+      shortest = shortest;
+      end = shortest + l .shortest;
+    }
+
+-- the numbers of six entries, of which a form has the first
+abbrev pub numbersOf : Layout → Places → List ℕ
+numbersOf l at =
+    at .head
+    ∷ l .head
+    ∷ at .pools
+    ∷ l .pools
+    ∷ at .stores
+    ∷ l .stores
+    ∷ at .actions
+    ∷ l .actions
+    ∷ at .handovers
+    ∷ l .handovers
+    ∷ at .shortest
+    ∷ l .shortest
+    ∷ []
+
 -- the lengths of 16 bits that a file's contents give
 abbrev pub Small : Layout → Type 0
 Small l =
@@ -190,3 +247,4 @@ Small l =
     × (l .stores < 65536)
     × (l .actions < 65536)
     × (l .handovers < 65536)
+    × (l .shortest < 65536)

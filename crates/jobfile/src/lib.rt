@@ -1,7 +1,7 @@
-// The job file: its layout, and what reading and writing one answer. The reader and the writer are crates of their own.
+// The job file: its layout and the places of its bodies, and what reading and writing one answer. The reader and the writer are crates of their own.
 ghost use mathlib.Core.Path.{_≡_};
 ghost use Prim.Native.Nat.{_<_};
-ghost use Rattle.jobfile.specs.File.{actionSize, missized, Small};
+ghost use Rattle.jobfile.specs.File.{actionSize, placesOf, missized, Small};
 use job::Form;
 use job::Job;
 use job::refusal::Refusal;
@@ -15,6 +15,18 @@ pub struct Layout {
     pub stores: usize,
     pub actions: usize,
     pub handovers: usize,
+    pub shortest: usize,
+}
+
+// Where the bodies of a file begin, each where the one before it ends, and where the last one ends.
+pub struct Places {
+    pub head: usize,
+    pub pools: usize,
+    pub stores: usize,
+    pub actions: usize,
+    pub handovers: usize,
+    pub shortest: usize,
+    pub end: usize,
 }
 
 impl Layout {
@@ -36,10 +48,12 @@ impl Layout {
 
     pub const LENGTH_AT: usize = Layout::OFFSET_AT + Layout::NUMBER;
 
-    // The bytes of four entries and of five: where the first body stands.
+    // The bytes of four entries, of five and of six: where the first body stands.
     pub const FOUR_ENTRIES: usize = 4 * Layout::ENTRY;
 
     pub const FIVE_ENTRIES: usize = 5 * Layout::ENTRY;
+
+    pub const SIX_ENTRIES: usize = 6 * Layout::ENTRY;
 
     // The places of the bodies in the contents.
     pub const HEAD_PLACE: usize = 0;
@@ -52,8 +66,10 @@ impl Layout {
 
     pub const HANDOVERS_PLACE: usize = 4;
 
-    // The bytes of a handover.
-    pub const HANDOVER: usize = 1;
+    pub const SHORTEST_PLACE: usize = 5;
+
+    // The bytes of a handover, and of a shortest length.
+    pub const MINUTES: usize = 1;
 
     // The head: the number of facts, the deadline, the start and the goal, each behind the one before.
     pub const FACTS: usize = 1;
@@ -91,6 +107,30 @@ impl Layout {
         Layout::ACTION + Layout::AMOUNT * pools + Layout::AMOUNT * stores
     }
 
+    // Where the bodies stand, behind the contents.
+    pub fn places(self) -> Places
+        requires { ⌜ Small self ⌝ }
+        ensures { λ r. ⌜ r ≡ placesOf self ⌝ }
+    {
+        let form = self.form;
+        let head = Layout::ENTRY * form.entries();
+        let pools = head + self.head;
+        let stores = pools + self.pools;
+        let actions = stores + self.stores;
+        let handovers = actions + self.actions;
+        let shortest = handovers + self.handovers;
+        let end = shortest + self.shortest;
+        Places {
+            head,
+            pools,
+            stores,
+            actions,
+            handovers,
+            shortest,
+            end,
+        }
+    }
+
     // Whether a body has a length that no job has: refusal 3.
     pub fn missized(self) -> bool
         requires { ⌜ Small self ⌝ }
@@ -105,7 +145,8 @@ impl Layout {
             | (Layout::AMOUNT * Job::STORES < self.stores)
             | (self.actions % action != 0)
             | (Job::ACTIONS < self.actions / action)
-            | (self.handovers != Layout::HANDOVER * form.handovers(self.pools / Layout::AMOUNT))
+            | (self.handovers != Layout::MINUTES * form.handovers(self.pools / Layout::AMOUNT))
+            | (self.shortest != Layout::MINUTES * form.shortest(self.actions / action))
     }
 }
 

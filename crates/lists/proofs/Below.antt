@@ -44,6 +44,18 @@ below-found (suc n) test k l h =
 pub below-more : (n : ℕ) (test : ℕ → Bool) → anyBelow (n + 1) test ≡ (test n || anyBelow n test)
 below-more n test = let e : n + 1 ≡ suc n = omega arith in ap (λ m. anyBelow m test) e
 
+-- the first number apart, as a list goes on
+pub below-front : (n : ℕ) (test : ℕ → Bool) → anyBelow (suc n) test ≡ (test 0 || anyBelow n (λ k. test (suc k)))
+below-front zero test = refl
+below-front (suc n) test =
+    ap (λ (b : Bool). test (suc n) || b) (below-front n test) ∙ swapped (test (suc n)) (test 0) _
+  where
+    swapped : (a b c : Bool) → (a || (b || c)) ≡ (b || (a || c))
+    swapped true true c = refl
+    swapped true false c = refl
+    swapped false true c = refl
+    swapped false false c = refl
+
 pub below-same : (n : ℕ) (f g : ℕ → Bool) → ((k : ℕ) → k < n → f k ≡ g k) → anyBelow n f ≡ anyBelow n g
 below-same zero f g h = refl
 below-same (suc n) f g h = ap₂ _||_ (h n (omega arith)) (below-same n f g (λ k l. h k (omega arith)))

@@ -101,6 +101,12 @@ module _ {A : Type 0} where
   each-at P (x ∷ xs) d e zero h = e .0
   each-at P (x ∷ xs) d e (suc i) h = each-at P xs d (e .1) i (omega arith)
 
+  pub each-by-place : (P : A → Type 0) (xs : List A) (d : ℕ → A) → ((i : ℕ) → i < length xs → P (getD xs i (d i)))
+      → Each P xs
+  each-by-place P [] d h = tt
+  each-by-place P (x ∷ xs) d h =
+      (h 0 (omega arith), each-by-place P xs (λ i. d (suc i)) (λ i l. h (suc i) (omega arith)))
+
 pub getD-map : {A B : Type 0} (f : A → B) (xs : List A) (i : ℕ) (d : B) (e : A) → i < length xs
     → getD (map f xs) i d ≡ f (getD xs i e)
 getD-map f [] i d e h = absurd (omega arith)

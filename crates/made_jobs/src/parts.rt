@@ -84,11 +84,13 @@ pub fn with_counts(mut job: Job, pools: usize, stores: usize, actions: usize) ->
     job
 }
 
-// The job in another form, with other handovers.
-pub fn with_handovers(job: Job, form: Form, handovers: [u8; Job::POOLS]) -> Job {
+// The job in another form.
+pub fn with_form(job: Job, form: Form) -> Job {
     let counts = job.counts;
     let pools = job.pools;
+    let handovers = job.handovers;
     let stores = job.stores;
+    let shortest = job.shortest;
     let actions = job.actions;
     Job {
         facts: job.facts,
@@ -100,15 +102,31 @@ pub fn with_handovers(job: Job, form: Form, handovers: [u8; Job::POOLS]) -> Job 
         pools,
         handovers,
         stores,
+        shortest,
         actions,
     }
 }
 
-// The job as if it had every pool, store and action, and handovers.
+// The job in another form, with other handovers.
+pub fn with_handovers(mut job: Job, form: Form, handovers: [u8; Job::POOLS]) -> Job {
+    job.handovers = handovers;
+    with_form(job, form)
+}
+
+// The job in another form, with other shortest lengths.
+pub fn with_shortest(mut job: Job, form: Form, shortest: [u8; Job::ACTIONS]) -> Job {
+    job.shortest = shortest;
+    with_form(job, form)
+}
+
+// The job as if it had every pool, store and action, handovers and shortest lengths.
 fn whole(job: Job) -> Job {
-    let handovers = job.handovers;
-    let job = with_handovers(job, Form::Five, handovers);
-    with_counts(job, Job::POOLS, Job::STORES, Job::ACTIONS)
+    with_counts(
+        with_form(job, Form::Six),
+        Job::POOLS,
+        Job::STORES,
+        Job::ACTIONS,
+    )
 }
 
 // Whether two jobs agree in every place, also beyond their counts and forms.

@@ -139,7 +139,7 @@ module _ (J : Job) (slice : List ℕ) (answer : Day) (after : List ℕ) where
       → (bytes : List ℕ) → Accepted J (J .goal) bytes → ⊥
   no-plan-when-refused h = none-by-verdict (first (planRefusals J slice)) refl h
 
-  -- where none of 3 to 11, 26, 27 and 21 holds and some plan is accepted, a shortest plan is handed out
+  -- where no refusal of the job holds, nor 21, and some plan is accepted, a shortest plan is handed out
   pub plan-when-accepted : Plans J slice answer after → first (planRefusals J slice) ≡ Pass
       → (bytes : List ℕ) → Accepted J (J .goal) bytes
       → (answer .verdict ≡ Pass) × Shortest J (J .goal) 0 [] slice answer after

@@ -23,7 +23,7 @@ use Rattle.makespan.specs.Makespan.{Makespan, endsAt, noPlan, Counts, makespan}
 use Rattle.leaf.specs.declared.Answer.{Answer}
 use Rattle.leaf.specs.Answer.{bytesIn}
 
--- tests 3 to 11, 26 and 27 of the job; then 21: "plan slice under 96 bytes"
+-- the tests of the job; then 21: "plan slice under 96 bytes"
 abbrev pub planRefusals : Job → List ℕ → List Row
 planRefusals J slice = jobRows J ++ (PlanSlice when ltb (length slice) 96 ∷ [])
 

@@ -1,5 +1,5 @@
-// The planner: a job and a lent slice in; a shortest plan at the front of the slice, or the first refusal of 3 to 11,
-// 26, 21 and 22.
+// The planner: a job and a lent slice in; a shortest plan at the front of the slice, or the first refusal of the
+// job, of 21 and of 22.
 pub mod hand_out; // the answer of the search, in the lent slice
 
 ghost use Rattle.job.specs.Job.{jobIn};

@@ -85,3 +85,11 @@ pub fn action(seed: u64, kind: Kind, facts: u8, number: usize) -> Action
         _ => action,
     }
 }
+
+// A shortest length of 1 up to the action's own.
+pub fn shortest(seed: u64, action: Action) -> u8 {
+    if action.duration == 0 {
+        return 0;
+    }
+    1 + draw::number(seed, 0, action.duration)
+}

@@ -1,4 +1,4 @@
-// Small random jobs for tests: the same seed gives the same job, and every job passes tests 3 to 11 and 27. In some an
+// Small random jobs for tests: the same seed gives the same job, and every job passes tests 3 to 11, 27 and 29. In some an
 // action uses more of a pool or store than there is (26). What stands beyond the counts and the form is drawn as well,
 // since it is to be ignored.
 mod actions; // the actions of a job
@@ -93,15 +93,17 @@ fn pools_of(seed: u64, kind: Kind) -> [u32; Job::POOLS] {
     }
 }
 
-// Half of the jobs have handovers, some only beyond their form.
+// Half of the jobs have handovers and half of those shortest lengths, some only beyond their form.
 fn form_of(seed: u64, kind: Kind) -> Form {
     match kind {
         Kind::Handed => Form::Five,
         _ => {
             if draw::number(seed, 15, 2) == 0 {
                 Form::Four
-            } else {
+            } else if draw::number(seed, 17, 2) == 0 {
                 Form::Five
+            } else {
+                Form::Six
             }
         }
     }
@@ -116,14 +118,16 @@ fn handovers(seed: u64) -> [u8; Job::POOLS] {
     [first, second, third, fourth]
 }
 
-// A job with five actions and nothing else.
+// A job with five actions, their shortest lengths and nothing else.
 fn with_actions(seed: u64, kind: Kind, facts: u8) -> Job
     requires { ⌜ (0 < facts) × (facts ≤ 5) ⌝ }
 {
     let mut job = Job::zero();
     let mut i: usize = 0;
     while i < 5 {
-        job.actions[i] = actions::action(draw::part(seed, 10 + i as u64), kind, facts, i);
+        let action = actions::action(draw::part(seed, 10 + i as u64), kind, facts, i);
+        job.actions[i] = action;
+        job.shortest[i] = actions::shortest(draw::part(seed, 20 + i as u64), action);
         i += 1;
     }
     job

@@ -10,11 +10,12 @@ use lib.ListN.{length}
 use borrow.Author.Tests.{eq-eqb, ne-eqb, lt-ltb, ltb-false}
 use Rattle.lists.proofs.Bools.{absurd, or-left}
 use Rattle.jobfile.specs.declared.Layout.{Layout}
+use Rattle.jobfile.specs.declared.Places.{Places}
 use Rattle.encoding.specs.Bytes.{part}
-use Rattle.job.specs.Job.{entries}
+use Rattle.job.specs.Job.{Job, entries}
 use Rattle.job.specs.declared.Form.{Form}
 use Rattle.jobfile.specs.File.{offset, size, formIn, entriesIn, layoutIn, actionSize, jobOf, decoded}
-use Rattle.jobfile.specs.File.{gapless, missized, wrongSize, inOrder}
+use Rattle.jobfile.specs.File.{gapless, missized, wrongSize, inOrder, placesOf}
 use Rattle.jobfile.proofs.Laid.{Laid, laid, standing}
 use Rattle.jobfile.proofs.Lengths.{least-entries}
 use Rattle.jobfile.proofs.ReadLaws.{decoded-by-slices, slices-fit}
@@ -68,54 +69,70 @@ placed file l g e m =
     let n1 = k .lengths 1 in
     let n2 = k .lengths 2 in
     let n3 = k .lengths 3 in
+    let n4 = k .lengths 4 in
     let f = ap (λ (l : Layout). entries (l .form)) e in
     let h = ap (λ (l : Layout). l .head) e in
     let p = ap (λ (l : Layout). l .pools) e in
     let s = ap (λ (l : Layout). l .stores) e in
     let a = ap (λ (l : Layout). l .actions) e in
+    let w = ap (λ (l : Layout). l .handovers) e in
     record { order = g; same = e; sized = m; inside = omega arith }
 
--- the slices that the reader takes, from the first body on
-module _ (file : List ℕ) (l : Layout) (p : Placed file l) (first : ℕ) (e : first ≡ 4 * entries (l .form)) where
-  abbrev pub pools : ℕ
-  pools = first + l .head
+-- the slices that the reader takes, from place to place
+module _ (file : List ℕ) (l : Layout) (p : Placed file l) where
+  abbrev at : Places
+  at = placesOf l
 
-  abbrev pub stores : ℕ
-  stores = pools + l .pools
-
-  abbrev pub actions : ℕ
-  actions = stores + l .stores
-
-  abbrev pub handovers : ℕ
-  handovers = actions + l .actions
+  abbrev slice : ℕ → ℕ → List ℕ
+  slice from to = part file from (to - from)
 
   right : Laid file
   right = laid file (p .order) (rw (p .same) at (p .sized))
 
-  first-is : first ≡ 4 * entriesIn file
-  first-is = e ∙ ap (λ (l : Layout). 4 * entries (l .form)) (p .same)
+  -- each slice ends where the next begins, and within the file
+  pub places-rise : (r : Places) → r ≡ at
+      → (r .head ≤ r .pools)
+      × (r .pools ≤ r .stores)
+      × (r .stores ≤ r .actions)
+      × (r .actions ≤ r .handovers)
+      × (r .handovers ≤ r .shortest)
+      × (r .shortest ≤ length file)
+  places-rise r e = let inside = p .inside in rw e (omega arith)
 
-  pub slices-fit-decode : (length (part file first (pools - first)) ≡ 19)
-      × (length (part file pools (stores - pools)) ≤ 16)
-      × (length (part file stores (actions - stores)) ≤ 16)
-      × (length (part file actions (handovers - actions))
-      / actionSize (length (part file pools (stores - pools)) / 4)
-      (length (part file stores (actions - stores)) / 4) ≤ 64)
-      × (length (part file handovers (length file - handovers)) ≤ 4)
+  -- the places by the file's own contents
+  by-contents : (f : Layout → ℕ) → f l ≡ f (layoutIn file)
+  by-contents f = ap f (p .same)
+
+  pub slices-fit-decode : (length (slice (at .head) (at .pools)) ≡ 19)
+      × (length (slice (at .pools) (at .stores)) ≤ 16)
+      × (length (slice (at .stores) (at .actions)) ≤ 16)
+      × (length (slice (at .actions) (at .handovers))
+      / actionSize (length (slice (at .pools) (at .stores)) / 4) (length (slice (at .stores) (at .actions)) / 4) ≤ 64)
+      × (length (slice (at .handovers) (at .shortest)) ≤ 4)
+      × (length (slice (at .shortest) (length file)) ≤ 64)
   slices-fit-decode =
-      slices-fit file right first pools stores actions handovers first-is
-      (ap (λ (l : Layout). first + l .head) (p .same))
-      (ap (λ (l : Layout). pools + l .pools) (p .same))
-      (ap (λ (l : Layout). stores + l .stores) (p .same))
-      (ap (λ (l : Layout). actions + l .actions) (p .same))
+      slices-fit file right (at .head) (at .pools) (at .stores) (at .actions) (at .handovers) (at .shortest)
+      (by-contents (λ k. 4 * entries (k .form)))
+      (by-contents (λ k. at .head + k .head))
+      (by-contents (λ k. at .pools + k .pools))
+      (by-contents (λ k. at .stores + k .stores))
+      (by-contents (λ k. at .actions + k .actions))
+      (by-contents (λ k. at .handovers + k .handovers))
 
-  pub slices-say-job : jobOf (l .form) (part file first (pools - first)) (part file pools (stores - pools))
-      (part file stores (actions - stores)) (part file actions (handovers - actions))
-      (part file handovers (length file - handovers)) ≡ decoded file
+  abbrev said : Form → Job
+  said form =
+      jobOf form (slice (at .head) (at .pools)) (slice (at .pools) (at .stores)) (slice (at .stores) (at .actions))
+      (slice (at .actions) (at .handovers)) (slice (at .handovers) (at .shortest)) (slice (at .shortest) (length file))
+
+  pub slices-say-job : jobOf (l .form) (slice (at .head) (at .pools)) (slice (at .pools) (at .stores))
+      (slice (at .stores) (at .actions)) (slice (at .actions) (at .handovers)) (slice (at .handovers) (at .shortest))
+      (slice (at .shortest) (length file)) ≡ decoded file
   slices-say-job =
-      rw (ap (λ (l : Layout). l .form) (p .same))
-      (decoded-by-slices file right first pools stores actions handovers first-is
-      (ap (λ (l : Layout). first + l .head) (p .same))
-      (ap (λ (l : Layout). pools + l .pools) (p .same))
-      (ap (λ (l : Layout). stores + l .stores) (p .same))
-      (ap (λ (l : Layout). actions + l .actions) (p .same)))
+      ap said (ap (λ (k : Layout). k .form) (p .same))
+      ∙ decoded-by-slices file right (at .head) (at .pools) (at .stores) (at .actions) (at .handovers) (at .shortest)
+      (by-contents (λ k. 4 * entries (k .form)))
+      (by-contents (λ k. at .head + k .head))
+      (by-contents (λ k. at .pools + k .pools))
+      (by-contents (λ k. at .stores + k .stores))
+      (by-contents (λ k. at .actions + k .actions))
+      (by-contents (λ k. at .handovers + k .handovers))

@@ -2,7 +2,7 @@
 ghost use mathlib.Core.Path.{_≡_};
 ghost use mathlib.Core.List.{map};
 ghost use Prim.Native.Nat.{_/_, _≤_};
-ghost use lib.ListN.{length};
+ghost use lib.ListN.{length, replicate};
 ghost use Rattle.lists.specs.Lists.{filled};
 ghost use Rattle.encoding.specs.Bytes.{fromBytes, split};
 ghost use Rattle.job.specs.Job.{unusedAction, actionValue, jobValue};
@@ -34,18 +34,17 @@ fn actions(bytes: &[u8], pools: usize, stores: usize) -> [Action; Job::ACTIONS]
     out
 }
 
-// Handovers of a byte each, at most four.
-fn handovers(bytes: &[u8]) -> [u8; Job::POOLS]
-    requires { ⌜ length (now bytes) ≤ 4 ⌝ }
-    ensures { λ r. ⌜ r ≡ filled 4 0 (split 1 fromBytes (now (bytes .entry))) ⌝ }
+// Puts minutes of a byte each to the front of zeros: handovers, or shortest lengths.
+fn put_minutes(out: &mut [u8], bytes: &[u8])
+    requires { ⌜ (now out ≡ replicate (length (now out)) 0) × (length (now bytes) ≤ length (now out)) ⌝ }
+    ensures { λ r. ⌜ now (out .exit) ≡
+        filled (length (now (out .entry))) 0 (split 1 fromBytes (now (bytes .entry))) ⌝ }
 {
-    let mut out = [0u8; Job::POOLS];
     let mut i = 0;
     while i < bytes.len() {
         out[i] = bytes[i];
         i += 1;
     }
-    out
 }
 
 // The job that the bodies say.
@@ -56,13 +55,15 @@ pub fn decode(
     stores: &[u8],
     actions_: &[u8],
     waits: &[u8],
+    least: &[u8],
 ) -> Job
     requires { ⌜ length (now head) ≡ 19 ⌝ }
-    requires { ⌜ (length (now pools) ≤ 16) × (length (now stores) ≤ 16) × (length (now waits) ≤ 4) ⌝ }
+    requires { ⌜ (length (now pools) ≤ 16) × (length (now stores) ≤ 16) ⌝ }
+    requires { ⌜ (length (now waits) ≤ 4) × (length (now least) ≤ 64) ⌝ }
     requires { ⌜ length (now «actions_») / actionSize (length (now pools) / 4) (length (now stores) / 4) ≤ 64 ⌝ }
     ensures { λ r. ⌜ r ≡ jobValue
         (jobOf form (now (head .entry)) (now (pools .entry)) (now (stores .entry)) (now («actions_» .entry))
-        (now (waits .entry))) ⌝ }
+        (now (waits .entry)) (now (least .entry))) ⌝ }
 {
     let counts = Counts {
         pools: pools.len() / Layout::AMOUNT,
@@ -73,7 +74,10 @@ pub fn decode(
     let pool_amounts = amounts(pools);
     let store_amounts = amounts(stores);
     let all = actions(actions_, counts.pools, counts.stores);
-    let all_waits = handovers(waits);
+    let mut handovers = [0u8; Job::POOLS];
+    put_minutes(&mut handovers, waits);
+    let mut shortest = [0u8; Job::ACTIONS];
+    put_minutes(&mut shortest, least);
     Job {
         facts: read_number(head, Layout::FACTS_AT, Layout::FACTS) as u8,
         deadline: read_number(head, Layout::DEADLINE_AT, Layout::DEADLINE) as u16,
@@ -82,8 +86,9 @@ pub fn decode(
         form,
         counts,
         pools: pool_amounts,
-        handovers: all_waits,
+        handovers,
         stores: store_amounts,
+        shortest,
         actions: all,
     }
 }

@@ -1,4 +1,4 @@
-// The reader: any bytes in; the job in them, or the first refusal of 1 to 11, 26 and 27, out. One pass over the bytes.
+// The reader: any bytes in; the job in them, or the first refusal of the file and of its job, out. One pass over the bytes.
 mod action; // one action of a body, taken apart
 mod decode; // the bodies of a file to a job
 mod view; // the actions body, as a view of the lent file
@@ -33,8 +33,12 @@ fn form_in(file: &[u8]) -> Form
     requires { ⌜ 2 ≤ length (now file) ⌝ }
     ensures { λ r. ⌜ r ≡ formIn (now (file .entry)) ⌝ }
 {
-    if short(file, Layout::OFFSET_AT) == Layout::FIVE_ENTRIES {
+    let first = short(file, Layout::OFFSET_AT);
+    if first == Layout::FIVE_ENTRIES {
         return Form::Five;
+    }
+    if first == Layout::SIX_ENTRIES {
+        return Form::Six;
     }
     Form::Four
 }
@@ -53,7 +57,7 @@ fn wrong_size(file: &[u8]) -> bool
 
 // Whether the bodies of so many entries stand in a row, from the contents to the end of the file.
 fn gapless(file: &[u8], entries: usize) -> bool
-    requires { ⌜ (entries ≤ 5) × (4 * entries ≤ length (now file)) ⌝ }
+    requires { ⌜ (entries ≤ 6) × (4 * entries ≤ length (now file)) ⌝ }
     ensures { λ r. ⌜ r ≡ gapless (now (file .entry)) (4 * entries) 0 entries ⌝ }
 {
     let mut at = Layout::ENTRY * entries;
@@ -100,27 +104,31 @@ fn layout(file: &[u8], form: Form) -> Layout
         stores: size_in(file, entries, Layout::STORES_PLACE),
         actions: size_in(file, entries, Layout::ACTIONS_PLACE),
         handovers: size_in(file, entries, Layout::HANDOVERS_PLACE),
+        shortest: size_in(file, entries, Layout::SHORTEST_PLACE),
     }
 }
 
 // The job in a file whose contents are right.
 fn job_in(file: &[u8], layout: Layout) -> Job
-    requires { ⌜ Placed (now file) layout ⌝ }
+    requires { ⌜ Placed (now file) layout × Small layout ⌝ }
     ensures { λ r. ⌜ r ≡ jobValue (decoded (now (file .entry))) ⌝ }
 {
     let form = layout.form;
-    let head = Layout::ENTRY * form.entries();
-    let pools = head + layout.head;
-    let stores = pools + layout.pools;
-    let actions = stores + layout.stores;
-    let handovers = actions + layout.actions;
+    let at = layout.places();
+    let head = at.head;
+    let pools = at.pools;
+    let stores = at.stores;
+    let actions = at.actions;
+    let handovers = at.handovers;
+    let shortest = at.shortest;
     decode::decode(
         form,
         &file[head..pools],
         &file[pools..stores],
         &file[stores..actions],
         &file[actions..handovers],
-        &file[handovers..],
+        &file[handovers..shortest],
+        &file[shortest..],
     )
 }
 
@@ -135,7 +143,7 @@ fn refused(why: Refusal) -> Reading
     }
 }
 
-// The job in a file, or the first refusal of 1 to 11, 26 and 27 with a job of zeros.
+// The job in a file, or the first refusal of the file and of its job with a job of zeros.
 pub fn read(file: &[u8]) -> Reading
     ensures { λ r. ⌜ Reads (now (file .entry)) r ⌝ }
 {

@@ -9,11 +9,11 @@ use native.Mathlib.Omega.{arith}
 use lib.ListN.{length, length-append}
 use Rattle.lists.proofs.Tabulate.{each-at}
 use Rattle.facts.specs.FactSet.{meets}
-use Rattle.job.specs.Job.{Job}
+use Rattle.job.specs.Job.{Job, noAction}
 use Rattle.job.specs.Refusal.{first}
 use Rattle.job.specs.Passed.{Passed, PassedAction}
 use Rattle.job.specs.declared.refusal.Verdict.the-variants.{Pass}
-use Rattle.timeline.specs.Step.{Step, noAction, strictlyRising}
+use Rattle.timeline.specs.Step.{Step, strictlyRising}
 use Rattle.timeline.specs.From.{From, IsNew, IsKept}
 use Rattle.timeline.specs.Timeline.{end}
 use Rattle.timeline.specs.Accepted.{stepRows}

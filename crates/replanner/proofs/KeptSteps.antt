@@ -14,12 +14,12 @@ use Rattle.lists.specs.Lists.{tabulate}
 use Rattle.lists.proofs.Tabulate.{length-tabulate, tabulate-snoc, tabulate-same, getD-tabulate}
 use Rattle.job.specs.declared.Job as held
 use Rattle.job.specs.declared.refusal.Verdict.the-variants.{Pass}
-use Rattle.job.specs.Job.{Job, jobIn}
+use Rattle.job.specs.Job.{Job, jobIn, noAction}
 use Rattle.job.specs.Refusal.{first}
 use Rattle.job.specs.Valid.{jobRows}
 use Rattle.job.proofs.Passed.{passed}
 use Rattle.timeline.specs.declared.Plan.{Plan}
-use Rattle.timeline.specs.Step.{Step, noAction, stepOf, stepsIn, strictlyRising}
+use Rattle.timeline.specs.Step.{Step, stepOf, stepsIn, strictlyRising}
 use Rattle.timeline.specs.Value.{stepAt}
 use Rattle.timeline.specs.Accepted.{Accepted}
 use Rattle.timeline.specs.Places.{here, EachStep}

@@ -21,7 +21,7 @@ use Rattle.job.proofs.Table.{first-here, first-next, first-append-pass, first-a
 use Rattle.timeline.specs.declared.Day.{Day}
 use Rattle.timeline.specs.Step.{Step}
 use Rattle.timeline.specs.Accepted.{planRows, runRows}
-use Rattle.timeline.specs.Day.{noDay, tells, toldOf, dayOf, dayReply}
+use Rattle.timeline.specs.Day.{noDay, tells, toldOf, dayReply}
 use Rattle.timeline.proofs.Tests.{decided}
 use Rattle.timeline.proofs.DayLaws.{told-of-bytes}
 use Rattle.timeline.proofs.RunRows.{run-rows}
@@ -32,12 +32,6 @@ use Rattle.planner.specs.Plan.{Whole, HandedOut}
 use Rattle.planner.proofs.HandingOut.{refused-with, whole-when-solved, plans-when-solved}
 use Rattle.replanner.specs.Replan.{replanRows, keptSteps, HandsOutKept, ReplansWith, ReplansBy, Replans}
 use Rattle.replanner.specs.Kept.{Replanned}
-
--- the verdict of a day is that of the tests that it was made by
-pub day-verdict : (v : Verdict) (J : Job) (P : List Step) {d : Day} → dayOf v J P ≡ d → (w : Verdict) → d .verdict ≡ w
-    → v ≡ w
-day-verdict Pass J P e w h = ap (λ (d : Day). d .verdict) e ∙ h
-day-verdict (Refused why) J P e w h = ap (λ (d : Day). d .verdict) e ∙ h
 
 module _ (J : Job) (current : List ℕ) (minute goal : ℕ) (slice : List ℕ) where
   abbrev K : List Step

@@ -82,7 +82,7 @@ module _ (J : Job) (current : List ℕ) (minute goal : ℕ) (slice : List ℕ) (
     plans-with-kept : ReplansBy Pass J goal minute K slice answer after → PlansWithKept
     plans-with-kept p = plans-by-pass (passes J goal K) refl p
 
-  -- the promise, where none of 3 to 11, 26, 27, 24, 12 to 19 and 21 holds
+  -- the promise, where no refusal of the job holds, nor 24, 12 to 19 or 21
   plans-when-tests-pass : Replans J current minute goal slice answer after
       → first (replanRows J current goal slice) ≡ Pass → PlansWithKept
   plans-when-tests-pass h rows =

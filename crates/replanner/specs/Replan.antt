@@ -21,7 +21,7 @@ use Rattle.timeline.specs.declared.Day.{Day}
 use Rattle.makespan.specs.Makespan.{begun, passes, makespanFrom}
 use Rattle.planner.specs.Plan.{RefusedWith, PlansFor}
 
--- tests 3 to 11, 26 and 27 of the job; 24 "tested after the job and before the plan"; 12 to 19 of "the current plan,
+-- the tests of the job; 24 "tested after the job and before the plan"; 12 to 19 of "the current plan,
 -- which must pass 12 to 19"; then 21
 abbrev pub replanRows : Job → List ℕ → ℕ → List ℕ → List Row
 replanRows J current goal slice =

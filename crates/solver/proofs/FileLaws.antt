@@ -1,4 +1,4 @@
--- The file of a job that passes tests 3 to 11, 26 and 27: it fits into a slice of 4,096 bytes, and has the job.
+-- The file of a job that passes its tests: it fits into a slice of 4,096 bytes, and has the job.
 -- Assumes nothing.
 use Prim.Native.Nat.{ℕ, _≤_}
 use mathlib.Core.Path.{_≡_, ap, sym, _∙_, subst}

@@ -1,4 +1,4 @@
--- The filled tables of a job that passes tests 3 to 11, 26 and 27, and its frame, describe it.
+-- The filled tables of a job that passes its tests, and its frame, describe it.
 -- Assumes nothing.
 use Prim.Native.Nat.{ℕ, _<_}
 use mathlib.Core.Path.{_≡_, refl, sym, ap}
@@ -9,13 +9,12 @@ use Rattle.lists.proofs.Tabulate.{length-tabulate, getD-tabulate, each-at}
 use Rattle.job.proofs.ResourceLaws.{allowed-is}
 use Rattle.job.specs.declared.Job as held
 use Rattle.job.specs.declared.refusal.Verdict.the-variants.{Pass}
-use Rattle.job.specs.Job.{Action, jobIn, actionAt, beyond}
+use Rattle.job.specs.Job.{Action, jobIn, actionAt, beyond, noAction}
 use Rattle.job.specs.Resources.{HandoversOf}
 use Rattle.job.specs.Refusal.{first}
 use Rattle.job.specs.Valid.{jobRows}
 use Rattle.job.specs.Passed.{PassedAction}
 use Rattle.job.proofs.Passed.{passed}
-use Rattle.timeline.specs.Step.{noAction}
 use Rattle.tables.specs.Tables.{Describes, DescribesAction}
 use Rattle.tables.specs.declared.Steps.{Steps}
 use Rattle.tables.specs.Filled.{Filled, frameOf}

@@ -18,8 +18,7 @@ use Rattle.job.specs.Resources.{storeAmount, chargedIn}
 use Rattle.job.proofs.ResourceLaws.{charged-is}
 use Rattle.job.specs.declared.Action as value
 use Rattle.job.specs.declared.Job as held
-use Rattle.job.specs.Job.{Action, Job, Fits, jobIn, actionAt, beyond}
-use Rattle.timeline.specs.Step.{noAction}
+use Rattle.job.specs.Job.{Action, Job, Fits, jobIn, actionAt, beyond, noAction}
 use Rattle.timeline.specs.Timeline.{hinders}
 use Rattle.timeline.proofs.Tests.{le-or-lt}
 use Rattle.times.specs.Earliest.{actionOf}

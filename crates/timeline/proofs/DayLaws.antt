@@ -16,6 +16,11 @@ use Rattle.timeline.specs.Timeline.{end, peaks}
 use Rattle.timeline.specs.declared.Day.{Day}
 use Rattle.timeline.specs.Day.{Told, toldOf, noDay, dayOf, dayReply}
 
+-- the verdict of a day is that of the tests that it was made by
+pub verdict-of-day : (v : Verdict) (J : Job) (P : List Step) (day : Day) → day ≡ dayOf v J P → day .verdict ≡ v
+verdict-of-day Pass J P day h = ap (λ (d : Day). d .verdict) h
+verdict-of-day (Refused why) J P day h = ap (λ (d : Day). d .verdict) h
+
 -- an answer that refuses tells of no plan
 pub refused-not-passed : (answer : Day) (why : Refusal) → answer ≡ noDay why → answer .verdict ≡ Pass → ⊥
 refused-not-passed answer why told h = let z : _≡_ {A = ℕ} 0 1 = cc in omega arith

@@ -7,12 +7,12 @@ use native.Mathlib.Omega.{arith}
 use lib.ListN.{length}
 use Rattle.lists.proofs.Tabulate.{each-tabulate, each-at}
 use Rattle.encoding.specs.Bytes.{part}
-use Rattle.job.specs.Job.{Job}
+use Rattle.job.specs.Job.{Job, noAction}
 use Rattle.job.specs.Refusal.{first}
 use Rattle.job.specs.Passed.{Passed, PassedAction}
 use Rattle.job.specs.declared.refusal.Verdict.the-variants.{Pass}
 use Rattle.job.proofs.Table.{first-pass}
-use Rattle.timeline.specs.Step.{Step, noAction, stepOf, stepIn, stepsIn}
+use Rattle.timeline.specs.Step.{Step, stepOf, stepIn, stepsIn}
 use Rattle.timeline.specs.Timeline.{end}
 use Rattle.timeline.specs.Accepted.{Accepted, planRows, stepRows}
 use Rattle.timeline.specs.Places.{EachStep}

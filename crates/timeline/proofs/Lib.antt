@@ -22,3 +22,4 @@ mod PoolStarts
 pub mod Peaks
 pub mod RunRows
 pub mod DayLaws
+pub mod PlanValues

@@ -12,13 +12,14 @@ use lib.ListN.{length}
 use borrow.Author.Tests.{ltb-false}
 use Rattle.lists.proofs.Bools.{or-left, or-right}
 use Rattle.job.specs.Job.{Job}
+use Rattle.job.specs.Lengths.{shortestOf}
 use Rattle.job.specs.Refusal.{first}
 use Rattle.job.specs.declared.refusal.Verdict.the-variants.{Pass}
 use Rattle.job.specs.Passed.{Passed}
 use Rattle.timeline.specs.Step.{Step, before, strictlyRising, stepsIn}
 use Rattle.timeline.specs.Timeline.{end}
 use Rattle.timeline.specs.Accepted.{stepRows, Accepted}
-use Rattle.timeline.specs.TrueLengths.{withLengths, wrongLengths}
+use Rattle.timeline.specs.TrueLengths.{withLengths, outsideRange, wrongLengths}
 use Rattle.timeline.specs.Places.{Place, here, there, EachStep}
 use Rattle.timeline.specs.Keeps.{Keeps, OfJob}
 use Rattle.timeline.proofs.Places.{each-cons, place-after, largest-at-most}
@@ -31,19 +32,19 @@ use Rattle.timeline.proofs.Shorter.{until, shorter-step}
 same-stop : (x : Step) (m : ℕ) → m ≡ x .stop → until m x ≡ x
 same-stop x m e = ap (λ (s : ℕ). until s x) e
 
-module _ (J : Job) (T goal : ℕ) (shortest : Step → ℕ) where
+module _ (J : Job) (T goal : ℕ) where
   -- one step after the other
   keeps-with-lengths : (A P : List Step) (lengths : List ℕ)
-      → EachStep (λ x. x .stop ≡ x .start + x .action .duration) P → EachStep (λ x. 0 < shortest x) P
-      → wrongLengths shortest P lengths ≡ false → Keeps J T goal (A ++ P) → Keeps J T goal (A ++ withLengths P lengths)
+      → EachStep (λ x. x .stop ≡ x .start + x .action .duration) P → EachStep (λ x. 0 < shortestOf J (x .number)) P
+      → wrongLengths J P lengths ≡ false → Keeps J T goal (A ++ P) → Keeps J T goal (A ++ withLengths P lengths)
   keeps-with-lengths A [] lengths own positive right keeps = keeps
   keeps-with-lengths A (x ∷ P) [] own positive right keeps = keeps
   keeps-with-lengths A (x ∷ P) (n ∷ lengths) own positive right keeps =
       let m : ℕ = x .start + n in
-      let range = or-left (ltb n (shortest x) || ltb (x .action .duration) n) _ right in
-      let rest = or-right (ltb n (shortest x) || ltb (x .action .duration) n) _ right in
-      let least = ltb-false n (shortest x) (or-left (ltb n (shortest x)) _ range) in
-      let most = ltb-false (x .action .duration) n (or-right (ltb n (shortest x)) _ range) in
+      let range = or-left (outsideRange J x n) _ right in
+      let rest = or-right (outsideRange J x n) _ right in
+      let least = ltb-false n (shortestOf J (x .number)) (or-left (ltb n (shortestOf J (x .number))) _ range) in
+      let most = ltb-false (x .action .duration) n (or-right (ltb n (shortestOf J (x .number))) _ range) in
       let first : Place x P (x ∷ P) = here in
       let stop = own x P first in
       let some = positive x P first in
@@ -80,13 +81,12 @@ each-with-lengths count (x ∷ P) (n ∷ lengths) h =
     each-cons (λ y. y .number < count) (until (x .start + n) x) (withLengths P lengths) (h x P first)
     (each-with-lengths count P lengths (λ z R j. h z (x ∷ R) (there j)))
 
--- the whole
-pub true-lengths-pass : (J : Job) (goal : ℕ) (bytes lengths : List ℕ) (shortest : Step → ℕ) → Passed J
-    → Accepted J goal bytes → EachStep (λ x. 0 < shortest x) (stepsIn J bytes)
-    → wrongLengths shortest (stepsIn J bytes) lengths ≡ false
+-- the whole, with the goal at the true end
+pub true-lengths-pass : (J : Job) (goal : ℕ) (bytes lengths : List ℕ) → Passed J → Accepted J goal bytes
+    → wrongLengths J (stepsIn J bytes) lengths ≡ false
     → (first (stepRows J goal (withLengths (stepsIn J bytes) lengths)) ≡ Pass)
     × (end (withLengths (stepsIn J bytes) lengths) ≤ end (stepsIn J bytes))
-true-lengths-pass J goal bytes lengths shortest passed accepted positive right =
+true-lengths-pass J goal bytes lengths passed accepted right =
     let P = stepsIn J bytes in
     let pass = steps-of-accepted J goal bytes accepted in
     let a = accepted-steps J goal P pass in
@@ -95,8 +95,8 @@ true-lengths-pass J goal bytes lengths shortest passed accepted positive right =
     (largest-at-most (λ x. x .stop) (J .deadline) P (a .beforeDeadline))
     (each-with-lengths (length (J .actions)) P lengths (a .known))
     (sym (rising-with-lengths P lengths) ∙ a .rising)
-    (keeps-with-lengths J (end P) goal shortest [] P lengths
-    (λ x Q i. own-stop x (steps-in-bytes J bytes x Q i)) positive right keeps)
+    (keeps-with-lengths J (end P) goal [] P lengths (λ x Q i. own-stop x (steps-in-bytes J bytes x Q i))
+    (λ x Q i. passed .ranges (x .number) (a .known x Q i) .0) right keeps)
   where
     own-stop : (x : Step) → OfJob J x → x .stop ≡ x .start + x .action .duration
     own-stop x own =

@@ -9,7 +9,7 @@ use lib.ListN.{getD}
 use Rattle.lists.specs.Lists.{any}
 use Rattle.encoding.specs.Bytes.{fromBytes, toBytes, part, split, joined}
 use Rattle.facts.specs.FactSet.{union}
-use Rattle.job.specs.Job.{Action, Job}
+use Rattle.job.specs.Job.{Action, Job, noAction}
 
 -- "each an action and a start minute": the action's number, the action, and the minutes in which the step starts and
 -- stops
@@ -18,10 +18,6 @@ pub record Step : Type 0 where
   pub action : Action
   pub start : ℕ
   pub stop : ℕ
-
--- what stands for an action that the job lacks
-abbrev pub noAction : Action
-noAction = record { duration = 0; needs = 0; adds = 0; deletes = 0; pools = []; stores = [] }
 
 -- "A step runs from its start up to, and without, its start plus its length."
 abbrev pub stepOf : Job → ℕ → ℕ → Step

@@ -19,6 +19,19 @@ pub struct Step {
     pub stop: u32,
 }
 
+impl Step {
+    // What stands in an unused place: all zero.
+    pub fn unused() -> Step {
+        let action = Action::unused();
+        Step {
+            number: 0,
+            action,
+            start: 0,
+            stop: 0,
+        }
+    }
+}
+
 // A plan of a job with these counts: its first `length` steps.
 pub struct Plan {
     pub counts: Counts,
@@ -39,13 +52,7 @@ impl Plan {
     pub fn none(counts: Counts) -> Plan
         ensures { λ r. ⌜ (r .length ≡ 0) × (r .counts ≡ counts) ⌝ }
     {
-        let action = Action::unused();
-        let unused = Step {
-            number: 0,
-            action,
-            start: 0,
-            stop: 0,
-        };
+        let unused = Step::unused();
         Plan {
             counts,
             length: 0,

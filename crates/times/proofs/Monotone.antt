@@ -4,9 +4,8 @@ use Prim.Native.Nat.{ℕ, _+_, _<_, _≤_}
 use native.Mathlib.Omega.{arith}
 use lib.ListN.{length}
 use Rattle.lists.proofs.Tabulate.{each-at}
-use Rattle.job.specs.Job.{Job}
+use Rattle.job.specs.Job.{Job, noAction}
 use Rattle.job.specs.Passed.{Passed, PassedAction}
-use Rattle.timeline.specs.Step.{noAction}
 use Rattle.times.specs.Earliest.{Table, timeOf, actionOf, rightSide}
 use Rattle.times.specs.Choices.{By, Alone, Together, Reached, atStart, both, one, other, each, eachOther}
 use Rattle.times.proofs.Times.{by-timeOf, timeOf-by}

@@ -7,9 +7,8 @@ use lib.Dec.{eqb, leb}
 use lib.ListN.{length, getD}
 use Rattle.lists.specs.Lists.{anyBelow}
 use Rattle.facts.specs.FactSet.{has, union, single}
-use Rattle.job.specs.Job.{Action, Job}
+use Rattle.job.specs.Job.{Action, Job, noAction}
 use Rattle.job.specs.Valid.{over}
-use Rattle.timeline.specs.Step.{noAction}
 use Rattle.timeline.specs.Timeline.{hinders}
 use Rattle.times.specs.Time.{Time, at, earlier, later, after, choice, demand, least, greatest}
 

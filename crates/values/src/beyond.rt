@@ -69,7 +69,7 @@ fn show_peaks(day: Day) {
 }
 
 // What the checker or the planner answers.
-fn show_day(call: &[u8], day: Day) {
+pub fn show_day(call: &[u8], day: Day) {
     text(call);
     let verdict = day.verdict;
     match verdict {

@@ -104,6 +104,7 @@ pub fn refusals(case: &[u8], job: Job, length: usize, plan: &[u8], set: u64) {
     show_day(b", check ", checker::check(job, plan));
     show_day(b", check for ", checker::check_for(job, set, plan));
     show(b", price ", priced(price::price(job, rates_over(), plan)));
+    show_day(b", true day ", true_day::true_day(job, plan, &[0]));
     show(b", earliest ", timed(earliest::earliest(job, set)));
     text(b"\n");
 }

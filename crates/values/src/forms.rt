@@ -1,4 +1,4 @@
-// Jobs of either form. What a value holds beyond its form is ignored.
+// Jobs with and without handovers. What a value holds beyond its form is ignored.
 use crate::beyond::answers;
 use crate::beyond::compare;
 use crate::beyond::day;

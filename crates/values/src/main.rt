@@ -1,9 +1,10 @@
-// Job values that no file holds, handed to the calls without the reader: values that 3 to 11, 26 and 27 refuse, other
-// numbers beyond the counts and the form, and whether two values hold the same job. Prints a line for each. What a file can hold
-// stands in tests/tables.
+// Job values that no file holds, handed to the calls without the reader: values that a test of the job refuses, other
+// numbers beyond the counts and the form, and whether two values hold the same job. Prints a line for each. What a file
+// can hold stands in tests/tables.
 mod refused; // the cases
 mod beyond;
 mod forms;
+mod ranges;
 mod trips;
 mod calls; // what they are made with
 mod filled;
@@ -21,4 +22,8 @@ fn main() {
     forms::refused();
     forms::ignored();
     forms::trips();
+    ranges::refused();
+    ranges::ignored();
+    ranges::trips();
+    ranges::true_days();
 }

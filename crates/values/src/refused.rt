@@ -1,4 +1,4 @@
-// Jobs that every call refuses by 3 to 11, 26 or 27.
+// Jobs that every call refuses.
 use crate::calls::ROOM;
 use crate::calls::refusals;
 use crate::jobs;

@@ -1,2 +1,3 @@
 mod ActionLaws
+mod LayoutLaws
 mod AnswerLaws

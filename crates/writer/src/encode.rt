@@ -4,53 +4,64 @@ ghost use Prim.Native.Nat.{_+_, _*_, _≤_};
 ghost use lib.ListN.{length};
 ghost use Rattle.lists.specs.Lists.{firsts};
 ghost use Rattle.encoding.specs.Bytes.{toBytes, joined, overwrite};
-ghost use Rattle.job.specs.Job.{entries, actionIn, jobIn, Fits};
-ghost use Rattle.jobfile.specs.File.{headBytes, amountBytes, actionBytes, handoverBytes, actionSize, bodies};
-ghost use Rattle.jobfile.specs.File.{contentNumbers, fileOf};
+ghost use Rattle.job.specs.Job.{actionIn, jobIn, Fits};
+ghost use Rattle.jobfile.specs.File.{headBytes, amountBytes, actionBytes, minuteBytes, actionSize, bodies};
+ghost use Rattle.jobfile.specs.File.{fileOf, layoutOf, numbersOf, Small};
+ghost use Rattle.writer.specs.Room.{Room};
 use encoding::write_number;
 use job::Action;
 use job::Counts;
 use job::Job;
 use jobfile::Layout;
+use jobfile::Places;
 
-// An entry of the contents has so many numbers, and five entries so many.
+// An entry of the contents has so many numbers, and six entries so many.
 const ENTRY_NUMBERS: usize = Layout::ENTRY / Layout::NUMBER;
 
-const NUMBERS: usize = Layout::FIVE_ENTRIES / Layout::NUMBER;
+const NUMBERS: usize = Layout::SIX_ENTRIES / Layout::NUMBER;
 
-// The numbers of five entries for the job's file, whose actions take `size` bytes each. A form has the first of them.
-fn numbers(job: Job, size: usize) -> [usize; NUMBERS]
-    requires { ⌜ Fits (job .counts) × (size ≡ actionSize (job .counts .pools) (job .counts .stores)) ⌝ }
-    ensures { λ r. ⌜ firsts (2 * entries (job .form)) 0 r ≡ contentNumbers (bodies (jobIn job)) ⌝ }
+// The form of the job's file and the lengths of its bodies.
+pub fn layout(job: Job) -> Layout
+    requires { ⌜ Fits (job .counts) ⌝ }
+    ensures { λ r. ⌜ (r ≡ layoutOf (job .form) (bodies (jobIn job))) × Small r ⌝ }
 {
     let form = job.form;
     let counts = job.counts;
-    let pools = Layout::AMOUNT * counts.pools;
-    let stores = Layout::AMOUNT * counts.stores;
-    let actions = counts.actions * size;
-    let first = Layout::ENTRY * form.entries();
-    let second = first + Layout::HEAD;
-    let third = second + pools;
-    let fourth = third + stores;
-    let fifth = fourth + actions;
-    let handovers = form.handovers(counts.pools);
+    let size = Layout::action_size(counts.pools, counts.stores);
+    Layout {
+        form,
+        head: Layout::HEAD,
+        pools: Layout::AMOUNT * counts.pools,
+        stores: Layout::AMOUNT * counts.stores,
+        actions: counts.actions * size,
+        handovers: form.handovers(counts.pools),
+        shortest: form.shortest(counts.actions),
+    }
+}
+
+// The numbers of six entries. A form has the first of them.
+fn numbers(layout: Layout, at: Places) -> [usize; NUMBERS]
+    ensures { λ r. ⌜ r ≡ numbersOf layout at ⌝ }
+{
     [
-        first,
-        Layout::HEAD,
-        second,
-        pools,
-        third,
-        stores,
-        fourth,
-        actions,
-        fifth,
-        handovers,
+        at.head,
+        layout.head,
+        at.pools,
+        layout.pools,
+        at.stores,
+        layout.stores,
+        at.actions,
+        layout.actions,
+        at.handovers,
+        layout.handovers,
+        at.shortest,
+        layout.shortest,
     ]
 }
 
 // The first n numbers of the contents, at the front.
 fn contents(out: &mut [u8], xs: [usize; NUMBERS], n: usize)
-    requires { ⌜ (n ≤ 10) × (2 * n ≤ length (now out)) ⌝ }
+    requires { ⌜ (n ≤ 12) × (2 * n ≤ length (now out)) ⌝ }
     ensures { λ r. ⌜ now (out .exit) ≡ overwrite (now (out .entry)) 0 (joined (toBytes 2) (firsts n 0 xs)) ⌝ }
 {
     let mut k = 0;
@@ -100,16 +111,33 @@ fn wide(byte: u8) -> u64
     byte as u64
 }
 
-// The first n handovers, from place `at` on.
-fn handovers(out: &mut [u8], at: usize, xs: [u8; Job::POOLS], n: usize)
-    requires { ⌜ (n ≤ 4) × (at + n ≤ length (now out)) ⌝ }
-    ensures { λ r. ⌜ now (out .exit) ≡ overwrite (now (out .entry)) at (handoverBytes (firsts n 0 xs)) ⌝ }
+// The first n minutes, a byte each, from place `at` on.
+fn minutes(out: &mut [u8], at: usize, xs: &[u8], n: usize)
+    requires { ⌜ (n ≤ length (now xs)) × (at + n ≤ length (now out)) ⌝ }
+    ensures { λ r. ⌜ now (out .exit) ≡
+        overwrite (now (out .entry)) at (minuteBytes (firsts n 0 (now (xs .entry)))) ⌝ }
 {
     let mut i = 0;
     while i < n {
-        write_number(out, at + i, Layout::HANDOVER, wide(xs[i]));
+        write_number(out, at + i, Layout::MINUTES, wide(xs[i]));
         i += 1;
     }
+}
+
+// The first n handovers, from place `at` on.
+fn handovers(out: &mut [u8], at: usize, xs: [u8; Job::POOLS], n: usize)
+    requires { ⌜ (n ≤ 4) × (at + n ≤ length (now out)) ⌝ }
+    ensures { λ r. ⌜ now (out .exit) ≡ overwrite (now (out .entry)) at (minuteBytes (firsts n 0 xs)) ⌝ }
+{
+    minutes(out, at, &xs, n);
+}
+
+// The first n shortest lengths, from place `at` on.
+fn shortest(out: &mut [u8], at: usize, xs: [u8; Job::ACTIONS], n: usize)
+    requires { ⌜ (n ≤ 64) × (at + n ≤ length (now out)) ⌝ }
+    ensures { λ r. ⌜ now (out .exit) ≡ overwrite (now (out .entry)) at (minuteBytes (firsts n 0 xs)) ⌝ }
+{
+    minutes(out, at, &xs, n);
 }
 
 // One action of a job with these counts, from place `at` on.
@@ -144,22 +172,9 @@ fn actions(out: &mut [u8], at: usize, size: usize, job: Job)
     }
 }
 
-// The length of the job's file.
-pub fn file_length(job: Job) -> usize
-    requires { ⌜ Fits (job .counts) ⌝ }
-    ensures { λ r. ⌜ r ≡ length (fileOf (jobIn job)) ⌝ }
-{
-    let form = job.form;
-    let counts = job.counts;
-    let contents = Layout::ENTRY * form.entries();
-    let size = Layout::action_size(counts.pools, counts.stores);
-    let amounts = Layout::AMOUNT * counts.pools + Layout::AMOUNT * counts.stores;
-    contents + Layout::HEAD + amounts + counts.actions * size + form.handovers(counts.pools)
-}
-
-// The whole file, at the front of a slice that has room for it.
-pub fn file(out: &mut [u8], job: Job)
-    requires { ⌜ Fits (job .counts) × (length (fileOf (jobIn job)) ≤ length (now out)) ⌝ }
+// The whole file, at the front of a slice that has room for it, with each body at its place.
+pub fn file(out: &mut [u8], job: Job, layout: Layout, at: Places)
+    requires { ⌜ Fits (job .counts) × Room job layout at (length (now out)) ⌝ }
     ensures { λ r. ⌜ now (out .exit) ≡ overwrite (now (out .entry)) 0 (fileOf (jobIn job)) ⌝ }
 {
     let form = job.form;
@@ -167,17 +182,14 @@ pub fn file(out: &mut [u8], job: Job)
     let pools = job.pools;
     let stores = job.stores;
     let waits = job.handovers;
+    let least = job.shortest;
     let size = Layout::action_size(counts.pools, counts.stores);
-    let head_at = Layout::ENTRY * form.entries();
-    let pools_at = head_at + Layout::HEAD;
-    let stores_at = pools_at + Layout::AMOUNT * counts.pools;
-    let actions_at = stores_at + Layout::AMOUNT * counts.stores;
-    let handovers_at = actions_at + counts.actions * size;
-    let entries = numbers(job, size);
+    let entries = numbers(layout, at);
     contents(out, entries, ENTRY_NUMBERS * form.entries());
-    head(out, head_at, job);
-    amounts(out, pools_at, pools, counts.pools);
-    amounts(out, stores_at, stores, counts.stores);
-    actions(out, actions_at, size, job);
-    handovers(out, handovers_at, waits, form.handovers(counts.pools));
+    head(out, at.head, job);
+    amounts(out, at.pools, pools, counts.pools);
+    amounts(out, at.stores, stores, counts.stores);
+    actions(out, at.actions, size, job);
+    handovers(out, at.handovers, waits, layout.handovers);
+    shortest(out, at.shortest, least, layout.shortest);
 }

@@ -1,5 +1,5 @@
-// The writer: a job and a lent slice in; the file at the front of the slice, or the first refusal of 3 to 11, 26, 27
-// and 23.
+// The writer: a job and a lent slice in; the file at the front of the slice, or the first refusal of the job
+// and of 23.
 mod encode; // the parts of a file
 
 ghost use Rattle.job.specs.Job.{jobIn};
@@ -18,10 +18,11 @@ pub fn write(job: Job, out: &mut [u8]) -> Written
     if let Verdict::Refused(why) = verdict {
         return Written::Refused(why);
     }
-    let length = encode::file_length(job);
-    if out.len() < length {
+    let layout = encode::layout(job);
+    let places = layout.places();
+    if out.len() < places.end {
         return Written::Refused(Refusal::FileSlice);
     }
-    encode::file(out, job);
-    Written::Length(length)
+    encode::file(out, job, layout, places);
+    Written::Length(places.end)
 }

@@ -1,7 +1,11 @@
 -- `ruhkevois_check` meets its contract: the file is refused, or the checker has answered.
 -- Assumes nothing.
 use mathlib.Core.Path.{_∙_}
-use Rattle.calls.proofs.CallLaws.{file-refused, peaks-kept, check-accepted, peaks-told}
+use Rattle.job.specs.Job.{Job}
+use Rattle.timeline.specs.declared.Day.{Day}
+use Rattle.checker.specs.Check.{checkPlan}
+use Rattle.packing.specs.Answer.{checkedNumber}
+use Rattle.calls.proofs.CallLaws.{file-refused, peaks-kept, number-accepted, peaks-told}
 use borrow.Author.Needs.{needs}
 use Rattle.calls.proofs.ruhkevois_check.Statement.{statement}
 use Rattle.calls.proofs.ruhkevois_check.Tie as tie
@@ -37,12 +41,15 @@ day-told-requires c κs = search needs
 
 returns-2 : tie.Need-returns-2
 returns-2 c =
+    let c-args = c .before .before .before .before .before .before .before .before .args in
     let c-read = c .before .before .before .before .before .before .read in
     let c-enum-told = c .before .before .before .before .enum-told in
-    let c-check = c .before .before .before .check in (
+    let c-check = c .before .before .before .check in
+    let said : Job → Day = λ J. checkPlan J (c-args .plan .now) in (
       c .day-told .ensures
-          ∙ check-accepted _ _ (c-read .ensures .answers) (c-enum-told .given .1) _ _ (c-check .ensures .answers),
-      peaks-told _ _ (c-read .ensures .answers) (c-enum-told .given .1) _ _ _ _ (c-check .ensures .answers)
+          ∙ number-accepted _ _ (c-read .ensures .answers) (c-enum-told .given .1) said checkedNumber _
+          (c-check .ensures .answers),
+      peaks-told _ _ (c-read .ensures .answers) (c-enum-told .given .1) said _ _ _ (c-check .ensures .answers)
           (c .before .put-peaks .ensures),
     )
 

@@ -1,7 +1,12 @@
 -- `ruhkevois_price` meets its contract: the file is refused, or the price is told.
 -- Assumes nothing.
 use mathlib.Core.Path.{_∙_}
-use Rattle.calls.proofs.CallLaws.{file-refused, price-accepted}
+use Rattle.job.specs.Job.{Job}
+use Rattle.price.specs.declared.Priced.{Priced}
+use Rattle.price.specs.Price.{pricePlan}
+use Rattle.packing.specs.Answer.{pricedNumber}
+use Rattle.calls.specs.Calls.{ratesIn}
+use Rattle.calls.proofs.CallLaws.{file-refused, number-accepted}
 use borrow.Author.Needs.{needs}
 use Rattle.calls.proofs.ruhkevois_price.Statement.{statement}
 use Rattle.calls.proofs.ruhkevois_price.Tie as tie
@@ -33,9 +38,12 @@ returns-2 : tie.Need-returns-2
 returns-2 c =
     let c-read = c .before .before .before .before .before .before .read in
     let c-enum-told = c .before .before .before .before .enum-told in
-    let read = c-read .ensures .answers in
+    let a = c .before .before .before .before .before .before .before .before .args in
+    let rates = ratesIn (a .pools .now) (a .stores .now) (a .evening) in
+    let said : Job → Priced = λ J. pricePlan J rates (a .plan .now) in
     c .price-told .ensures
-    ∙ price-accepted _ _ read (c-enum-told .given .1) _ _ _ (c .before .price .ensures .answers)
+    ∙ number-accepted _ _ (c-read .ensures .answers) (c-enum-told .given .1) said pricedNumber _
+    (c .before .price .ensures .answers)
 
 pub ruhkevois-price-spec : {M : Type 1} → statement M
 ruhkevois-price-spec =

@@ -1,8 +1,12 @@
 -- `ruhkevois_rewrite` meets its contract: the file is refused, or the writer has answered.
 -- Assumes nothing.
 use mathlib.Core.Path.{_∙_}
+use Rattle.job.specs.Job.{Job}
+use Rattle.jobfile.specs.declared.Written.{Written}
+use Rattle.jobfile.specs.Answers.{writeFile}
+use Rattle.packing.specs.Answer.{writtenNumber}
 use Rattle.calls.proofs.Fitting.{written-file-is-short}
-use Rattle.calls.proofs.CallLaws.{file-refused, slice-kept, rewrite-accepted, left-accepted}
+use Rattle.calls.proofs.CallLaws.{file-refused, slice-kept, number-accepted, left-accepted}
 use borrow.Author.Needs.{needs}
 use Rattle.calls.proofs.ruhkevois_rewrite.Statement.{statement}
 use Rattle.calls.proofs.ruhkevois_rewrite.Tie as tie
@@ -42,13 +46,16 @@ same-length c = search needs
 
 returns-2 : tie.Need-returns-2
 returns-2 c =
+    let at8 = c .before .before .before .before .before .before .before .before in
+    let c-args = at8 .before .before .args in
     let c-read = c .before .before .before .before .before .before .before .read in
     let c-enum-told = c .before .before .before .before .before .enum-told in
     let c-write = c .before .before .before .write in
     let read = c-read .ensures .answers in
     let pass = c-enum-told .given .1 in
-    let wrote = c-write .ensures in (
-      c .written .ensures ∙ rewrite-accepted _ _ read pass _ _ (wrote .answers),
+    let wrote = c-write .ensures in
+    let said : Job → Written = λ J. writeFile J (c-args .out .now) in (
+      c .written .ensures ∙ number-accepted _ _ read pass said writtenNumber _ (wrote .answers),
       left-accepted _ _ read pass _ _ (wrote .leaves),
     )
 

@@ -84,7 +84,8 @@ job-in-requires c κs =
     let c-if2 = c .before .before .before .if2 in
     let file = c-args .file .now in
     let t2 = sym (c-in-order .ensures) ∙ not-false _ (c-if2 .left) in
-    placed file _ t2 (c .before .before .layout .ensures .0) (sym (c .before .missized .ensures) ∙ c .if3 .left)
+    let layout = c .before .before .layout .ensures in
+    (placed file _ t2 (layout .0) (sym (c .before .missized .ensures) ∙ c .if3 .left), layout .1)
 
 validate-requires : tie.Need-validate-requires
 validate-requires c κs = search needs

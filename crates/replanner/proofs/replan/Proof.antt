@@ -2,8 +2,9 @@
 -- Assumes nothing.
 use mathlib.Core.Path.{sym, _∙_}
 use Rattle.job.specs.Job.{jobIn}
+use Rattle.timeline.proofs.DayLaws.{verdict-of-day}
 use Rattle.replanner.proofs.KeptSteps.{small-starts, kept-fit, kept-in-order}
-use Rattle.replanner.proofs.Replanning.{day-verdict, replans-refused, replans-foreign, replans-plan-refused}
+use Rattle.replanner.proofs.Replanning.{replans-refused, replans-foreign, replans-plan-refused}
 use Rattle.replanner.proofs.Replanning.{replans-short, replans-answered, replanned-with, whole-when-replanned}
 use borrow.Author.Needs.{needs}
 use Rattle.replanner.proofs.replan.Statement.{statement}
@@ -60,7 +61,7 @@ returns-3 c =
     let c-foreign = c .before .before .before .before .before .before .before .foreign in
     let c-if1 = c .before .before .before .before .before .before .if1 in
     let c-checked-plan = c .before .before .before .before .before .checked-plan in
-    replans-plan-refused (jobIn (c-args .job)) (c-args .current .now) (c-args .minute) (c-args .goal) (c-args .out .now) (sym (c-validate .ensures) ∙ c-enum-told .given .1) (sym (c-foreign .ensures .0) ∙ c-if1 .left) _ _ (c .refused3 .ensures) (day-verdict _ _ _ (sym (c-checked-plan .ensures .day)) _ (c .before .before .runs .given .1))
+    replans-plan-refused (jobIn (c-args .job)) (c-args .current .now) (c-args .minute) (c-args .goal) (c-args .out .now) (sym (c-validate .ensures) ∙ c-enum-told .given .1) (sym (c-foreign .ensures .0) ∙ c-if1 .left) _ _ (c .refused3 .ensures) (sym (verdict-of-day _ _ _ _ (c-checked-plan .ensures .day)) ∙ c .before .before .runs .given .1)
 
 enum-told-2 : tie.Need-enum-told-2
 enum-told-2 c = search needs
@@ -77,7 +78,7 @@ returns-4 c =
     let c-foreign = c .before .before .before .before .before .before .before .foreign in
     let c-if1 = c .before .before .before .before .before .before .if1 in
     let c-checked-plan = c .before .before .before .before .before .checked-plan in
-    replans-short (jobIn (c-args .job)) (c-args .current .now) (c-args .minute) (c-args .goal) (c-args .out .now) (sym (c-validate .ensures) ∙ c-enum-told .given .1) (sym (c-foreign .ensures .0) ∙ c-if1 .left) (day-verdict _ _ _ (sym (c-checked-plan .ensures .day)) _ (c .before .before .enum-told2 .given .1)) _ (c .refused4 .ensures) (c .before .if2 .taken)
+    replans-short (jobIn (c-args .job)) (c-args .current .now) (c-args .minute) (c-args .goal) (c-args .out .now) (sym (c-validate .ensures) ∙ c-enum-told .given .1) (sym (c-foreign .ensures .0) ∙ c-if1 .left) (sym (verdict-of-day _ _ _ _ (c-checked-plan .ensures .day)) ∙ c .before .before .enum-told2 .given .1) _ (c .refused4 .ensures) (c .before .if2 .taken)
 
 kept-steps-requires : tie.Need-kept-steps-requires
 kept-steps-requires c κs =
@@ -88,7 +89,7 @@ kept-steps-requires c κs =
     let c-checked-plan = c .before .before .before .before .before .checked-plan in
     let c-enum-told2 = c .before .before .enum-told2 in
     let valid = sym (c-validate .ensures) ∙ c-enum-told .given .1 in
-    let runs = day-verdict _ _ _ (sym (c-checked-plan .ensures .day)) _ (c-enum-told2 .given .1) in
+    let runs = sym (verdict-of-day _ _ _ _ (c-checked-plan .ensures .day)) ∙ c-enum-told2 .given .1 in
     let decodes = c-checked-plan .ensures .plan (c-enum-told2 .given .1) in
     (decodes .few, small-starts (c-args .job) (c-args .current .now) _ decodes valid runs)
 
@@ -103,7 +104,7 @@ with-kept-requires c κs =
     let c-checked-plan = c .before .before .before .before .before .before .checked-plan in
     let c-enum-told2 = c .before .before .before .enum-told2 in
     let valid = sym (c-validate .ensures) ∙ c-enum-told .given .1 in
-    let runs = day-verdict _ _ _ (sym (c-checked-plan .ensures .day)) _ (c-enum-told2 .given .1) in
+    let runs = sym (verdict-of-day _ _ _ _ (c-checked-plan .ensures .day)) ∙ c-enum-told2 .given .1 in
     let decodes = c-checked-plan .ensures .plan (c-enum-told2 .given .1) in
     (valid, sym (c-foreign .ensures .0) ∙ c-if1 .left, kept-fit (c-args .job) (c-args .current .now) _ decodes valid runs (c-args .minute) _ (c .kept-steps .ensures))
 
@@ -134,7 +135,7 @@ returns-5 c =
     let c-kept-steps = c .before .before .before .before .before .kept-steps in
     let c-with-kept = c .before .before .before .before .with-kept in
     let valid = sym (c-validate .ensures) ∙ c-enum-told .given .1 in
-    let runs = day-verdict _ _ _ (sym (c-checked-plan .ensures .day)) _ (c-enum-told2 .given .1) in
+    let runs = sym (verdict-of-day _ _ _ _ (c-checked-plan .ensures .day)) ∙ c-enum-told2 .given .1 in
     let decodes = c-checked-plan .ensures .plan (c-enum-told2 .given .1) in
     let same = kept-in-order (c-args .job) (c-args .current .now) _ decodes valid runs (c-args .minute) _ (c-kept-steps .ensures) in
     replans-answered (jobIn (c-args .job)) (c-args .current .now) (c-args .minute) (c-args .goal) (c-args .out .now) valid (sym (c-foreign .ensures .0) ∙ c-if1 .left) runs (c-if2 .left) (c-with-kept .result) (replanned-with (jobIn (c-args .job)) (c-args .goal) (c-args .minute) (c-with-kept .result) _ _ same (c-with-kept .ensures)) _ _ (c .before .before .hand-out .ensures)

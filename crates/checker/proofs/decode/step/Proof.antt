@@ -1,8 +1,7 @@
 -- `step` meets its contract: the action at its place is the job's action of that number.
 -- Assumes nothing.
 use Rattle.lists.proofs.Tabulate.{getD-tabulate}
-use Rattle.job.specs.Job.{actionAt}
-use Rattle.timeline.specs.Step.{noAction}
+use Rattle.job.specs.Job.{actionAt, noAction}
 use borrow.Author.Needs.{needs}
 use Rattle.checker.proofs.decode.step.Statement.{statement}
 use Rattle.checker.proofs.decode.step.Tie as tie

@@ -23,6 +23,12 @@ same-handovers-requires c κs = search needs
 same-amounts-requires-2 : tie.Need-same-amounts-requires-2
 same-amounts-requires-2 c κs = search needs
 
+shortest-requires : tie.Need-shortest-requires
+shortest-requires c κs = search needs
+
+same-shortest-requires : tie.Need-same-shortest-requires
+same-shortest-requires c κs = search needs
+
 same-actions-requires : tie.Need-same-actions-requires
 same-actions-requires c κs = search needs
 
@@ -31,14 +37,17 @@ returns c =
     let at8 = c .before .before .before .before .before .before .before .before in
     let at16 = at8 .before .before .before .before .before .before .before .before in
     let at24 = at16 .before .before .before .before .before .before .before .before in
-    let c-args = at24 .before .args in
-    let c-same-form = c .before .before .before .before .before .before .same-form in
-    let c-same-counts = c .before .before .before .before .before .same-counts in
-    let c-same-amounts = c .before .before .before .before .same-amounts in
-    let c-handovers = c .before .before .before .handovers in
+    let c-args = at24 .before .before .before .before .before .args in
+    let c-same-form = c .before .before .before .before .before .before .before .before .same-form in
+    let c-same-counts = c .before .before .before .before .before .before .before .same-counts in
+    let c-same-amounts = c .before .before .before .before .before .before .same-amounts in
+    let c-handovers = c .before .before .before .before .before .handovers in
+    let c-same-handovers = c .before .before .before .before .same-handovers in
+    let c-same-amounts2 = c .before .before .before .same-amounts2 in
     same-job (c-args .a) (c-args .b) (c-same-form .ensures) (c-same-counts .ensures) (c-same-amounts .ensures)
-    (rw (c-handovers .ensures) at (c .before .before .same-handovers .ensures))
-    (c .before .same-amounts2 .ensures)
+    (rw (c-handovers .ensures) at (c-same-handovers .ensures))
+    (c-same-amounts2 .ensures)
+    (rw (c .before .before .shortest .ensures) at (c .before .same-shortest .ensures))
     (c .same-actions .ensures)
 
 pub same-spec : {M : Type 1} → statement M
@@ -51,5 +60,7 @@ same-spec =
     handovers-requires
     same-handovers-requires
     same-amounts-requires-2
+    shortest-requires
+    same-shortest-requires
     same-actions-requires
     returns)

@@ -1,6 +1,6 @@
 -- `validate_actions` meets its contract: each return has the tests before it passed, and its own failed.
 -- Assumes nothing.
-use mathlib.Core.Path.{sym}
+use mathlib.Core.Path.{sym, _∙_}
 use Rattle.job.specs.Job.{jobIn}
 use Rattle.job.specs.Refusal.{first}
 use Rattle.job.proofs.BrokenLaws.{rows-of-broken}
@@ -14,64 +14,93 @@ any-broken-requires c κs = search needs
 returns : tie.Need-returns
 unfolding first
 returns c =
-    let found = c .before in
-    rw (sym (rows-of-broken (jobIn (found .before .args .job)) _ (found .any-broken .ensures)), c .if1 .taken)
+    rw (sym (rows-of-broken (jobIn (c .before .before .args .job)) _ (c .before .any-broken .ensures)), c .if1 .taken)
+
+any-wrong-range-requires : tie.Need-any-wrong-range-requires
+any-wrong-range-requires c κs = search needs
 
 returns-2 : tie.Need-returns-2
 unfolding first
 returns-2 c =
-    let b1 = c .before in
-    let found = b1 .before in
+    let c-args = c .before .before .before .before .args in
+    let c-any-broken = c .before .before .before .any-broken in
     rw (
-      sym (rows-of-broken (jobIn (found .before .args .job)) _ (found .any-broken .ensures)),
-      b1 .if1 .left,
-      c .if2 .taken,
+      sym (rows-of-broken (jobIn (c-args .job)) _ (c-any-broken .ensures)),
+      c .before .before .if1 .left,
+      sym (c .before .any-wrong-range .ensures) ∙ c .if2 .taken,
     )
 
 returns-3 : tie.Need-returns-3
 unfolding first
 returns-3 c =
-    let b2 = c .before in
-    let b1 = b2 .before in
-    let found = b1 .before in
+    let c-args = c .before .before .before .before .before .args in
+    let c-any-broken = c .before .before .before .before .any-broken in
+    let c-if1 = c .before .before .before .if1 in
     rw (
-      sym (rows-of-broken (jobIn (found .before .args .job)) _ (found .any-broken .ensures)),
-      b1 .if1 .left,
-      b2 .if2 .left,
+      sym (rows-of-broken (jobIn (c-args .job)) _ (c-any-broken .ensures)),
+      c-if1 .left,
+      sym (c .before .before .any-wrong-range .ensures) ∙ c .before .if2 .left,
       c .if3 .taken,
     )
 
 returns-4 : tie.Need-returns-4
 unfolding first
 returns-4 c =
-    let b3 = c .before in
-    let b2 = b3 .before in
-    let b1 = b2 .before in
-    let found = b1 .before in
+    let c-args = c .before .before .before .before .before .before .args in
+    let c-any-broken = c .before .before .before .before .before .any-broken in
+    let c-if1 = c .before .before .before .before .if1 in
+    let c-any-wrong-range = c .before .before .before .any-wrong-range in
     rw (
-      sym (rows-of-broken (jobIn (found .before .args .job)) _ (found .any-broken .ensures)),
-      b1 .if1 .left,
-      b2 .if2 .left,
-      b3 .if3 .left,
+      sym (rows-of-broken (jobIn (c-args .job)) _ (c-any-broken .ensures)),
+      c-if1 .left,
+      sym (c-any-wrong-range .ensures) ∙ c .before .before .if2 .left,
+      c .before .if3 .left,
       c .if4 .taken,
     )
 
 returns-5 : tie.Need-returns-5
 unfolding first
 returns-5 c =
-    let b3 = c .before in
-    let b2 = b3 .before in
-    let b1 = b2 .before in
-    let found = b1 .before in
+    let c-args = c .before .before .before .before .before .before .before .args in
+    let c-any-broken = c .before .before .before .before .before .before .any-broken in
+    let c-if1 = c .before .before .before .before .before .if1 in
+    let c-any-wrong-range = c .before .before .before .before .any-wrong-range in
+    let c-if2 = c .before .before .before .if2 in
     rw (
-      sym (rows-of-broken (jobIn (found .before .args .job)) _ (found .any-broken .ensures)),
-      b1 .if1 .left,
-      b2 .if2 .left,
-      b3 .if3 .left,
-      c .if4 .left,
+      sym (rows-of-broken (jobIn (c-args .job)) _ (c-any-broken .ensures)),
+      c-if1 .left,
+      sym (c-any-wrong-range .ensures) ∙ c-if2 .left,
+      c .before .before .if3 .left,
+      c .before .if4 .left,
+      c .if5 .taken,
+    )
+
+returns-6 : tie.Need-returns-6
+unfolding first
+returns-6 c =
+    let c-args = c .before .before .before .before .before .before .before .args in
+    let c-any-broken = c .before .before .before .before .before .before .any-broken in
+    let c-if1 = c .before .before .before .before .before .if1 in
+    let c-any-wrong-range = c .before .before .before .before .any-wrong-range in
+    let c-if2 = c .before .before .before .if2 in
+    rw (
+      sym (rows-of-broken (jobIn (c-args .job)) _ (c-any-broken .ensures)),
+      c-if1 .left,
+      sym (c-any-wrong-range .ensures) ∙ c-if2 .left,
+      c .before .before .if3 .left,
+      c .before .if4 .left,
+      c .if5 .left,
     )
 
 pub validate-actions-spec : {M : Type 1} → statement M
 validate-actions-spec =
     tie.close
-    (tie.spec any-broken-requires returns returns-2 returns-3 returns-4 returns-5)
+    (tie.spec
+    any-broken-requires
+    returns
+    any-wrong-range-requires
+    returns-2
+    returns-3
+    returns-4
+    returns-5
+    returns-6)

@@ -27,12 +27,22 @@ handovers-requires c κs = search needs
 mul-result-3 : tie.Need-mul-result-3
 mul-result-3 c = search needs
 
+div-shortest : tie.Need-div-shortest
+div-shortest c = search needs
+
+shortest-requires : tie.Need-shortest-requires
+shortest-requires c κs = search needs
+
+mul-result-4 : tie.Need-mul-result-4
+mul-result-4 c = search needs
+
 returns : tie.Need-returns
 unfolding missized
 returns c =
     let at8 = c .before .before .before .before .before .before .before .before in
-    let c-action-size = at8 .before .before .action-size in
-    rw (c-action-size .ensures, c .before .handovers .ensures, one-mul)
+    let c-action-size = at8 .before .before .before .before .before .action-size in
+    let c-handovers = c .before .before .before .before .handovers in
+    rw (c-handovers .ensures, c .before .shortest .ensures, c-action-size .ensures) (simp one-mul)
 
 pub missized-spec : {M : Type 1} → statement M
 missized-spec =
@@ -45,4 +55,7 @@ missized-spec =
     div-result
     handovers-requires
     mul-result-3
+    div-shortest
+    shortest-requires
+    mul-result-4
     returns)

@@ -1,0 +1,22 @@
+// Days that have run, by the true length of each step.
+use crate::calls::print_run;
+use crate::lending::rest;
+use job::Job;
+use lent::front;
+
+// The bytes of the number of lengths, which stands before them; the plan stands behind them.
+const COUNT: usize = 1;
+
+fn count_in(given: &[u8]) -> usize {
+    if given.len() < COUNT {
+        return 0;
+    }
+    given[0] as usize
+}
+
+pub fn print(job: Job, given: &[u8]) {
+    let count = count_in(given);
+    let lengths = front(rest(given, COUNT), count);
+    let plan = rest(given, COUNT + count);
+    print_run(job, true_day::true_day(job, plan, lengths));
+}

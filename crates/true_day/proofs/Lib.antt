@@ -1,0 +1,4 @@
+mod ByPlace
+mod AcceptedPlan
+mod WaysOut
+pub mod Meaning

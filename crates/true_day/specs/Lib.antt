@@ -1,0 +1,2 @@
+pub mod TrueDay
+pub mod Inner
