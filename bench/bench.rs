@@ -43,6 +43,7 @@ fn largest() -> Vec<u8> {
         store: [1_000_000; 4],
         actions: (0..64).map(action).collect(),
         handovers: [0; 4],
+        shortest: [0; 64],
     };
     let mut out = vec![0; 4096];
     let n = plain::write(&job, &mut out).unwrap();

@@ -31,7 +31,8 @@ pub fn file(job: &Job) -> Vec<u8> {
 
 fn job(facts: u8, start: u64, goal: u64, actions: Vec<Action>) -> Job {
     let (form, deadline, pools, stores, none) = (Form::Four, 1440, 0, 0, [0; 4]);
-    Job { form, facts, deadline, start, goal, pools, stores, pool: none, store: none, actions, handovers: [0; 4] }
+    let (handovers, shortest) = ([0; 4], [0; 64]);
+    Job { form, facts, deadline, start, goal, pools, stores, pool: none, store: none, actions, handovers, shortest }
 }
 
 /// A small job with any sets, pools that forbid some choices, and lengths that often agree. No action uses more of a pool

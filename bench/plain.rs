@@ -11,16 +11,22 @@ pub struct Action {
     pub stores: [u32; 4],
 }
 
-/// Which entries the contents of a job's file have: four, or five, the last for the handovers.
+/// Which entries the contents of a job's file have: four, five with the handovers, or six with these and the shortest
+/// lengths.
 #[derive(Clone, Copy, PartialEq, Eq)]
 pub enum Form {
     Four,
     Five,
+    Six,
 }
 
 impl Form {
     pub fn entries(self) -> usize {
-        if self == Form::Five { 5 } else { 4 }
+        match self {
+            Form::Four => 4,
+            Form::Five => 5,
+            Form::Six => 6,
+        }
     }
 }
 
@@ -35,13 +41,19 @@ pub struct Job {
     pub pool: [u32; 4],
     pub store: [u32; 4],
     pub actions: Vec<Action>,
-    pub handovers: [u8; 4], // of a file with five entries
+    pub handovers: [u8; 4], // of a file with five entries or six
+    pub shortest: [u8; 64], // of a file with six
 }
 
 impl Job {
     /// How many minutes a share of a pool stays in use after its step.
     pub fn handover(&self, pool: usize) -> u32 {
-        if self.form == Form::Five { self.handovers[pool] as u32 } else { 0 }
+        if self.form == Form::Four { 0 } else { self.handovers[pool] as u32 }
+    }
+
+    /// How many minutes a step of an action takes at least; its duration is the longest length.
+    pub fn shortest_length(&self, action: usize) -> u8 {
+        if self.form == Form::Six { self.shortest[action] } else { self.actions[action].duration }
     }
 }
 
@@ -69,9 +81,13 @@ pub fn foreign(facts: u8, set: u64) -> bool {
     facts < 64 && set >> facts != 0
 }
 
-/// The form of a file: first offset 20 means five entries, anything else four.
+/// The form of a file: first offset 20 means five entries, 24 six, anything else four.
 pub fn form_of(b: &[u8]) -> Form {
-    if b.len() >= 2 && u16_at(b, 0) == 20 { Form::Five } else { Form::Four }
+    match b {
+        [20, 0, ..] => Form::Five,
+        [24, 0, ..] => Form::Six,
+        _ => Form::Four,
+    }
 }
 
 pub fn read(b: &[u8]) -> Result<Job, u64> {
@@ -81,7 +97,7 @@ pub fn read(b: &[u8]) -> Result<Job, u64> {
         return Err(1);
     }
     let mut at = contents;
-    let mut size = [0; 5];
+    let mut size = [0; 6];
     for k in 0..form.entries() {
         if u16_at(b, 4 * k) != at {
             return Err(2);
@@ -97,7 +113,10 @@ pub fn read(b: &[u8]) -> Result<Job, u64> {
     if size[0] != 19 || size[1] % 4 != 0 || size[1] > 16 || size[2] % 4 != 0 || size[2] > 16 {
         return Err(3);
     }
-    if size[3] % one != 0 || size[3] / one > 64 || form == Form::Five && size[4] != pools {
+    if size[3] % one != 0 || size[3] / one > 64 {
+        return Err(3);
+    }
+    if form != Form::Four && size[4] != pools || form == Form::Six && size[5] != size[3] / one {
         return Err(3);
     }
     let head = &b[contents..contents + 19];
@@ -105,8 +124,10 @@ pub fn read(b: &[u8]) -> Result<Job, u64> {
     let store_at = pool_at + size[1];
     let action_at = store_at + size[2];
     let handover_at = action_at + size[3];
-    let mut handovers = [0; 4];
-    handovers[..size[4]].copy_from_slice(&b[handover_at..]);
+    let shortest_at = handover_at + size[4];
+    let (mut handovers, mut shortest) = ([0; 4], [0; 64]);
+    handovers[..size[4]].copy_from_slice(&b[handover_at..shortest_at]);
+    shortest[..size[5]].copy_from_slice(&b[shortest_at..]);
     let job = Job {
         form,
         facts: head[0],
@@ -129,6 +150,7 @@ pub fn read(b: &[u8]) -> Result<Job, u64> {
             })
             .collect(),
         handovers,
+        shortest,
     };
     validate(&job)?;
     Ok(job)
@@ -153,6 +175,10 @@ fn validate(j: &Job) -> Result<(), u64> {
     if j.actions.iter().any(|a| a.duration == 0) {
         return Err(8);
     }
+    let no_range = |(n, a): (usize, &Action)| j.shortest_length(n) == 0 || j.shortest_length(n) > a.duration;
+    if j.actions.iter().enumerate().any(no_range) {
+        return Err(29);
+    }
     if j.actions.iter().any(|a| foreign(j.facts, a.needs | a.adds | a.deletes)) {
         return Err(9);
     }
@@ -172,7 +198,7 @@ fn validate(j: &Job) -> Result<(), u64> {
 pub fn write(j: &Job, out: &mut [u8]) -> Result<usize, u64> {
     validate(j)?;
     let one = 25 + 4 * j.pools + 4 * j.stores;
-    let sizes = [19, 4 * j.pools, 4 * j.stores, j.actions.len() * one, j.pools];
+    let sizes = [19, 4 * j.pools, 4 * j.stores, j.actions.len() * one, j.pools, j.actions.len()];
     let entries = j.form.entries();
     let length = 4 * entries + sizes[..entries].iter().sum::<usize>();
     if out.len() < length {
@@ -207,21 +233,28 @@ pub fn write(j: &Job, out: &mut [u8]) -> Result<usize, u64> {
         amounts(out, &mut at, &a.pools[..j.pools]);
         amounts(out, &mut at, &a.stores[..j.stores]);
     }
-    out[at..length].copy_from_slice(&j.handovers[..length - at]);
+    let behind = j.handovers[..j.pools].iter().chain(&j.shortest[..j.actions.len()]);
+    out[at..length].iter_mut().zip(behind).for_each(|(byte, minutes)| *byte = *minutes);
     Ok(length)
 }
 
 /// The plan's end, or the refusal: minute by minute, as the document describes it.
 pub fn check(j: &Job, plan: &[u8]) -> Result<u64, u64> {
+    check_lasting(j, plan, |_, a| a.duration)
+}
+
+/// The same where a step, told by its place in the plan and its action, lasts so many minutes.
+pub fn check_lasting(j: &Job, plan: &[u8], lasts: impl Fn(usize, &Action) -> u8) -> Result<u64, u64> {
     if plan.len() % 3 != 0 || plan.len() > 96 {
         return Err(12);
     }
     let steps: Vec<(usize, u32, u32, &Action)> = match plan
         .chunks_exact(3)
-        .map(|x| {
+        .enumerate()
+        .map(|(i, x)| {
             let n = x[0] as usize;
             let start = u16_at(x, 1) as u32;
-            j.actions.get(n).map(|a| (n, start, start + a.duration as u32, a))
+            j.actions.get(n).map(|a| (n, start, start + lasts(i, a) as u32, a))
         })
         .collect::<Option<Vec<_>>>()
     {
@@ -277,12 +310,17 @@ pub fn check(j: &Job, plan: &[u8]) -> Result<u64, u64> {
 
 /// The most of each pool that is in use in any minute, 0 for a pool that the job lacks: of a plan that is accepted.
 pub fn peaks(j: &Job, plan: &[u8]) -> [u32; 4] {
+    peaks_lasting(j, plan, |_, a| a.duration)
+}
+
+/// The same where a step, told by its place in the plan and its action, lasts so many minutes.
+pub fn peaks_lasting(j: &Job, plan: &[u8], lasts: impl Fn(usize, &Action) -> u8) -> [u32; 4] {
     let mut minutes = vec![[0; 4]; j.deadline as usize + 30];
-    for step in plan.chunks_exact(3) {
+    for (i, step) in plan.chunks_exact(3).enumerate() {
         let a = &j.actions[step[0] as usize];
         for k in 0..j.pools {
-            let lasts = a.duration as usize + j.handover(k) as usize;
-            minutes.iter_mut().skip(u16_at(step, 1)).take(lasts).for_each(|in_use| in_use[k] += a.pools[k]);
+            let held = lasts(i, a) as usize + j.handover(k) as usize;
+            minutes.iter_mut().skip(u16_at(step, 1)).take(held).for_each(|in_use| in_use[k] += a.pools[k]);
         }
     }
     [0, 1, 2, 3].map(|k| minutes.iter().map(|in_use| in_use[k]).max().unwrap_or(0))

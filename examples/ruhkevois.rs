@@ -29,6 +29,15 @@ pub mod exported {
             room: usize,
             peaks: *mut u32,
         ) -> u64;
+        pub fn ruhkevois_true_day(
+            file: *const u8,
+            length: usize,
+            plan: *const u8,
+            bytes: usize,
+            lengths: *const u8,
+            count: usize,
+            peaks: *mut u32,
+        ) -> u64;
     }
 }
 
@@ -38,10 +47,10 @@ pub const POOLS: usize = 4;
 /// An answer, taken apart.
 #[derive(Clone, Copy, Debug, PartialEq, Eq)]
 pub enum Answer {
-    /// A plan's end, an earliest time or a file's length; the number of steps of a plan that was written, else 0; for
-    /// each pool the most that a checked or written plan uses together, else 0.
+    /// A plan's or a true day's end, an earliest time or a file's length; the number of steps of a plan that was
+    /// written or of a true day, else 0; for each pool the most that either or a checked plan uses together, else 0.
     Done { end: u32, steps: u16, peaks: [u32; POOLS] },
-    /// A refusal by its number, 1 to 27 or 35.
+    /// A refusal by its number, 1 to 27, 29, 30 or 35.
     Refused(u8),
     /// A set of facts that no plan ever has together.
     Unreachable,
@@ -60,7 +69,7 @@ pub struct Rates {
 #[derive(Clone, Copy, Debug, PartialEq, Eq)]
 pub enum Price {
     Cents(u64),
-    /// A refusal by its number, 1 to 27.
+    /// A refusal by its number, 1 to 27 or 29.
     Refused(u8),
 }
 
@@ -121,5 +130,15 @@ pub fn replan(file: &[u8], current: &[u8], minute: u32, goal: u64, out: &mut [u8
     let (file, length, plan, bytes) = (file.as_ptr(), file.len(), current.as_ptr(), current.len());
     let (out, room) = (out.as_mut_ptr(), out.len());
     let answer = unsafe { exported::ruhkevois_replan(file, length, plan, bytes, minute, goal, out, room, lent) };
+    unpack(answer, peaks)
+}
+
+/// How the day of a plan for the job of a file went, where its steps took these lengths, a byte for each step.
+pub fn true_day(file: &[u8], plan: &[u8], lengths: &[u8]) -> Answer {
+    let mut peaks = [0; POOLS];
+    let lent = peaks.as_mut_ptr();
+    let (file, length, plan, bytes) = (file.as_ptr(), file.len(), plan.as_ptr(), plan.len());
+    let (lengths, count) = (lengths.as_ptr(), lengths.len());
+    let answer = unsafe { exported::ruhkevois_true_day(file, length, plan, bytes, lengths, count, lent) };
     unpack(answer, peaks)
 }

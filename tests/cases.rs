@@ -75,23 +75,27 @@ fn action(r: &mut Random, job: &Job, size: &Size) -> Action {
     }
 }
 
-/// Four entries, or five with handovers of up to 3 minutes or up to 30, now and then none.
+/// Handovers of up to 3 minutes or up to 30, now and then none; of a file with five entries or six.
 fn handovers(r: &mut Random, job: &mut Job) {
-    if r.one_in(2) {
-        return;
-    }
-    job.form = Form::Five;
     let most = [0, 3, 3, 3, 3, 30][r.below(6) as usize];
     job.handovers[..job.pools].fill_with(|| r.below(most + 1) as u8);
+}
+
+/// A shortest length for each action: the longest, 1, or anything between; of a file with six entries.
+fn shortest_lengths(r: &mut Random, job: &mut Job) {
+    for (shortest, action) in job.shortest.iter_mut().zip(&job.actions) {
+        let longest = action.duration;
+        *shortest = [longest, 1, 1 + r.below(longest as u64) as u8][r.below(3) as usize];
+    }
 }
 
 pub fn job(r: &mut Random, size: &Size) -> Job {
     let facts = if r.one_in(20) { 0 } else { 1 + r.below(size.facts) };
     let (pools, stores) = (r.below(5) as usize, r.below(5) as usize);
-    let shortest = if r.one_in(4) { 0 } else { size.deadline * 3 / 4 };
-    let deadline = shortest + r.below(size.deadline - shortest + 1);
+    let least = if r.one_in(4) { 0 } else { size.deadline * 3 / 4 };
+    let deadline = least + r.below(size.deadline - least + 1);
     let mut job = Job {
-        form: Form::Four,
+        form: [Form::Four, Form::Five, Form::Six][r.below(3) as usize],
         facts: facts as u8,
         deadline: deadline as u16,
         start: r.set(facts, size.set),
@@ -102,10 +106,12 @@ pub fn job(r: &mut Random, size: &Size) -> Job {
         store: r.amounts(stores, size.store),
         actions: Vec::new(),
         handovers: [0; 4],
+        shortest: [1; 64],
     };
     handovers(r, &mut job);
     let count = if r.one_in(20) { 0 } else { 1 + r.below(size.actions) };
     job.actions = (0..count).map(|_| action(r, &job, size)).collect();
+    shortest_lengths(r, &mut job);
     if !r.one_in(8) {
         within_available(&mut job);
     }
@@ -136,6 +142,7 @@ pub fn errands(r: &mut Random) -> Job {
         let (pools, stores) = (r.amounts(job.pools, 3), r.amounts(job.stores, 2));
         job.actions.push(Action { duration: 1 + r.below(3) as u8, needs, adds: 1 << n, deletes, pools, stores });
     }
+    shortest_lengths(r, &mut job);
     if r.one_in(4) {
         job.goal &= r.next();
     }
@@ -169,9 +176,8 @@ pub fn file(job: &Job) -> Vec<u8> {
         actions.extend(amounts(&a.stores[..job.stores]));
     }
     let mut bodies = vec![head, amounts(&job.pool[..job.pools]), amounts(&job.store[..job.stores]), actions];
-    if job.form == Form::Five {
-        bodies.push(job.handovers[..job.pools].to_vec());
-    }
+    bodies.extend([job.handovers[..job.pools].to_vec(), job.shortest[..job.actions.len()].to_vec()]);
+    bodies.truncate(job.form.entries());
     let sizes: Vec<usize> = bodies.iter().map(Vec::len).collect();
     [contents(&sizes), bodies.concat()].concat()
 }
@@ -195,7 +201,7 @@ pub fn contents(sizes: &[usize]) -> Vec<u8> {
     bytes
 }
 
-/// A job at a limit or beyond it, for each of the refusals 4 to 11 and 27.
+/// A job at a limit or beyond it, for each of the refusals 4 to 11, 27 and 29.
 pub fn at_a_limit(r: &mut Random, mut job: Job) -> Job {
     if job.actions.is_empty() {
         job.actions.push(Action { duration: 255, ..Action::default() });
@@ -205,7 +211,7 @@ pub fn at_a_limit(r: &mut Random, mut job: Job) -> Job {
     let foreign = 1 << (job.facts as u64 + over).saturating_sub(1).min(63);
     let one = r.below(job.actions.len() as u64) as usize;
     let action = &mut job.actions[one];
-    match r.below(9) {
+    match r.below(10) {
         0 => job.facts = 64 + over as u8,
         1 => job.deadline = 1440 + over as u16,
         2 => *if r.one_in(2) { &mut job.start } else { &mut job.goal } |= foreign,
@@ -216,8 +222,12 @@ pub fn at_a_limit(r: &mut Random, mut job: Job) -> Job {
         6 if job.pools > 0 => action.pools[job.pools - 1] = amount,
         6 if job.stores > 0 => action.stores[job.stores - 1] = amount,
         7 if job.pools > 0 => {
-            job.form = Form::Five;
+            job.form = [Form::Five, Form::Six][r.below(2) as usize];
             job.handovers[r.below(job.pools as u64) as usize] = 30 + over as u8;
+        }
+        8 => {
+            job.form = Form::Six;
+            job.shortest[one] = [0, action.duration.wrapping_add(over as u8)][r.below(2) as usize];
         }
         _ => action.duration = action.duration.wrapping_add(over as u8) & 1,
     }
@@ -225,7 +235,7 @@ pub fn at_a_limit(r: &mut Random, mut job: Job) -> Job {
 }
 
 /// A file with something wrong, often: cut, lengthened, or with changed bytes, in the contents or anywhere; or with the
-/// first offset of the other form.
+/// first offset of any form.
 pub fn damage(r: &mut Random, mut file: Vec<u8>) -> Vec<u8> {
     let contents = 4 * plain::form_of(&file).entries() as u64;
     match r.below(8) {
@@ -236,9 +246,9 @@ pub fn damage(r: &mut Random, mut file: Vec<u8>) -> Vec<u8> {
             let at = r.below(contents.min(file.len() as u64)) as usize;
             file[at] = file[at].wrapping_add(r.below(9) as u8).wrapping_sub(4);
         }
-        4 => file[0] = if contents == 20 { 16 } else { 20 },
+        4 => file[0] = [16, 20, 24][r.below(3) as usize],
         5 => {
-            file.truncate(12 + r.below(12) as usize);
+            file.truncate(12 + r.below(16) as usize);
             file[1] = r.one_in(4) as u8;
         }
         _ => {
@@ -252,13 +262,13 @@ pub fn damage(r: &mut Random, mut file: Vec<u8>) -> Vec<u8> {
 }
 
 /// The contents say other lengths, which still fit the file: bodies that no job has. The file has as many entries as
-/// before, or one more or fewer; that one's bytes belong to the actions.
+/// before, or more or fewer; the actions get as many bytes as bodies that are lost had.
 pub fn resize_bodies(r: &mut Random, file: Vec<u8>) -> Vec<u8> {
     let (mut sizes, bytes) = parts(&file);
-    if r.one_in(4) {
-        sizes.resize(5, 0);
-    } else if r.one_in(8) {
-        sizes = vec![sizes[0], sizes[1], sizes[2], sizes[3..].iter().sum()];
+    if r.one_in(2) {
+        let entries = 4 + r.below(3) as usize;
+        sizes[3] += sizes.iter().skip(entries).sum::<usize>();
+        sizes.resize(entries, 0);
     }
     let (from, to) = (r.below(sizes.len() as u64) as usize, r.below(sizes.len() as u64) as usize);
     let moved = sizes[from].min(r.below(9) as usize);
@@ -282,12 +292,17 @@ pub fn any_bytes(r: &mut Random, length: usize) -> Vec<u8> {
     bytes
 }
 
-/// A file with five entries, the last for a body of any few bytes.
-pub fn with_fifth_body(r: &mut Random, job: &Job) -> Vec<u8> {
-    let (mut sizes, bytes) = parts(&file(&Job { form: Form::Four, ..copy(job) }));
-    let fifth: Vec<u8> = (0..r.below(7)).map(|_| r.below(32) as u8).collect();
-    sizes.push(fifth.len());
-    [contents(&sizes), bytes, fifth].concat()
+/// A file with five entries or six: bodies behind the actions with as many bytes as they should have, about as many, or
+/// few.
+pub fn with_bodies_behind(r: &mut Random, job: &Job) -> Vec<u8> {
+    let (mut sizes, mut bytes) = parts(&file(&Job { form: Form::Four, ..copy(job) }));
+    for right in [job.pools, job.actions.len()].into_iter().take(1 + r.below(2) as usize) {
+        let about = (right + r.below(3) as usize).saturating_sub(1);
+        let size = [right, about, r.below(7) as usize][r.below(3) as usize];
+        sizes.push(size);
+        bytes.extend((0..size).map(|_| r.below(32) as u8));
+    }
+    [contents(&sizes), bytes].concat()
 }
 
 fn bytes_of(steps: &[(u16, u8)]) -> Vec<u8> {

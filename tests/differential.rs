@@ -1,5 +1,6 @@
-//! Compares the calls with an independent implementation in plain Rust, on random jobs, files, sets, plans, rates and
-//! begun days, through the C interface. Before those it goes through files of either form one by one, as seed 0.
+//! Compares the calls with an independent implementation in plain Rust, on random jobs, files, sets, plans, rates,
+//! begun days and true lengths, through the C interface. Before those it goes through files of each form and through
+//! true lengths one by one, as seed 0.
 //! A difference prints the seed of its case and ends with status 1. Arguments: number of cases, first seed.
 mod cases;
 mod forms;
@@ -9,11 +10,13 @@ mod handovers;
 mod plain;
 mod plain_price;
 mod plain_replan;
+mod plain_true_day;
 mod replans;
 #[allow(dead_code)]
 #[path = "../examples/ruhkevois.rs"]
 mod ruhkevois;
 mod simple_planner;
+mod true_days;
 use cases::Random;
 use plain::Job;
 use plain_price::Rates;
@@ -39,7 +42,7 @@ fn expected(end: Result<u64, u64>) -> u64 {
 
 /// What was seen: refusals by number (0: done), prices by their bits, accepted plans and planned ones by their steps,
 /// days by the number of pools that are in use at some minute, days with a pool of which all is in use, what handovers
-/// changed, and replans.
+/// changed, replans, and true days.
 struct Seen {
     refusals: [u64; 36],
     prices: [u64; 65],
@@ -49,6 +52,7 @@ struct Seen {
     full: u64,
     handovers: handovers::Seen,
     replans: replans::Seen,
+    true_days: true_days::Seen,
 }
 
 /// A slice lent for a plan, between other bytes, and an array lent for the peaks, between other numbers.
@@ -99,17 +103,24 @@ impl Case<'_> {
         }
     }
 
-    /// The array lent for the peaks: those of the plan for this job, or what it held before where there is no day.
-    fn same_peaks(&mut self, what: &str, got: [u32; 6], job: Option<&Job>, plan: &[u8]) {
+    /// The array lent for the peaks: these, or what it held before where there is no day.
+    fn same_array(&self, what: &str, got: [u32; 6], peaks: Option<[u32; 4]>) {
         let mut want = BEFORE;
-        if let Some(job) = job {
-            let peaks = plain::peaks(job, plan);
+        if let Some(peaks) = peaks {
             want[1..5].copy_from_slice(&peaks);
-            self.seen.pools[peaks.iter().filter(|&&peak| peak > 0).count()] += 1;
-            self.seen.full += (0..4).any(|k| 0 < peaks[k] && peaks[k] == job.pool[k]) as u64;
         }
         if got != want {
             self.differs(what, format!("got {got:?}, expected {want:?}"));
+        }
+    }
+
+    /// The same for the peaks of the plan for this job, if there is a day.
+    fn same_peaks(&mut self, what: &str, got: [u32; 6], job: Option<&Job>, plan: &[u8]) {
+        let peaks = job.map(|job| plain::peaks(job, plan));
+        self.same_array(what, got, peaks);
+        if let (Some(job), Some(peaks)) = (job, peaks) {
+            self.seen.pools[peaks.iter().filter(|&&peak| peak > 0).count()] += 1;
+            self.seen.full += (0..4).any(|k| 0 < peaks[k] && peaks[k] == job.pool[k]) as u64;
         }
     }
 
@@ -240,20 +251,24 @@ fn every_call(case: &mut Case, r: &mut Random, file: &[u8], is_small: bool) {
     let plan = job.as_ref().map_or(vec![0; 3], |job| cases::any_plan(r, job));
     case.check(file, &job, &plan);
     case.prices(r, file, &job, &plan);
+    case.true_days(r, file, &job, &plan);
     if is_small || job.is_err() {
         let room = if r.one_in(8) { r.below(96) } else { 96 + r.below(20) };
         let planned = case.plan(r, file, &job, room as usize);
         if let Some(plan) = &planned {
             case.check(file, &job, plan);
             case.prices(r, file, &job, plan);
-            case.check(file, &job, &cases::damage_plan(r, plan.clone()));
+            case.true_days(r, file, &job, plan);
+            let damaged = cases::damage_plan(r, plan.clone());
+            case.check(file, &job, &damaged);
+            case.true_days(r, file, &job, &damaged);
         }
         replans::small_days(case, r, file, &job, planned);
     }
 }
 
-/// A plan made step by step, with the facts at its end as the goal: accepted, priced, and replanned when the day is
-/// over; then damaged.
+/// A plan made step by step, with the facts at its end as the goal: accepted, priced, run with true lengths, and
+/// replanned when the day is over; then damaged.
 fn grown_plans(case: &mut Case, r: &mut Random, job: Job) {
     let mut job = if r.one_in(2) { cases::dear(r, job) } else { job };
     let (plan, held) = cases::grown_plan(r, &job);
@@ -264,9 +279,11 @@ fn grown_plans(case: &mut Case, r: &mut Random, job: Job) {
     replans::over_days(case, r, &file, &job, &plan, held);
     for _ in 0..4 {
         case.prices(r, &file, &job, &plan);
+        case.true_days(r, &file, &job, &plan);
         let damaged = cases::damage_plan(r, plan.clone());
         case.check(&file, &job, &damaged);
         case.prices(r, &file, &job, &damaged);
+        case.true_days(r, &file, &job, &damaged);
     }
 }
 
@@ -274,7 +291,7 @@ fn grown_plans(case: &mut Case, r: &mut Random, job: Job) {
 fn some_file(r: &mut Random, kind: u64, job: Job) -> Vec<u8> {
     match kind {
         0 => cases::damage(r, cases::file(&job)),
-        1 if r.one_in(3) => cases::with_fifth_body(r, &job),
+        1 if r.one_in(3) => cases::with_bodies_behind(r, &job),
         1 => cases::resize_bodies(r, cases::file(&job)),
         2 => cases::file(&(0..=r.below(3)).fold(job, |job, _| cases::at_a_limit(r, job))),
         3 => {
@@ -325,7 +342,7 @@ const ALL_SEEN: u64 = 50_000;
 
 /// The numbers of the table that were never told.
 fn never_told(refusals: &[u64]) -> Vec<usize> {
-    (1..=27).chain([35]).filter(|&number| refusals[number] == 0).collect()
+    (1..=27).chain([29, 30, 35]).filter(|&number| refusals[number] == 0).collect()
 }
 
 fn main() {
@@ -340,10 +357,12 @@ fn main() {
         full: 0,
         handovers: handovers::Seen::default(),
         replans: replans::Seen::none(),
+        true_days: true_days::Seen::default(),
     };
     for (place, file) in forms::every_file().iter().enumerate() {
         every_call(&mut Case { seed: 0, seen: &mut seen }, &mut Random::new(place as u64), file, false);
     }
+    true_days::one_by_one(&mut Case { seed: 0, seen: &mut seen });
     for seed in first..first + count {
         one_case(&mut Case { seed, seen: &mut seen });
     }
@@ -354,6 +373,7 @@ fn main() {
     println!("days, by pools in use: {}; all of a pool x {}", counts(&seen.pools), seen.full);
     seen.handovers.print();
     seen.replans.print();
+    seen.true_days.print();
     let never = never_told(&seen.refusals);
     assert!(count < ALL_SEEN || never.is_empty(), "in {count} cases none was refused by {never:?}");
     println!("{count} cases from seed {first}: {} answers, all the same", seen.refusals.iter().sum::<u64>());

@@ -1,13 +1,17 @@
-//! Files of either form, gone through one by one: every length, every byte of the contents, every handover, and bodies
-//! of other lengths behind contents that say so.
+//! Files of each form, gone through one by one: every length, every byte of the contents, every handover, every
+//! shortest length, and bodies of other lengths behind contents that say so.
 use crate::cases::{self, Random};
 use crate::plain::{self, Form, Job};
 
-/// A small job with so many pools, in five entries.
+/// A small job with so many pools, in six entries.
 fn job_with(pools: usize) -> Job {
     let mut jobs = (0..).map(|seed| cases::errands(&mut Random::new(seed)));
     let accepted = |job: &Job| job.pools == pools && plain::read(&cases::file(job)).is_ok();
-    Job { form: Form::Five, ..jobs.find(accepted).expect("a job") }
+    in_form(&jobs.find(accepted).expect("a job"), Form::Six)
+}
+
+fn in_form(job: &Job, form: Form) -> Job {
+    Job { form, ..cases::copy(job) }
 }
 
 /// The file cut to each length, and with some bytes more.
@@ -25,7 +29,7 @@ fn contents(file: &[u8]) -> Vec<Vec<u8>> {
             let mut changed = file.to_vec();
             changed[at] = other;
             files.push(changed.clone());
-            files.extend((16..24).map(|length| changed[..length].to_vec()));
+            files.extend((16..28).map(|length| changed[..length].to_vec()));
         }
     }
     files
@@ -48,11 +52,26 @@ fn bodies(file: &[u8]) -> Vec<Vec<u8>> {
     files
 }
 
-/// The file with fifth bodies of each length up to 8, of zeros.
-fn fifth_bodies(job: &Job) -> Vec<Vec<u8>> {
-    let (sizes, bytes) = cases::parts(&cases::file(&Job { form: Form::Four, ..cases::copy(job) }));
-    let with = |length: usize| [cases::contents(&[&sizes[..], &[length]].concat()), bytes.clone(), vec![0; length]];
-    (0..=8).map(|length| with(length).concat()).collect()
+/// The file with a body more, of each length up to this one and of bytes that are 1: the fifth, or the sixth.
+fn with_another_body(job: &Job, most: usize) -> Vec<Vec<u8>> {
+    let (sizes, bytes) = cases::parts(&cases::file(job));
+    let with = |length: usize| [cases::contents(&[&sizes[..], &[length]].concat()), bytes.clone(), vec![1; length]];
+    (0..=most).map(|length| with(length).concat()).collect()
+}
+
+/// The file with each shortest length of each action, which is as long as it was or as can be.
+fn shortest_lengths(job: &Job) -> Vec<Vec<u8>> {
+    let mut files = Vec::new();
+    for n in 0..job.actions.len() {
+        for longest in [job.actions[n].duration, 255] {
+            for minutes in 0..=255 {
+                let mut other = cases::copy(job);
+                (other.actions[n].duration, other.shortest[n]) = (longest, minutes);
+                files.push(cases::file(&other));
+            }
+        }
+    }
+    files
 }
 
 /// The file with each handover of each pool.
@@ -68,18 +87,21 @@ fn handovers(job: &Job) -> Vec<Vec<u8>> {
     files
 }
 
-/// Files about jobs with each number of pools, in both forms.
+/// Files about jobs with each number of pools, in each form.
 pub fn every_file() -> Vec<Vec<u8>> {
     let mut files = Vec::new();
     for job in (0..=4).map(job_with) {
-        for form in [Form::Four, Form::Five] {
-            let file = cases::file(&Job { form, ..cases::copy(&job) });
+        for form in [Form::Four, Form::Five, Form::Six] {
+            let file = cases::file(&in_form(&job, form));
             files.extend(lengths(&file));
             files.extend(contents(&file));
             files.extend(bodies(&file));
         }
-        files.extend(fifth_bodies(&job));
+        files.extend(with_another_body(&in_form(&job, Form::Four), 8));
+        files.extend(with_another_body(&in_form(&job, Form::Five), 70));
+        files.extend(handovers(&in_form(&job, Form::Five)));
         files.extend(handovers(&job));
+        files.extend(shortest_lengths(&job));
     }
     files
 }

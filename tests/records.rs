@@ -21,7 +21,8 @@ struct Job {
     sets: [u64; 2], // start, goal
     amounts: [Vec<u64>; 2], // pools, stores
     actions: Vec<Action>,
-    handovers: Option<Vec<u64>>, // the bytes of the fifth body, where the file has five entries
+    handovers: Option<Vec<u64>>, // the bytes of the fifth body, where they are named
+    shortest: Option<Vec<u64>>, // the bytes of the sixth body, where the file has six entries
     bodies: Option<Vec<u64>>, // the lengths of bodies of zeros, which take the place of all that
     damage: Vec<String>, // changes to the bytes
 }
@@ -83,8 +84,18 @@ fn count(text: &str, n: u64) -> Result<u64, Fault> {
     u64::try_from(number(text, n)?).or(fault("not a count", text))
 }
 
+// Numbers, of which 1 to 64 stands for all from 1 on.
 fn counts(text: &str) -> Result<Vec<u64>, Fault> {
-    words(text).iter().map(|word| count(word, 0)).collect()
+    let mut counts = vec![];
+    let words = words(text);
+    let mut at = 0;
+    while at < words.len() {
+        let last = if words.get(at + 1).is_some_and(|word| word == "to") { at + 2 } else { at };
+        let to = words.get(last).ok_or(format!("a number is missing: '{text}'"))?;
+        counts.extend(count(&words[at], 0)?..=count(to, 0)?);
+        at = last + 1;
+    }
+    Ok(counts)
 }
 
 // A set: facts and ranges of facts in braces, or a number with a bit for each fact. A fact that is reckoned with n, and
@@ -180,6 +191,7 @@ fn change(job: &mut Job, text: &str, names: &Names) -> Result<(), Fault> {
         "store" => change_amounts(&mut job.amounts[1], rest)?,
         "action" | "actions" | "every" => change_actions(job, word, rest)?,
         "handovers" => job.handovers = Some(counts(rest)?),
+        "shortest" => job.shortest = Some(counts(rest)?),
         "bodies" => job.bodies = Some(counts(rest)?),
         "byte" | "cut" | "add" => job.damage.push(text.to_string()),
         _ => return fault("neither a name nor a change", text),
@@ -196,7 +208,8 @@ fn amount_bytes(amounts: &[u64], count: usize) -> Vec<u8> {
     (0..count).flat_map(|k| bytes_of(amounts.get(k).copied().unwrap_or(0), 4)).collect()
 }
 
-// The bodies of a job's file: four, or five with the handovers.
+// The bodies of a job's file: four, five with the handovers, or six with these, 0 where none are named, and the
+// shortest lengths.
 fn bodies(job: &Job) -> Vec<Vec<u8>> {
     if let Some(lengths) = &job.bodies {
         return lengths.iter().map(|length| vec![0; *length as usize]).collect();
@@ -211,8 +224,10 @@ fn bodies(job: &Job) -> Vec<Vec<u8>> {
     let sets = job.sets.iter().flat_map(|set| bytes_of(*set, 8));
     let head = bytes_of(job.facts, 1).into_iter().chain(bytes_of(job.deadline, 2)).chain(sets).collect();
     let amounts = [0, 1].map(|k| amount_bytes(&job.amounts[k], counts[k]));
-    let handovers = job.handovers.iter().map(|bytes| bytes.iter().map(|byte| *byte as u8).collect());
-    [head].into_iter().chain(amounts).chain([actions]).chain(handovers).collect()
+    let none = job.shortest.as_ref().map(|_| vec![0; counts[0]]);
+    let minutes = [job.handovers.clone().or(none), job.shortest.clone()];
+    let behind = minutes.into_iter().flatten().map(|minutes| minutes.iter().map(|byte| *byte as u8).collect());
+    [head].into_iter().chain(amounts).chain([actions]).chain(behind).collect()
 }
 
 // A change to the bytes: byte K = X, byte K + X, byte K - X, cut to N, add N bytes.
@@ -346,6 +361,25 @@ fn replanned(record: &mut Record, text: &str) -> Result<(), Fault> {
     Ok(())
 }
 
+// A plan with true lengths, which go before it behind their number.
+fn true_day(record: &mut Record, text: &str) -> Result<(), Fault> {
+    let mut lengths = None;
+    let mut rest = vec![];
+    for part in text.split(';').map(str::trim) {
+        let (word, values) = part.split_once(' ').unwrap_or((part, ""));
+        if word == "lengths" {
+            lengths = Some(counts(values)?);
+        } else {
+            rest.push(part);
+        }
+    }
+    plan(record, &rest.join(";"))?;
+    let (Some(lengths), b't') = (lengths, record.call) else { return fault("no lengths, or a goal set", text) };
+    let bytes = [lengths.len() as u64].into_iter().chain(lengths).flat_map(|x| bytes_of(x, 1));
+    record.input = bytes.chain(record.input.clone()).collect();
+    Ok(())
+}
+
 // A row of a table: its call and title, the job, what else the call is given, and the answer.
 fn row(line: &str, names: &Names) -> Result<(Record, String), Fault> {
     let columns: Vec<&str> = line.split('|').map(str::trim).collect();
@@ -353,9 +387,8 @@ fn row(line: &str, names: &Names) -> Result<(Record, String), Fault> {
     let mut record = Record { title: title.trim().to_string(), ..Record::default() };
     let (job, input, answer) = match (call, columns[1..].to_vec().as_slice()) {
         ("read", [job, answer]) => (*job, "", *answer),
-        ("rewrite" | "bytes" | "check" | "price" | "earliest" | "plan" | "replan", [job, input, answer]) => {
-            (*job, *input, *answer)
-        }
+        ("rewrite" | "bytes" | "check" | "price", [job, input, answer]) => (*job, *input, *answer),
+        ("earliest" | "plan" | "replan" | "true_day", [job, input, answer]) => (*job, *input, *answer),
         _ => return fault("not a row of a table", line),
     };
     record.call = call.as_bytes()[0];
@@ -364,6 +397,7 @@ fn row(line: &str, names: &Names) -> Result<(Record, String), Fault> {
         "check" => plan(&mut record, input)?,
         "price" => priced(&mut record, input)?,
         "replan" => replanned(&mut record, input)?,
+        "true_day" => true_day(&mut record, input)?,
         "earliest" => record.set = set(input, 0)?,
         "rewrite" | "plan" => record.room = count(input.strip_prefix("slice of ").unwrap_or(input), 0)?,
         "bytes" => {
