@@ -78,10 +78,12 @@ returns c =
     let c-pre = c .before .before .before .before .before .pre in
     let a = c-args in
     let l = c .before .before .loop in
-    let e : l .i ≡ a .t1 .length = omega arith in
-    (refl, refl,
-    tabulate-same _ _ _ (λ k h. l .inv .2 k (omega arith))
-    ∙ sym (with-lengths-by-place (a .t1 .length) (stepAt (a .t1)) (a .lengths .now) (sym (c-pre .1))))
+    let e : l .i ≡ a .t1 .length = omega arith in (
+      refl,
+      refl,
+      tabulate-same _ _ _ (λ k h. l .inv .2 k (omega arith))
+          ∙ sym (with-lengths-by-place (a .t1 .length) (stepAt (a .t1)) (a .lengths .now) (sym (c-pre .1))),
+    )
 
 pub with-lengths-spec : {M : Type 1} → statement M
 with-lengths-spec =
