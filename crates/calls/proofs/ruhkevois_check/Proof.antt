@@ -22,10 +22,9 @@ refused-requires c κs = search needs
 returns : tie.Need-returns
 returns c =
     let c-read = c .before .before .before .before .read in
-    let c-verdict = c .before .before .verdict in (
-      c .refused .ensures ∙ file-refused _ _ (c-read .ensures .answers) _ (c-verdict .given .1) _,
-      peaks-kept _ _ (c-read .ensures .answers) _ (c-verdict .given .1) _ _,
-    )
+    let read = c-read .ensures .answers in
+    let why = c .before .before .verdict .given .1 in
+    (c .refused .ensures ∙ file-refused _ _ read _ why _, peaks-kept _ _ read _ why _ _)
 
 enum-told : tie.Need-enum-told
 enum-told c = search needs
@@ -41,16 +40,17 @@ day-told-requires c κs = search needs
 
 returns-2 : tie.Need-returns-2
 returns-2 c =
-    let c-args = c .before .before .before .before .before .before .before .before .args in
+    let at8 = c .before .before .before .before .before .before .before .before in
+    let c-args = at8 .before .args in
     let c-read = c .before .before .before .before .before .before .read in
     let c-enum-told = c .before .before .before .before .enum-told in
     let c-check = c .before .before .before .check in
+    let read = c-read .ensures .answers in
+    let pass = c-enum-told .given .1 in
+    let told = c-check .ensures .answers in
     let said : Job → Day = λ J. checkPlan J (c-args .plan .now) in (
-      c .day-told .ensures
-          ∙ number-accepted _ _ (c-read .ensures .answers) (c-enum-told .given .1) said checkedNumber _
-          (c-check .ensures .answers),
-      peaks-told _ _ (c-read .ensures .answers) (c-enum-told .given .1) said _ _ _ (c-check .ensures .answers)
-          (c .before .put-peaks .ensures),
+      c .day-told .ensures ∙ number-accepted _ _ read pass said checkedNumber _ told,
+      peaks-told _ _ read pass said _ _ _ told (c .before .put-peaks .ensures),
     )
 
 pub ruhkevois-check-spec : {M : Type 1} → statement M

@@ -36,9 +36,11 @@ price-told-requires c κs = search needs
 
 returns-2 : tie.Need-returns-2
 returns-2 c =
+    let at8 = c .before .before .before .before .before .before .before .before in
+    let c-args = at8 .before .args in
     let c-read = c .before .before .before .before .before .before .read in
     let c-enum-told = c .before .before .before .before .enum-told in
-    let a = c .before .before .before .before .before .before .before .before .args in
+    let a = c-args in
     let rates = ratesIn (a .pools .now) (a .stores .now) (a .evening) in
     let said : Job → Priced = λ J. pricePlan J rates (a .plan .now) in
     c .price-told .ensures

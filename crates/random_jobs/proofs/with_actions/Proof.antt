@@ -26,11 +26,23 @@ part-requires c κs = search needs
 action-requires : tie.Need-action-requires Inv-loop μ-loop
 action-requires c κs = search needs
 
-mul-t12 : tie.Need-mul-t12 Inv-loop μ-loop
-mul-t12 c = search needs
+mul-action : tie.Need-mul-action Inv-loop μ-loop
+mul-action c = search needs
 
-element-set-from-job : tie.Need-element-set-from-job Inv-loop μ-loop
-element-set-from-job c = search needs
+element-set-from-action : tie.Need-element-set-from-action Inv-loop μ-loop
+element-set-from-action c = search needs
+
+add-part-2 : tie.Need-add-part-2 Inv-loop μ-loop
+add-part-2 c = search needs
+
+part-requires-2 : tie.Need-part-requires-2 Inv-loop μ-loop
+part-requires-2 c κs = search needs
+
+shortest-requires : tie.Need-shortest-requires Inv-loop μ-loop
+shortest-requires c κs = search needs
+
+element-write-job : tie.Need-element-write-job Inv-loop μ-loop
+element-write-job c = search needs
 
 add-i : tie.Need-add-i Inv-loop μ-loop
 add-i c = search needs
@@ -55,8 +67,12 @@ with-actions-spec =
     add-part
     part-requires
     action-requires
-    mul-t12
-    element-set-from-job
+    mul-action
+    element-set-from-action
+    add-part-2
+    part-requires-2
+    shortest-requires
+    element-write-job
     add-i
     loop-less
     loop-again
