@@ -11,12 +11,13 @@ fn count_in(given: &[u8]) -> usize {
     if given.len() < COUNT {
         return 0;
     }
-    given[0] as usize
+    encoding::read_number(given, 0, COUNT) as usize
 }
 
 pub fn print(job: Job, given: &[u8]) {
     let count = count_in(given);
-    let lengths = front(rest(given, COUNT), count);
-    let plan = rest(given, COUNT + count);
+    let behind = rest(given, COUNT);
+    let lengths = front(behind, count);
+    let plan = rest(behind, count);
     print_run(job, true_day::true_day(job, plan, lengths));
 }
