@@ -24,6 +24,8 @@ otherwise J deadline goal stores =
       start = J .start;
       goal = goal;
       form = J .form;
+      rule = J .rule;
+      reserve = J .reserve;
       pools = J .pools;
       handovers = J .handovers;
       stores = stores;
@@ -56,6 +58,8 @@ module _ (day : value.Job) (M : ℕ) (K : List Step) (start : ℕ) (stores : Lis
         start = facts;
         goal = day .goal;
         form = day .form;
+        rule = day .rule;
+        reserve = jobIn day .reserve;
         pools = jobIn day .pools;
         handovers = jobIn day .handovers;
         stores = [];

@@ -115,7 +115,7 @@ fn used_up(plan: Plan, job: Job, store: usize) -> u64
     while i < plan.length {
         let step = plan.steps[i];
         let amounts = job::resources::charged(job, step.action);
-        sum += job::wide(amounts[store]);
+        sum += amounts[store];
         i += 1;
     }
     sum

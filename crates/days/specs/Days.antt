@@ -8,6 +8,7 @@ use Rattle.encoding.specs.Bytes.{toBytes}
 use Rattle.job.specs.Job.{Action, Job}
 use Rattle.job.specs.Refusal.{number, Reply, refused, returned}
 use Rattle.job.specs.declared.Form.the-variants.{Four}
+use Rattle.job.specs.declared.StoreRule.the-variants.{PerStep}
 use Rattle.job.specs.declared.refusal.Refusal.the-variants.{NoPlan}
 use Rattle.timeline.specs.Day.{Told, dayReply}
 use Rattle.checker.specs.Check.{checkPlan}
@@ -26,6 +27,8 @@ job1 =
       start = 0;
       goal = 0;
       form = Four;
+      rule = PerStep;
+      reserve = 0;
       pools = [];
       handovers = [];
       stores = [];
@@ -48,6 +51,8 @@ job2 deadline =
       start = 3;
       goal = 24;
       form = Four;
+      rule = PerStep;
+      reserve = 0;
       pools = [];
       handovers = [];
       stores = [];
@@ -65,6 +70,8 @@ twoActions deadline pools stores poolUses storeUses =
       start = 0;
       goal = 3;
       form = Four;
+      rule = PerStep;
+      reserve = 0;
       pools = pools;
       handovers = [];
       stores = stores;
@@ -93,6 +100,8 @@ job6 =
       start = 1;
       goal = 3;
       form = Four;
+      rule = PerStep;
+      reserve = 0;
       pools = [];
       handovers = [];
       stores = [];

@@ -1,11 +1,12 @@
 -- Laws of parts of a list of bytes.
 -- Assumes nothing.
 use Prim.Native.Nat.{ℕ, zero, suc, _+_, _-_, _≤_, _<_}
-use mathlib.Core.Path.{_≡_, ap, sym, _∙_}
+use mathlib.Core.Path.{_≡_, refl, ap, sym, _∙_}
 use mathlib.Core.List.{List, [], _∷_, _++_}
 use native.Mathlib.Omega.{arith}
 use lib.ListN.{length, getD, take, drop, length-take, length-drop}
 use lib.Seq.{take-take, drop-drop, take-add, take-at, drop-at, getD-drop}
+use Rattle.lists.proofs.Bools.{absurd}
 use Rattle.encoding.specs.Bytes.{part}
 
 -- each element is a byte
@@ -14,6 +15,14 @@ Bytes bs = (i : ℕ) → getD bs i 0 < 256
 
 pub length-part : (bs : List ℕ) (at n : ℕ) → at + n ≤ length bs → length (part bs at n) ≡ n
 length-part bs at n h = simp (length-take, length-drop) (omega arith)
+
+pub part-past-end : (bs : List ℕ) (at n : ℕ) → length bs ≤ at → part bs at n ≡ []
+part-past-end [] zero zero l = refl
+part-past-end [] zero (suc n) l = refl
+part-past-end [] (suc at) zero l = refl
+part-past-end [] (suc at) (suc n) l = refl
+part-past-end (b ∷ bs) zero n l = absurd (omega arith)
+part-past-end (b ∷ bs) (suc at) n l = part-past-end bs at n (omega arith)
 
 pub part-bytes : (bs : List ℕ) (at n : ℕ) → Bytes bs → Bytes (part bs at n)
 part-bytes bs at n h i = take-bytes n (drop at bs) (λ j. rw getD-drop (h (at + j))) i

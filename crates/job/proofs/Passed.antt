@@ -1,4 +1,4 @@
--- What a job that passes tests 3 to 11, 27 and 29 is like.
+-- What a job that passes tests 3 to 11, 27, 29 and 31 is like.
 -- Assumes nothing.
 use Prim.Native.Nat.{ℕ, _≤_, _<_}
 use mathlib.Core.Path.{_≡_}
@@ -88,7 +88,8 @@ within-limits J h =
     let t3 = first-pass _ _ _ h in
     let t4 = first-pass _ _ _ (t3 .1) in
     let t5 = first-pass _ _ _ (t4 .1) in
-    let t6 = first-pass _ _ _ (t5 .1) in
+    let t31 = first-pass _ _ _ (t5 .1) in
+    let t6 = first-pass _ _ _ (t31 .1) in
     let t7 = first-pass _ _ _ (t6 .1) in
     let t27 = first-pass _ _ _ (t7 .1) in
     let t8 = first-pass _ _ _ (t27 .1) in
@@ -108,6 +109,7 @@ within-limits J h =
       fewActions = counts .2;
       facts = few;
       deadline = ltb-false 1440 (J .deadline) (t5 .0);
+      reserve = ltb-false 50 (J .reserve) (t31 .0);
       start = within-facts (J .facts) (J .start) few (or-left s g (t6 .0));
       goal = within-facts (J .facts) (J .goal) few (or-right s g (t6 .0));
       pools = available .0;

@@ -11,7 +11,7 @@ use borrow.Author.Tests.{ltb-false}
 use Rattle.facts.specs.FactSet.{foreign}
 use Rattle.job.specs.declared.Job as held
 use Rattle.job.specs.declared.refusal.Refusal.the-variants.{BodySizes, FactCount, Deadline, ForeignFact}
-use Rattle.job.specs.declared.refusal.Refusal.the-variants.{Availability, HandoverOver}
+use Rattle.job.specs.declared.refusal.Refusal.the-variants.{Availability, HandoverOver, ReserveOver}
 use Rattle.job.specs.declared.Counts.{Counts}
 use Rattle.job.specs.Job.{Job, jobIn, Fits}
 use Rattle.job.specs.declared.refusal.Verdict.the-variants.{Pass}
@@ -24,6 +24,7 @@ valueRows j =
     BodySizes when (over 4 (j .counts .pools) || over 4 (j .counts .stores) || over 64 (j .counts .actions))
     ∷ FactCount when over 64 (j .facts)
     ∷ Deadline when over 1440 (j .deadline)
+    ∷ ReserveOver when over 50 (jobIn j .reserve)
     ∷ ForeignFact when (foreign (j .facts) (j .start) || foreign (j .facts) (j .goal))
     ∷ Availability when (any (over 1000000) (jobIn j .pools) || any (over 1000000) (jobIn j .stores))
     ∷ HandoverOver when any (over 30) (jobIn j .handovers)

@@ -14,8 +14,10 @@ use Rattle.job.specs.declared.Action as act
 use Rattle.job.specs.declared.Counts.{Counts}
 use Rattle.job.specs.declared.Form.{Form}
 use Rattle.job.specs.declared.Form.the-variants.{Four, Five, Six}
+use Rattle.job.specs.declared.StoreRule.{StoreRule}
+use Rattle.job.specs.declared.StoreRule.the-variants.{PerStep, PerHour}
 use Rattle.job.specs.declared.Job as held
-use Rattle.job.specs.Job.{Job, entries, handoverCount, shortestCount, actionIn, jobIn}
+use Rattle.job.specs.Job.{Job, entries, handoverCount, shortestCount, headSize, reserveIn, actionIn, jobIn}
 use Rattle.job.proofs.Answers.{equal, _and_, _also_}
 use Rattle.job.proofs.Agree.{same-count}
 
@@ -40,6 +42,15 @@ same-form a b = decides-iff (equal (entries a) (entries b)) (one-form a b) (λ e
     one-form Six Four e = absurd (omega arith)
     one-form Six Five e = absurd (omega arith)
     one-form Six Six e = refl
+
+pub same-rule : (a b : StoreRule) → Decides (eqb (headSize a) (headSize b)) (a ≡ b)
+same-rule a b = decides-iff (equal (headSize a) (headSize b)) (one-rule a b) (λ e. ap headSize e)
+  where
+    one-rule : (a b : StoreRule) → headSize a ≡ headSize b → a ≡ b
+    one-rule PerStep PerStep e = refl
+    one-rule PerStep PerHour e = absurd (omega arith)
+    one-rule PerHour PerStep e = absurd (omega arith)
+    one-rule PerHour PerHour e = refl
 
 -- n amounts of two arrays are the same
 abbrev SameAmounts : ℕ → List ℕ → List ℕ → Type 0
@@ -66,9 +77,9 @@ module _ (n : Counts) (a b : act.Action) {p s : Bool} where
       also (λ i. e i .pools)
       also (λ i. e i .stores))
 
--- the job in j if its form were f and its counts n
-abbrev counted : Form → Counts → held.Job → Job
-counted f n j =
+-- the job in j if its form were f, its rule r and its counts n
+abbrev counted : Form → StoreRule → Counts → held.Job → Job
+counted f r n j =
     jobIn
     record {
       facts = j .facts;
@@ -76,6 +87,8 @@ counted f n j =
       start = j .start;
       goal = j .goal;
       form = f;
+      rule = r;
+      reserve = j .reserve;
       counts = n;
       pools = j .pools;
       handovers = j .handovers;
@@ -92,18 +105,22 @@ counts-of-same a b e =
     let x = same-count _ _ _ _ (λ i. e i .actions) in
     λ i. record { pools = p i; stores = s i; actions = x i }
 
-module _ (a b : held.Job) {f c p w s l x : Bool} where
+module _ (a b : held.Job) {f u c p w s l x : Bool} where
   pub same-job : Decides f (a .form ≡ b .form)
+      → Decides u (a .rule ≡ b .rule)
       → Decides c (a .counts ≡ b .counts)
       → Decides p (SameAmounts (a .counts .pools) (a .pools) (b .pools))
       → Decides w (SameAmounts (handoverCount (a .form) (a .counts .pools)) (a .handovers) (b .handovers))
       → Decides s (SameAmounts (a .counts .stores) (a .stores) (b .stores))
       → Decides l (SameAmounts (shortestCount (a .form) (a .counts .actions)) (a .shortest) (b .shortest))
-      → Decides x (counted (a .form) (a .counts) a .actions ≡ counted (a .form) (a .counts) b .actions)
+      → Decides x
+      (counted (a .form) (a .rule) (a .counts) a .actions ≡ counted (a .form) (a .rule) (a .counts) b .actions)
       → Decides
       (eqb (a .facts) (b .facts) && eqb (a .deadline) (b .deadline) && eqb (a .start) (b .start)
       && eqb (a .goal) (b .goal)
       && f
+      && u
+      && eqb (jobIn a .reserve) (jobIn b .reserve)
       && c
       && p
       && w
@@ -111,11 +128,13 @@ module _ (a b : held.Job) {f c p w s l x : Bool} where
       && l
       && x)
       (jobIn a ≡ jobIn b)
-  same-job form counts pools handovers stores shortest actions =
+  same-job form rule counts pools handovers stores shortest actions =
       decides-iff
       (equal (a .facts) (b .facts) and equal (a .deadline) (b .deadline) and equal (a .start) (b .start)
       and equal (a .goal) (b .goal)
       and form
+      and rule
+      and equal (jobIn a .reserve) (jobIn b .reserve)
       and counts
       and pools
       and handovers
@@ -123,15 +142,28 @@ module _ (a b : held.Job) {f c p w s l x : Bool} where
       and shortest
       and actions)
       (λ h.
-      let e : counted (a .form) (a .counts) a ≡ counted (a .form) (a .counts) b = cc in
-      e ∙ ap₂ (λ (g : Form) (n : Counts). counted g n b) (h .0 .0 .0 .0 .0 .0 .1) (h .0 .0 .0 .0 .0 .1))
+      let f : a .form ≡ b .form = h .0 .0 .0 .0 .0 .0 .0 .0 .1 in
+      let u : a .rule ≡ b .rule = h .0 .0 .0 .0 .0 .0 .0 .1 in
+      let n : a .counts ≡ b .counts = h .0 .0 .0 .0 .0 .1 in
+      let same : b .rule ≡ a .rule = sym u in
+      let reserve : reserveIn (a .rule) (a .reserve) ≡ reserveIn (a .rule) (b .reserve)
+      = h .0 .0 .0 .0 .0 .0 .1 ∙ ap (λ (r : StoreRule). reserveIn r (b .reserve)) same in
+      let e : counted (a .form) (a .rule) (a .counts) a ≡ counted (a .form) (a .rule) (a .counts) b = cc in
+      e
+      ∙ ap (λ (g : Form). counted g (a .rule) (a .counts) b) f
+      ∙ ap₂ (λ (r : StoreRule) (m : Counts). counted (b .form) r m b) u n)
       (λ e.
       let g : a .form ≡ b .form = λ i. e i .form in
+      let u : a .rule ≡ b .rule = λ i. e i .rule in
       let n = counts-of-same a b e in
-      let j : counted (a .form) (a .counts) a ≡ counted (a .form) (a .counts) b =
-      e ∙ ap₂ (λ (g : Form) (m : Counts). counted g m b) (sym g) (sym n) in
+      let j : counted (a .form) (a .rule) (a .counts) a ≡ counted (a .form) (a .rule) (a .counts) b =
+      e
+      ∙ ap₂ (λ (r : StoreRule) (m : Counts). counted (b .form) r m b) (sym u) (sym n)
+      ∙ ap (λ (h : Form). counted h (a .rule) (a .counts) b) (sym g) in
       (λ i. e i .facts) also (λ i. e i .deadline) also (λ i. e i .start) also (λ i. e i .goal)
       also g
+      also u
+      also (λ i. e i .reserve)
       also n
       also (λ i. j i .pools)
       also (λ i. j i .handovers)

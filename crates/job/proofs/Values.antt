@@ -11,9 +11,11 @@ use Rattle.lists.proofs.Tabulate.{length-tabulate, map-tabulate, firsts-filled,
 use Rattle.job.specs.declared.Counts.{Counts}
 use Rattle.job.specs.declared.Form.{Form}
 use Rattle.job.specs.declared.Form.the-variants.{Four, Five, Six}
+use Rattle.job.specs.declared.StoreRule.{StoreRule}
+use Rattle.job.specs.declared.StoreRule.the-variants.{PerStep, PerHour}
 use Rattle.job.specs.declared.Job as held
 use Rattle.job.specs.Job.{Action, Job, handoverCount, shortestCount, beyond, actionIn, actionAt, jobIn}
-use Rattle.job.specs.Job.{unusedAction, actionValue, jobValue}
+use Rattle.job.specs.Job.{unusedAction, actionValue, jobValue, reserveIn}
 
 -- no more handovers than pools
 pub few-handovers : (form : Form) (pools : ℕ) → handoverCount form pools ≤ pools
@@ -33,11 +35,12 @@ pub record Shaped (p s : ℕ) (a : Action) : Type 0 where
   pub stores : length (a .stores) ≡ s
 
 -- each action has a use of each pool and each store of the job, and there are as many handovers and shortest lengths as
--- the form has
+-- the form has; under the old rule there is no reserve
 pub record Shape (J : Job) : Type 0 where
   pub actions : Each (Shaped (length (J .pools)) (length (J .stores))) (J .actions)
   pub handovers : length (J .handovers) ≡ handoverCount (J .form) (length (J .pools))
   pub shortest : length (J .shortest) ≡ shortestCount (J .form) (length (J .actions))
+  pub reserve : reserveIn (J .rule) (J .reserve) ≡ J .reserve
 
 pub job-in-shape : (j : held.Job) → Shape (jobIn j)
 job-in-shape j =
@@ -46,7 +49,12 @@ job-in-shape j =
           (λ i h. record { pools = simp length-tabulate; stores = simp length-tabulate });
       handovers = simp length-tabulate;
       shortest = simp length-tabulate;
+      reserve = reserve-again (j .rule) (j .reserve);
     }
+  where
+    reserve-again : (rule : StoreRule) (held : ℕ) → reserveIn rule (reserveIn rule held) ≡ reserveIn rule held
+    reserve-again PerStep held = refl
+    reserve-again PerHour held = refl
 
 action-of-value : (n : Counts) (a : Action) → Shaped (n .pools) (n .stores) a → actionIn n (actionValue a) ≡ a
 action-of-value n a h =
@@ -74,6 +82,7 @@ counted-again places count xs e =
 pub value-holds-job : (J : Job) → Shape J → jobIn (jobValue J) ≡ J
 value-holds-job J h =
     rw (
+      h .reserve,
       firsts-filled 4 0 0 (J .pools),
       counted-again 4 _ (J .handovers) (h .handovers),
       firsts-filled 4 0 0 (J .stores),

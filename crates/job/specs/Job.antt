@@ -9,6 +9,8 @@ use Rattle.job.specs.declared.Job as held
 use Rattle.job.specs.declared.Counts.{Counts}
 use Rattle.job.specs.declared.Form.{Form}
 use Rattle.job.specs.declared.Form.the-variants.{Four, Five, Six}
+use Rattle.job.specs.declared.StoreRule.{StoreRule}
+use Rattle.job.specs.declared.StoreRule.the-variants.{PerStep, PerHour}
 
 -- "An action has a length of 1 to 255 minutes, a set of needed facts, one of added and one of deleted facts,
 -- and a use of 0 to 1,000,000 of each pool and store." Needed facts are the field's preconditions; a pool is a
@@ -25,13 +27,16 @@ pub record Action : Type 0 where
 -- 0 to 4 pools and 0 to 4 stores, each with an availability of 0 to 1,000,000. It has 0 to 64 actions."
 -- "Each pool gets a handover of 0 to 30 minutes": one for each pool in a form that has them, else none. "The form
 -- belongs to the job." "A sixth body gives one byte of shortest length for each action": one for each action in a form
--- that has them, else none.
+-- that has them, else none. "Which head a job has belongs to the job": the rule by which its stores are used up, and "the
+-- reserve, 0 to 50 percent".
 pub record Job : Type 0 where
   pub facts : ℕ
   pub deadline : ℕ
   pub start : ℕ
   pub goal : ℕ
   pub form : Form
+  pub rule : StoreRule
+  pub reserve : ℕ
   pub pools : List ℕ
   pub handovers : List ℕ
   pub stores : List ℕ
@@ -58,6 +63,16 @@ abbrev pub shortestCount : Form → ℕ → ℕ
 shortestCount Four actions = 0
 shortestCount Five actions = 0
 shortestCount Six actions = actions
+
+-- "A head of 20 bytes marks a job under the new rule"
+abbrev pub headSize : StoreRule → ℕ
+headSize PerStep = 19
+headSize PerHour = 20
+
+-- "A head of 19 bytes keeps the old rule, any reserve in such a job value is ignored"
+abbrev pub reserveIn : StoreRule → ℕ → ℕ
+reserveIn PerStep held = 0
+reserveIn PerHour held = held
 
 -- ── the job in a value: "what is beyond its counts is ignored; two jobs are the same if their counts and all
 -- within them agree"; "what a job value holds beyond its form is ignored, in refusals and when jobs are compared too" ──
@@ -89,6 +104,8 @@ jobIn j =
       start = j .start;
       goal = j .goal;
       form = j .form;
+      rule = j .rule;
+      reserve = reserveIn (j .rule) (j .reserve);
       pools = firsts (j .counts .pools) 0 (j .pools);
       handovers = firsts (handoverCount (j .form) (j .counts .pools)) 0 (j .handovers);
       stores = firsts (j .counts .stores) 0 (j .stores);
@@ -125,6 +142,8 @@ jobValue J =
       start = J .start;
       goal = J .goal;
       form = J .form;
+      rule = J .rule;
+      reserve = J .reserve;
       counts = record { pools = length (J .pools); stores = length (J .stores); actions = length (J .actions) };
       pools = filled 4 0 (J .pools);
       handovers = filled 4 0 (J .handovers);
@@ -143,6 +162,8 @@ zeroValue =
       start = 0;
       goal = 0;
       form = Four;
+      rule = PerStep;
+      reserve = 0;
       pools = [];
       handovers = [];
       stores = [];

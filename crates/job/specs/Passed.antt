@@ -1,4 +1,4 @@
--- What a job that passes tests 3 to 11, 27 and 29 is like.
+-- What a job that passes tests 3 to 11, 27, 29 and 31 is like.
 -- Inner functions and laws alone cite these. Assumes nothing.
 use Prim.Native.Nat.{ℕ, _^_, _≤_, _<_}
 use mathlib.Core.Path.{_≡_}
@@ -29,13 +29,14 @@ pub record PassedAction (facts : ℕ) (a : Action) : Type 0 where
   pub pools : Amounts (a .pools)
   pub stores : Amounts (a .stores)
 
--- a job that passes tests 3 to 11, 27 and 29
+-- a job that passes tests 3 to 11, 27, 29 and 31
 pub record Passed (J : Job) : Type 0 where
   pub fewPools : length (J .pools) ≤ 4
   pub fewStores : length (J .stores) ≤ 4
   pub fewActions : length (J .actions) ≤ 64
   pub facts : J .facts ≤ 64
   pub deadline : J .deadline ≤ 1440
+  pub reserve : J .reserve ≤ 50
   pub start : WithinFacts (J .facts) (J .start)
   pub goal : WithinFacts (J .facts) (J .goal)
   pub pools : Amounts (J .pools)

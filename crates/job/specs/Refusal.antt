@@ -40,6 +40,7 @@ number why.UseBeyond = 26
 number why.HandoverOver = 27
 number why.ShortestLength = 29
 number why.TrueLengths = 30
+number why.ReserveOver = 31
 number why.NoPlanWithKept = 35
 
 -- a row of the table: the refusal, and whether it holds

@@ -1,4 +1,4 @@
--- Tests 3 to 11, 26, 27 and 29 of a job, in the order of the table.
+-- Tests 3 to 11, 26, 27, 29 and 31 of a job, in the order of the table.
 -- Assumes nothing.
 use Prim.Native.Nat.{ℕ}
 use mathlib.Core.Bool.{Bool, _||_}
@@ -10,7 +10,7 @@ use Rattle.facts.specs.FactSet.{meets, foreign}
 use Rattle.job.specs.declared.refusal.Refusal.the-variants.{BodySizes, FactCount, Deadline, ForeignFact}
 use Rattle.job.specs.declared.refusal.Refusal.the-variants.{Availability, ZeroDuration, ForeignActionFact}
 use Rattle.job.specs.declared.refusal.Refusal.the-variants.{AddedAndDeleted, ActionUse, UseBeyond, HandoverOver}
-use Rattle.job.specs.declared.refusal.Refusal.the-variants.{ShortestLength}
+use Rattle.job.specs.declared.refusal.Refusal.the-variants.{ShortestLength, ReserveOver}
 use Rattle.job.specs.declared.validate.Broken.{Broken}
 use Rattle.job.specs.Job.{Action, Job}
 use Rattle.job.specs.Resources.{storeAmount, storeCap}
@@ -68,6 +68,7 @@ actionRows J =
     ∷ []
 
 -- the limits, tests 3 to 11: "3: over four pools, four stores or 64 actions"; "over 64 facts"; "deadline over 1,440";
+-- then 31, "a reserve over 50", "after 5 and before 6";
 -- "start or goal bit at or above the number of facts"; "availability over 1,000,000"; then 27, "a handover over 30",
 -- "after 7 and before 8"; then the actions
 unfoldable pub limitRows : Job → List Row
@@ -75,6 +76,7 @@ limitRows J =
     BodySizes when (over 4 (length (J .pools)) || over 4 (length (J .stores)) || over 64 (length (J .actions)))
     ∷ FactCount when over 64 (J .facts)
     ∷ Deadline when over 1440 (J .deadline)
+    ∷ ReserveOver when over 50 (J .reserve)
     ∷ ForeignFact when (foreign (J .facts) (J .start) || foreign (J .facts) (J .goal))
     ∷ Availability when any (over 1000000) (J .pools ++ J .stores)
     ∷ HandoverOver when any (over 30) (J .handovers)

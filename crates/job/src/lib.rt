@@ -9,7 +9,8 @@ pub mod resumed; // the job of what is left of a day
 
 ghost use mathlib.Core.Path.{_≡_};
 ghost use Prim.Native.Nat.{_^_, _<_};
-ghost use Rattle.job.specs.Job.{entries, handoverCount, shortestCount, unusedAction, zeroValue};
+ghost use Rattle.job.specs.Job.{entries, handoverCount, shortestCount, headSize, reserveIn, unusedAction};
+ghost use Rattle.job.specs.Job.{zeroValue};
 
 // An action of a job. Sets of facts are words: fact n is bit n.
 pub struct Action {
@@ -92,11 +93,41 @@ impl Form {
     }
 }
 
+// How a step uses up stores: which head the job's file has. The reserve of a value under the old rule is ignored.
+pub enum StoreRule {
+    PerStep, // its amount once: a head of 19 bytes
+    PerHour, // its amount for each started hour, and a part of each store is kept back: a head of 20 bytes
+}
+
+impl StoreRule {
+    // How many bytes the head has.
+    pub fn head(self) -> usize
+        ensures { λ r. ⌜ r ≡ headSize self ⌝ }
+    {
+        match self {
+            StoreRule::PerStep => 19,
+            StoreRule::PerHour => 20,
+        }
+    }
+
+    // The reserve of a job under this rule, for which a value holds this one.
+    pub fn reserve(self, held: u8) -> u8
+        ensures { λ r. ⌜ r ≡ reserveIn self held ⌝ }
+    {
+        match self {
+            StoreRule::PerStep => 0,
+            StoreRule::PerHour => held,
+        }
+    }
+}
+
 // A job. Pools are renewable resources, stores consumable ones: an availability for each. Its small parts stand first,
 // so that a value, which is often copied, has no gaps.
 pub struct Job {
     pub facts: u8,
     pub form: Form,
+    pub rule: StoreRule,
+    pub reserve: u8, // percent of each store that is kept back
     pub deadline: u16,
     pub handovers: [u8; Job::POOLS], // minutes that a share of the pool stays in use after its step
     pub start: u64,
@@ -131,6 +162,9 @@ impl Job {
     // The longest handover, in minutes.
     pub const HANDOVER: u8 = 30;
 
+    // The largest reserve, in percent.
+    pub const RESERVE: u8 = 50;
+
     // The job that stands beside a refusal: all zero.
     pub fn zero() -> Job
         ensures { λ r. ⌜ r ≡ zeroValue ⌝ }
@@ -147,6 +181,8 @@ impl Job {
             start: 0,
             goal: 0,
             form: Form::Four,
+            rule: StoreRule::PerStep,
+            reserve: 0,
             counts: none,
             pools: [0u32; Job::POOLS],
             handovers: [0u8; Job::POOLS],

@@ -45,6 +45,8 @@ pub enum Refusal {
     ShortestLength,
     // the true lengths of a plan's steps
     TrueLengths,
+    // the reserve of its stores
+    ReserveOver,
     // the replanner
     NoPlanWithKept,
 }
@@ -89,6 +91,7 @@ pub fn number(refusal: Refusal) -> u8
         Refusal::HandoverOver => 27,
         Refusal::ShortestLength => 29,
         Refusal::TrueLengths => 30,
+        Refusal::ReserveOver => 31,
         Refusal::NoPlanWithKept => 35,
     }
 }

@@ -8,6 +8,7 @@ use crate::Action;
 use crate::Counts;
 use crate::Form;
 use crate::Job;
+use crate::StoreRule;
 
 // Whether two jobs have as many pools, stores and actions.
 fn same_counts(a: Counts, b: Counts) -> bool
@@ -21,6 +22,13 @@ fn same_form(a: Form, b: Form) -> bool
     ensures { λ r. ⌜ Decides r (a ≡ b) ⌝ }
 {
     a.entries() == b.entries()
+}
+
+// Whether two rules are the same: no two have as long a head.
+fn same_rule(a: StoreRule, b: StoreRule) -> bool
+    ensures { λ r. ⌜ Decides r (a ≡ b) ⌝ }
+{
+    a.head() == b.head()
 }
 
 // Whether the first n bytes agree. Past their ends two slices of one length agree by themselves.
@@ -106,6 +114,8 @@ pub fn same(a: Job, b: Job) -> bool
 {
     let a_form = a.form;
     let b_form = b.form;
+    let a_rule = a.rule;
+    let b_rule = b.rule;
     let a_counts = a.counts;
     let b_counts = b.counts;
     let a_pools = a.pools;
@@ -123,6 +133,8 @@ pub fn same(a: Job, b: Job) -> bool
         & (a.start == b.start)
         & (a.goal == b.goal)
         & same_form(a_form, b_form)
+        & same_rule(a_rule, b_rule)
+        & (a_rule.reserve(a.reserve) == b_rule.reserve(b.reserve))
         & same_counts(a_counts, b_counts)
         & same_amounts(a_counts.pools, a_pools, b_pools)
         & same_handovers(a_form.handovers(a_counts.pools), a_handovers, b_handovers)

@@ -1,4 +1,4 @@
-// The tests of a job value, 3 to 11, 26, 27 and 29, in the order of the table over the whole job.
+// The tests of a job value, 3 to 11, 26, 27, 29 and 31, in the order of the table over the whole job.
 ghost use mathlib.Core.Path.{_≡_};
 ghost use Prim.Native.Nat.{_≤_};
 ghost use Rattle.lists.specs.Lists.{firsts, any};
@@ -12,6 +12,7 @@ use crate::beyond;
 use crate::lengths;
 use crate::refusal::Refusal;
 use crate::refusal::Verdict;
+use crate::wide;
 
 // Which of tests 8, 9, 10 and 11 fail: true for each that does.
 pub struct Broken {
@@ -40,8 +41,9 @@ pub fn any_over(limit: u32, amounts: [u32; Job::AMOUNTS], n: usize) -> bool
     requires { ⌜ n ≤ 4 ⌝ }
     ensures { λ r. ⌜ r ≡ any (over limit) (firsts n 0 amounts) ⌝ }
 {
-    let limits = [limit; Job::AMOUNTS];
-    beyond::any_above(limits, amounts, n)
+    let most = wide(limit);
+    let limits = [most; Job::AMOUNTS];
+    beyond::any_above(limits, beyond::widened(amounts), n)
 }
 
 // Whether one of the first n handovers is over the longest.
@@ -121,12 +123,13 @@ fn validate_actions(job: Job) -> Verdict
     Verdict::Pass
 }
 
-// The first of tests 3 to 11, 27 and 29 that the job fails.
+// The first of its limits, tests 3 to 11, 27, 29 and 31, that the job fails.
 fn validate_limits(job: Job) -> Verdict
     ensures { λ r. ⌜ r ≡ first (limitRows (jobIn job)) ⌝ }
 {
     let counts = job.counts;
     let form = job.form;
+    let rule = job.rule;
     let pools = job.pools;
     let handovers = job.handovers;
     let stores = job.stores;
@@ -141,6 +144,9 @@ fn validate_limits(job: Job) -> Verdict
     }
     if Job::DEADLINE < job.deadline {
         return Verdict::Refused(Refusal::Deadline);
+    }
+    if Job::RESERVE < rule.reserve(job.reserve) {
+        return Verdict::Refused(Refusal::ReserveOver);
     }
     if facts::foreign(job.facts, job.start) | facts::foreign(job.facts, job.goal) {
         return Verdict::Refused(Refusal::ForeignFact);

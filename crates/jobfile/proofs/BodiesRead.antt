@@ -1,25 +1,28 @@
 -- The bodies of a job, read back.
 -- Assumes nothing.
 use Prim.Native.Nat.{ℕ, _*_, _/_, _<_, _≤_}
-use mathlib.Core.Path.{_≡_, refl, _∙_}
-use mathlib.Core.List.{List, [], _∷_, append-nil, append-assoc}
+use mathlib.Core.Path.{_≡_, refl, sym, ap, _∙_}
+use mathlib.Core.List.{List, [], _∷_, _++_, append-nil, append-assoc}
 use native.Mathlib.Omega.{arith}
-use lib.ListN.{length, getD}
+use lib.ListN.{length, getD, length-append}
 use Rattle.lists.specs.Lists.{tabulate, Each}
 use Rattle.lists.proofs.Bools.{absurd}
 use Rattle.lists.proofs.Tabulate.{each-map, each-at, each-by-place}
-use Rattle.encoding.specs.Bytes.{fromBytes, toBytes, split, joined}
+use Rattle.encoding.specs.Bytes.{fromBytes, toBytes, part, split, joined}
 use Rattle.encoding.proofs.Numbers.{length-bytes, number-bytes}
+use Rattle.encoding.proofs.Parts.{part-past-end, part-seam}
 use Rattle.encoding.proofs.Pieces.{split-joined}
-use Rattle.job.specs.Job.{Action, Job, noAction, handoverCount, shortestCount}
+use Rattle.job.specs.Job.{Action, Job, noAction, handoverCount, shortestCount, headSize, reserveIn}
 use Rattle.job.specs.Lengths.{longestOf, shortestOf}
 use Rattle.job.specs.Passed.{Amounts, PassedAction, Passed}
 use Rattle.job.specs.declared.Form.{Form}
 use Rattle.job.specs.declared.Form.the-variants.{Four, Five, Six}
+use Rattle.job.specs.declared.StoreRule.{StoreRule}
+use Rattle.job.specs.declared.StoreRule.the-variants.{PerStep, PerHour}
 use Rattle.job.proofs.Values.{few-shortest, Shaped, Shape}
-use Rattle.jobfile.specs.File.{headBytes, amountBytes, actionBytes, minuteBytes, extraBodies, bodies, actionSize}
-use Rattle.jobfile.specs.File.{actionOf, jobOf}
-use Rattle.jobfile.proofs.Lengths.{length-amounts, length-action}
+use Rattle.jobfile.specs.File.{reserveBytes, headBytes, amountBytes, actionBytes, minuteBytes, extraBodies}
+use Rattle.jobfile.specs.File.{bodies, actionSize, actionOf, ruleOf, jobOf}
+use Rattle.jobfile.proofs.Lengths.{length-head, length-amounts, length-action}
 use Rattle.jobfile.proofs.Fields.{fields-read, numbers-read}
 
 amounts-read : (xs : List ℕ) → Amounts xs → split 4 fromBytes (amountBytes xs) ≡ xs
@@ -91,6 +94,34 @@ module _ (p s facts : ℕ) where
   actions-read (a ∷ actions) h f d =
       (action-read a (h .0) (f .0) (d .0), actions-read actions (h .1) (f .1) (d .1))
 
+-- the rule by the head's length, and the reserve in its last byte
+rule-of-size : (rule : StoreRule) → ruleOf (headSize rule) ≡ rule
+rule-of-size PerStep = refl
+rule-of-size PerHour = refl
+
+rule-read : (J : Job) → ruleOf (length (headBytes J)) ≡ J .rule
+rule-read J = ap ruleOf (length-head J) ∙ rule-of-size (J .rule)
+
+reserve-read : (J : Job) → Shape J → Passed J → fromBytes (part (headBytes J) 19 1) ≡ J .reserve
+unfolding headBytes fromBytes
+reserve-read J h f = by-rule (J .rule) (J .reserve) (h .reserve) (f .reserve)
+  where
+    before : List ℕ
+    before = toBytes 1 (J .facts) ++ toBytes 2 (J .deadline) ++ toBytes 8 (J .start) ++ toBytes 8 (J .goal)
+
+    count : length before ≡ 19
+    count = simp (length-append, length-bytes)
+
+    by-rule : (rule : StoreRule) (reserve : ℕ) → reserveIn rule reserve ≡ reserve → reserve ≤ 50
+        → fromBytes (part (before ++ reserveBytes rule reserve) 19 1) ≡ reserve
+    by-rule PerStep reserve none l =
+        let n = count in ap fromBytes (part-past-end (before ++ []) 19 1 (simp append-nil (omega arith))) ∙ none
+    by-rule PerHour reserve same l =
+        ap fromBytes
+        (ap (λ (b : List ℕ). part (before ++ b) 19 1) (sym (append-nil (toBytes 1 reserve)))
+        ∙ part-seam before (toBytes 1 reserve) [] 19 1 count (length-bytes 1 reserve))
+        ∙ number-bytes 1 reserve (omega arith)
+
 -- the job that bodies say, as many as there are
 abbrev pub jobOfBodies : Form → List (List ℕ) → Job
 jobOfBodies form bs =
@@ -118,7 +149,8 @@ module _ (J : Job) (h : Shape J) (d : Each (λ a. a .duration < 256) (J .actions
       let S = amountBytes (J .stores) in
       let lP = length-amounts (J .pools) in
       let lS = length-amounts (J .stores) in
-      let fields = toBytes 1 (J .facts) ∷ toBytes 2 (J .deadline) ∷ toBytes 8 (J .start) ∷ toBytes 8 (J .goal) ∷ [] in
+      let last = reserveBytes (J .rule) (J .reserve) in
+      let fields = toBytes 1 (J .facts) ∷ toBytes 2 (J .deadline) ∷ toBytes 8 (J .start) ∷ toBytes 8 (J .goal) ∷ last ∷ [] in
       let read = fields-read (headBytes J) [] 0 fields (simp (append-assoc, append-nil)) refl in
       let r = simp length-bytes at read in
       let few = f .facts in
@@ -129,6 +161,8 @@ module _ (J : Job) (h : Shape J) (d : Each (λ a. a .duration < 256) (J .actions
         number-bytes 2 (J .deadline) (omega arith),
         number-bytes 8 (J .start) (f .start .word),
         number-bytes 8 (J .goal) (f .goal .word),
+        rule-read J,
+        reserve-read J h f,
         amounts-read (J .pools) (f .pools),
         handovers-read (J .form) J pools (h .handovers)
             (each-map (λ x l. omega arith) (J .handovers) (f .handovers)),

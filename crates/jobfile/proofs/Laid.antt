@@ -21,7 +21,8 @@ use Rattle.jobfile.proofs.Bodies.{InRow, bodiesIn, count-in, in-row-whe
 
 -- the lengths of the bodies are those that a job gives
 pub record Sized (l : Layout) : Type 0 where
-  pub head : l .head ≡ 19
+  pub wholeHead : 19 ≤ l .head
+  pub shortHead : l .head ≤ 20
   pub wholePools : l .pools % 4 ≡ 0
   pub fewPools : l .pools ≤ 16
   pub wholeStores : l .stores % 4 ≡ 0
@@ -54,8 +55,10 @@ module _ (l : Layout) where
       let m3 = last-equal _ (l .stores % 4) 0 (m4 .0) in
       let m2 = last-within _ 16 (l .pools) (m3 .0) in
       let m1 = last-equal _ (l .pools % 4) 0 (m2 .0) in
+      let m0 = last-within _ 20 (l .head) (m1 .0) in
       record {
-        head = eqb-true (l .head) 19 (not-false _ (m1 .0));
+        wholeHead = ltb-false (l .head) 19 (m0 .0);
+        shortHead = m0 .1;
         wholePools = m1 .1;
         fewPools = m2 .1;
         wholeStores = m3 .1;
@@ -70,7 +73,8 @@ module _ (l : Layout) where
   unfolding missized
   not-missized s =
       rw (
-        eq-eqb (l .head) 19 (s .head),
+        le-ltb (l .head) 19 (s .wholeHead),
+        le-ltb 20 (l .head) (s .shortHead),
         eq-eqb (l .pools % 4) 0 (s .wholePools),
         le-ltb 16 (l .pools) (s .fewPools),
         eq-eqb (l .stores % 4) 0 (s .wholeStores),

@@ -11,14 +11,15 @@ use Rattle.lists.proofs.Tabulate.{length-tabulate, each-all, each-map}
 use Rattle.encoding.specs.Bytes.{toBytes, joined}
 use Rattle.encoding.proofs.Numbers.{length-bytes}
 use Rattle.encoding.proofs.Pieces.{length-joined}
-use Rattle.job.specs.Job.{Action, Job, entries, handoverCount, shortestCount, jobIn}
+use Rattle.job.specs.Job.{Action, Job, entries, handoverCount, shortestCount, headSize}
 use Rattle.job.specs.Passed.{Passed}
 use Rattle.job.specs.declared.Form.{Form}
 use Rattle.job.specs.declared.Form.the-variants.{Four, Five, Six}
-use Rattle.job.specs.declared.Job as held
+use Rattle.job.specs.declared.StoreRule.{StoreRule}
+use Rattle.job.specs.declared.StoreRule.the-variants.{PerStep, PerHour}
 use Rattle.job.proofs.Values.{few-handovers, few-shortest, Shaped, Shape, job-in-shape}
-use Rattle.jobfile.specs.File.{headBytes, amountBytes, actionBytes, minuteBytes, extraBodies, bodies}
-use Rattle.jobfile.specs.File.{contents, fileOfBodies, fileOf, actionSize, layoutOf, placesOf}
+use Rattle.jobfile.specs.File.{reserveBytes, headBytes, amountBytes, actionBytes, minuteBytes, extraBodies}
+use Rattle.jobfile.specs.File.{bodies, contents, fileOfBodies, fileOf, actionSize, layoutOf, placesOf}
 
 pub length-contents : (at : ℕ) (bs : List (List ℕ)) → length (joined (toBytes 2) (contents at bs)) ≡ 4 * length bs
 length-contents at [] = refl
@@ -28,9 +29,17 @@ length-contents at (b ∷ bs) =
 pub length-of-bodies : (bs : List (List ℕ)) → length (fileOfBodies bs) ≡ 4 * length bs + length (joined (λ b. b) bs)
 length-of-bodies bs = let c = length-contents (4 * length bs) bs in simp length-append (omega arith)
 
-pub length-head : (J : Job) → length (headBytes J) ≡ 19
+pub length-reserve : (rule : StoreRule) (reserve : ℕ) → 19 + length (reserveBytes rule reserve) ≡ headSize rule
+length-reserve PerStep reserve = refl
+length-reserve PerHour reserve = ap (λ (n : ℕ). 19 + n) (length-bytes 1 reserve)
+
+pub length-head : (J : Job) → length (headBytes J) ≡ headSize (J .rule)
 unfolding headBytes
-length-head J = simp (length-append, length-bytes)
+length-head J = let r = length-reserve (J .rule) (J .reserve) in simp (length-append, length-bytes) (omega arith)
+
+pub short-head : (rule : StoreRule) → (19 ≤ headSize rule) × (headSize rule ≤ 20)
+short-head PerStep = (omega arith, omega arith)
+short-head PerHour = (omega arith, omega arith)
 
 pub length-amounts : (xs : List ℕ) → length (amountBytes xs) ≡ length xs * 4
 length-amounts xs = length-joined (toBytes 4) 4 xs (each-all (λ x. length-bytes 4 x) xs)
@@ -103,7 +112,7 @@ module _ (J : Job) (h : Shape J) where
       length-joined actionBytes size (J .actions) (each-map (λ a e. length-action _ _ a e) (J .actions) (h .actions))
 
   pub length-file : length (fileOf J) ≡ 4 * entries (J .form)
-      + 19
+      + headSize (J .rule)
       + 4 * length (J .pools)
       + 4 * length (J .stores)
       + length (J .actions) * size
@@ -130,7 +139,7 @@ module _ (J : Job) (h : Shape J) where
       simp length-append in
       omega arith
 
-  -- 64 actions of 57 bytes, and 143 bytes more
+  -- 64 actions of 57 bytes, and 144 bytes more
   pub file-fits : Passed J → length (fileOf J) ≤ 4096
   file-fits f =
       let p = f .fewPools in
@@ -138,6 +147,7 @@ module _ (J : Job) (h : Shape J) where
       let one : size ≤ 57 = omega arith in
       let a = mul-le-mul {n₂ = 64} {m₂ = 57} (f .fewActions) one in
       let e = most-entries (J .form) in
+      let head = short-head (J .rule) in
       let w = few-handovers (J .form) (length (J .pools)) in
       let m = few-shortest (J .form) (length (J .actions)) in
       let n = f .fewActions in

@@ -127,7 +127,7 @@ module _ (file : List ℕ) (l : Laid file) (a b c d e g : ℕ) (ea : a ≡ 4 * e
   decoded-by-slices = let s = slices-are-bodies in rw (s .0, s .1, s .2, s .3, s .4, s .5)
 
   -- what decoding them requires
-  pub slices-fit : (length (part file a (b - a)) ≡ 19)
+  pub slices-fit : ((19 ≤ length (part file a (b - a))) × (length (part file a (b - a)) ≤ 20))
       × (length (part file b (c - b)) ≤ 16)
       × (length (part file c (d - c)) ≤ 16)
       × (length (part file d (e - d))
@@ -146,7 +146,7 @@ module _ (file : List ℕ) (l : Laid file) (a b c d e g : ℕ) (ea : a ≡ 4 * e
       let fewest = few-shortest (formIn file) count in
       rw (s .0, s .1, s .2, s .3, s .4, s .5)
       (rw (l .lengths 0, l .lengths 1, l .lengths 2, l .lengths 3, l .lengths 4, l .lengths 5)
-      (z .head, few, z .fewStores, most, omega arith, omega arith))
+      ((z .wholeHead, z .shortHead), few, z .fewStores, most, omega arith, omega arith))
 
 -- what is answered makes the papers' reply
 pub reads-of-answer : (file : List ℕ) (r : Reading) → r ≡ readFile file → Reads file r

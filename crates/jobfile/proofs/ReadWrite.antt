@@ -1,24 +1,27 @@
 -- A file that was read is written again, byte for byte.
 -- Assumes nothing.
-use Prim.Native.Nat.{ℕ, _+_, _*_, _/_, _%_}
-use mathlib.Core.Path.{_≡_, refl, ap, _∙_}
+use Prim.Native.Nat.{ℕ, _+_, _*_, _/_, _%_, _≤_}
+use mathlib.Core.Path.{_≡_, refl, sym, ap, _∙_}
 use mathlib.Core.Bool.{Bool, true, false, cond}
 use mathlib.Core.List.{List, [], _∷_}
+use mathlib.Core.Logic.{⊎-elim}
+use native.Mathlib.Nat.{eq-or-lt-of-le}
 use native.Mathlib.Omega.{arith}
 use lib.Dec.{ltb}
 use lib.ListN.{length}
 use lib.Seq.{take-all, take-add}
+use borrow.Author.Tests.{eq-eqb, ne-eqb}
 use Rattle.encoding.specs.Bytes.{fromBytes, part, split, joined}
-use Rattle.encoding.proofs.Parts.{Bytes, length-part, part-bytes, part-glue}
+use Rattle.encoding.proofs.Parts.{Bytes, length-part, part-past-end, part-bytes, part-glue}
 use Rattle.encoding.proofs.Pieces.{joined-split}
 use Rattle.job.specs.Job.{Job, entries}
 use Rattle.job.specs.Refusal.{first}
 use Rattle.job.specs.declared.Form.{Form}
 use Rattle.job.specs.declared.Form.the-variants.{Four, Five, Six}
 use Rattle.job.specs.declared.refusal.Verdict.the-variants.{Pass}
-use Rattle.jobfile.specs.File.{headBytes, amountBytes, actionBytes, minuteBytes, extraBodies, bodies}
+use Rattle.jobfile.specs.File.{reserveBytes, headBytes, amountBytes, actionBytes, minuteBytes, extraBodies}
 use Rattle.jobfile.specs.File.{fileOfBodies, fileOf, formIn, entriesIn, bodyIn, actionSize, actionOf, jobOf}
-use Rattle.jobfile.specs.File.{offset, size, body, decoded}
+use Rattle.jobfile.specs.File.{bodies, offset, size, body, ruleOf, decoded}
 use Rattle.jobfile.specs.Answers.{readRows}
 use Rattle.jobfile.proofs.Fields.{number-again, numbers-again}
 use Rattle.jobfile.proofs.Bodies.{bodiesIn, count-in, file-when-in-row}
@@ -30,19 +33,29 @@ use Rattle.jobfile.proofs.ReadLaws.{passes-laid}
 amounts-again : (bs : List ℕ) → Bytes bs → length bs % 4 ≡ 0 → amountBytes (split 4 fromBytes bs) ≡ bs
 amounts-again bs h e = numbers-again 4 bs (omega arith) h e
 
-head-again : (form : Form) (head pools stores actions handovers shortest : List ℕ) → Bytes head → length head ≡ 19
-    → headBytes (jobOf form head pools stores actions handovers shortest) ≡ head
+-- the last byte of a head that has one
+reserve-again : (head : List ℕ) → Bytes head → length head ≤ 20
+    → reserveBytes (ruleOf (length head)) (fromBytes (part head 19 1)) ≡ part head 19 1
+reserve-again head h short =
+    ⊎-elim (λ e. rw (eq-eqb (length head) 20 e) (number-again head 19 1 h (omega arith)))
+    (λ l. rw (ne-eqb (length head) 20 (λ e. omega arith)) (sym (part-past-end head 19 1 (omega arith))))
+    (eq-or-lt-of-le short)
+
+head-again : (form : Form) (head pools stores actions handovers shortest : List ℕ) → Bytes head → 19 ≤ length head
+    → length head ≤ 20 → headBytes (jobOf form head pools stores actions handovers shortest) ≡ head
 unfolding headBytes jobOf
-head-again form head pools stores actions handovers shortest h l =
+head-again form head pools stores actions handovers shortest h l short =
     rw (
       number-again head 0 1 h (omega arith),
       number-again head 1 2 h (omega arith),
       number-again head 3 8 h (omega arith),
       number-again head 11 8 h (omega arith),
+      reserve-again head h short,
       part-glue head 0 1 2,
       part-glue head 0 3 8,
       part-glue head 0 11 8,
-    ) (take-all 19 head (omega arith))
+      part-glue head 0 19 1,
+    ) (take-all 20 head short)
 
 action-again : (p s : ℕ) (bs : List ℕ) → Bytes bs → length bs ≡ actionSize p s → actionBytes (actionOf p s bs) ≡ bs
 unfolding actionBytes actionOf
@@ -103,7 +116,7 @@ module _ (file : List ℕ) (h : Bytes file) (l : Laid file) where
       let shortest = bodyIn file 5 in
       rw (
         head-again (formIn file) (bodyIn file 0) pools stores (bodyIn file 3) handovers shortest (body-bytes 0)
-            (n 0 ∙ z .head),
+            (rw (n 0) (z .wholeHead)) (rw (n 0) (z .shortHead)),
         amounts-again pools (body-bytes 1) (rw (n 1) (z .wholePools)),
         amounts-again stores (body-bytes 2) (rw (n 2) (z .wholeStores)),
         actions-again (length pools / 4) (length stores / 4) (bodyIn file 3) (body-bytes 3)

@@ -18,7 +18,7 @@ use Rattle.job.proofs.Values.{Shape}
 use Rattle.jobfile.specs.File.{amountBytes, bodies, fileOf, formOf, formIn, entriesIn, actionSize}
 use Rattle.jobfile.specs.File.{decoded, layoutOf}
 use Rattle.jobfile.specs.Answers.{readRows}
-use Rattle.jobfile.proofs.Lengths.{length-head, length-amounts, length-actions, length-file}
+use Rattle.jobfile.proofs.Lengths.{length-head, short-head, length-amounts, length-actions, length-file}
 use Rattle.jobfile.proofs.Lengths.{count-bodies, handovers-sized, shortest-sized, file-fits}
 use Rattle.jobfile.proofs.Bodies.{InRow, gapless-when-in-row, body-in-row, written-in-row}
 use Rattle.jobfile.proofs.BodiesRead.{jobOfBodies, bodies-read}
@@ -55,7 +55,8 @@ module _ (J : Job) (h : Shape J) (f : Passed J) where
       let fp = f .fewPools in
       let fs = f .fewStores in
       record {
-        head = length-head J;
+        wholeHead = rw (length-head J) (short-head (J .rule) .0);
+        shortHead = rw (length-head J) (short-head (J .rule) .1);
         wholePools = omega arith;
         fewPools = omega arith;
         wholeStores = omega arith;

@@ -13,10 +13,10 @@ use Rattle.job.specs.Job.{Action, Job, entries}
 use Rattle.job.specs.declared.Form.{Form}
 use Rattle.job.specs.declared.Form.the-variants.{Four, Five, Six}
 use Rattle.job.proofs.Values.{Shape}
-use Rattle.jobfile.specs.File.{headBytes, amountBytes, actionBytes, minuteBytes, extraBodies, bodies, contents}
+use Rattle.jobfile.specs.File.{reserveBytes, headBytes, amountBytes, actionBytes, minuteBytes, extraBodies}
 use Rattle.jobfile.specs.declared.Layout.{Layout}
 use Rattle.jobfile.specs.declared.Places.{Places}
-use Rattle.jobfile.specs.File.{contentNumbers, fileOf, layoutOf, placesOf, numbersOf}
+use Rattle.jobfile.specs.File.{bodies, contents, contentNumbers, fileOf, layoutOf, placesOf, numbersOf}
 use Rattle.jobfile.proofs.Lengths.{length-contents, length-amounts, length-minutes, extra-bytes, handovers-sized}
 use Rattle.jobfile.proofs.Lengths.{count-bodies}
 
@@ -72,9 +72,10 @@ headWrites at J =
     ∷ (at + 1, toBytes 2 (J .deadline))
     ∷ (at + 3, toBytes 8 (J .start))
     ∷ (at + 11, toBytes 8 (J .goal))
+    ∷ (at + 19, reserveBytes (J .rule) (J .reserve))
     ∷ []
 
-pub write-head : (o : List ℕ) (at : ℕ) (J : Job) → at + 11 ≤ length o
+pub write-head : (o : List ℕ) (at : ℕ) (J : Job) → at + 19 ≤ length o
     → writes o (headWrites at J) ≡ overwrite o at (headBytes J)
 unfolding headBytes
 write-head o at J l =

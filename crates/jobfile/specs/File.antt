@@ -11,15 +11,27 @@ use Rattle.job.specs.Refusal.{Row, _when_}
 use Rattle.job.specs.Valid.{over}
 use Rattle.job.specs.declared.Form.{Form}
 use Rattle.job.specs.declared.Form.the-variants.{Four, Five, Six}
+use Rattle.job.specs.declared.StoreRule.{StoreRule}
+use Rattle.job.specs.declared.StoreRule.the-variants.{PerStep, PerHour}
 use Rattle.job.specs.declared.refusal.Refusal.the-variants.{FileSize, Offsets, BodySizes}
 use Rattle.jobfile.specs.declared.Layout.{Layout}
 use Rattle.jobfile.specs.declared.Places.{Places}
 
 -- ── the bytes of a job ──
 
--- "Head, 19 bytes: number of facts (1 byte), deadline (2), start set (8), goal set (8)."
+-- "A head of 20 bytes marks a job under the new rule; its last byte is the reserve"
+abbrev pub reserveBytes : StoreRule → ℕ → List ℕ
+reserveBytes PerStep reserve = []
+reserveBytes PerHour reserve = toBytes 1 reserve
+
+-- "Head, 19 bytes: number of facts (1 byte), deadline (2), start set (8), goal set (8)", or 20
 unfoldable pub headBytes : Job → List ℕ
-headBytes J = toBytes 1 (J .facts) ++ toBytes 2 (J .deadline) ++ toBytes 8 (J .start) ++ toBytes 8 (J .goal)
+headBytes J =
+    toBytes 1 (J .facts)
+    ++ toBytes 2 (J .deadline)
+    ++ toBytes 8 (J .start)
+    ++ toBytes 8 (J .goal)
+    ++ reserveBytes (J .rule) (J .reserve)
 
 -- "Pools, then stores: 4 bytes for each availability."
 abbrev pub amountBytes : List ℕ → List ℕ
@@ -128,7 +140,11 @@ actionOf pools stores bytes =
       stores = split 4 fromBytes (part bytes (25 + 4 * pools) (4 * stores));
     }
 
--- the job that the bodies say
+-- the rule of a job whose head has so many bytes
+abbrev pub ruleOf : ℕ → StoreRule
+ruleOf head = cond (eqb head 20) PerHour PerStep
+
+-- the job that the bodies say; a head of 19 bytes has no byte 19, which then reads as 0
 unfoldable pub jobOf : Form → List ℕ → List ℕ → List ℕ → List ℕ → List ℕ → List ℕ → Job
 jobOf form head pools stores actions handovers shortest =
     let p = length pools / 4 in
@@ -139,6 +155,8 @@ jobOf form head pools stores actions handovers shortest =
       start = fromBytes (part head 3 8);
       goal = fromBytes (part head 11 8);
       form = form;
+      rule = ruleOf (length head);
+      reserve = fromBytes (part head 19 1);
       pools = split 4 fromBytes pools;
       handovers = split 1 fromBytes handovers;
       stores = split 4 fromBytes stores;
@@ -158,12 +176,13 @@ unfoldable pub gapless : List ℕ → ℕ → ℕ → ℕ → Bool
 gapless file at k zero = eqb at (length file)
 gapless file at k (suc n) = eqb (offset file k) at && gapless file (at + size file k) (suc k) n
 
--- "head not 19 bytes; pools or stores not a multiple of 4 or over 16 bytes; actions not whole or over 64"; the fifth
+-- a head of 19 bytes, or 20, "and another length is 3"; "pools or stores not a multiple of 4 or over 16 bytes; actions not whole or over 64"; the fifth
 -- body "is one byte for each pool, and another length is 3"; "another length of the sixth body is 3"
 unfoldable pub missized : Layout → Bool
 missized l =
     let action = actionSize (l .pools / 4) (l .stores / 4) in
-    not (eqb (l .head) 19)
+    ltb (l .head) 19
+    || over 20 (l .head)
     || not (eqb (l .pools % 4) 0)
     || over 16 (l .pools)
     || not (eqb (l .stores % 4) 0)

@@ -71,7 +71,8 @@ impl Layout {
     // The bytes of a handover, and of a shortest length.
     pub const MINUTES: usize = 1;
 
-    // The head: the number of facts, the deadline, the start and the goal, each behind the one before.
+    // The head: the number of facts, the deadline, the start and the goal, each behind the one before, and in a longer
+    // head the reserve.
     pub const FACTS: usize = 1;
 
     pub const DEADLINE: usize = 2;
@@ -85,6 +86,12 @@ impl Layout {
     pub const GOAL_AT: usize = Layout::START_AT + Layout::SET;
 
     pub const HEAD: usize = Layout::GOAL_AT + Layout::SET;
+
+    pub const RESERVE: usize = 1;
+
+    pub const RESERVE_AT: usize = Layout::HEAD;
+
+    pub const LONG_HEAD: usize = Layout::RESERVE_AT + Layout::RESERVE;
 
     // An action: its duration and its three sets, as long as an action without its uses, which stand behind them.
     pub const DURATION: usize = 1;
@@ -138,7 +145,8 @@ impl Layout {
     {
         let form = self.form;
         let action = Layout::action_size(self.pools / Layout::AMOUNT, self.stores / Layout::AMOUNT);
-        (self.head != Layout::HEAD)
+        (self.head < Layout::HEAD)
+            | (Layout::LONG_HEAD < self.head)
             | (self.pools % Layout::AMOUNT != 0)
             | (Layout::AMOUNT * Job::POOLS < self.pools)
             | (self.stores % Layout::AMOUNT != 0)

@@ -103,7 +103,7 @@ module _ (file : List ℕ) (l : Layout) (p : Placed file l) where
   by-contents : (f : Layout → ℕ) → f l ≡ f (layoutIn file)
   by-contents f = ap f (p .same)
 
-  pub slices-fit-decode : (length (slice (at .head) (at .pools)) ≡ 19)
+  pub slices-fit-decode : ((19 ≤ length (slice (at .head) (at .pools))) × (length (slice (at .head) (at .pools)) ≤ 20))
       × (length (slice (at .pools) (at .stores)) ≤ 16)
       × (length (slice (at .stores) (at .actions)) ≤ 16)
       × (length (slice (at .actions) (at .handovers))

@@ -4,9 +4,9 @@ ghost use mathlib.Core.List.{map};
 ghost use Prim.Native.Nat.{_/_, _≤_};
 ghost use lib.ListN.{length, replicate};
 ghost use Rattle.lists.specs.Lists.{filled};
-ghost use Rattle.encoding.specs.Bytes.{fromBytes, split};
+ghost use Rattle.encoding.specs.Bytes.{fromBytes, part, split};
 ghost use Rattle.job.specs.Job.{unusedAction, actionValue, jobValue};
-ghost use Rattle.jobfile.specs.File.{actionSize, actionOf, jobOf};
+ghost use Rattle.jobfile.specs.File.{actionSize, actionOf, ruleOf, jobOf};
 use crate::action::amounts;
 use crate::view::ActionsView;
 use encoding::read_number;
@@ -14,6 +14,7 @@ use job::Action;
 use job::Counts;
 use job::Form;
 use job::Job;
+use job::StoreRule;
 use jobfile::Layout;
 
 // All actions of a job with so many pools and stores.
@@ -47,6 +48,26 @@ fn put_minutes(out: &mut [u8], bytes: &[u8])
     }
 }
 
+// The rule of a job with such a head.
+fn rule(head: &[u8]) -> StoreRule
+    ensures { λ r. ⌜ r ≡ ruleOf (length (now (head .entry))) ⌝ }
+{
+    if head.len() == Layout::LONG_HEAD {
+        return StoreRule::PerHour;
+    }
+    StoreRule::PerStep
+}
+
+// The reserve in a head, 0 in one that has none.
+fn reserve(head: &[u8]) -> u8
+    ensures { λ r. ⌜ r ≡ fromBytes (part (now (head .entry)) 19 1) ⌝ }
+{
+    if head.len() < Layout::LONG_HEAD {
+        return 0;
+    }
+    read_number(head, Layout::RESERVE_AT, Layout::RESERVE) as u8
+}
+
 // The job that the bodies say.
 pub fn decode(
     form: Form,
@@ -57,7 +78,7 @@ pub fn decode(
     waits: &[u8],
     least: &[u8],
 ) -> Job
-    requires { ⌜ length (now head) ≡ 19 ⌝ }
+    requires { ⌜ (19 ≤ length (now head)) × (length (now head) ≤ 20) ⌝ }
     requires { ⌜ (length (now pools) ≤ 16) × (length (now stores) ≤ 16) ⌝ }
     requires { ⌜ (length (now waits) ≤ 4) × (length (now least) ≤ 64) ⌝ }
     requires { ⌜ length (now «actions_») / actionSize (length (now pools) / 4) (length (now stores) / 4) ≤ 64 ⌝ }
@@ -84,6 +105,8 @@ pub fn decode(
         start: read_number(head, Layout::START_AT, Layout::SET),
         goal: read_number(head, Layout::GOAL_AT, Layout::SET),
         form,
+        rule: rule(head),
+        reserve: reserve(head),
         counts,
         pools: pool_amounts,
         handovers,

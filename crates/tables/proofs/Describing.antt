@@ -1,19 +1,22 @@
 -- The filled tables of a job that passes its tests, and its frame, describe it.
 -- Assumes nothing.
-use Prim.Native.Nat.{ℕ, _<_}
+use Prim.Native.Nat.{ℕ, _<_, _≤_}
 use mathlib.Core.Path.{_≡_, refl, sym, ap}
 use mathlib.Core.List.{List}
 use native.Mathlib.Omega.{arith}
-use lib.ListN.{getD}
+use native.Mathlib.Decide.{decLt}
+use lib.ListN.{length, getD, List·getD-eq-default}
 use Rattle.lists.proofs.Tabulate.{length-tabulate, getD-tabulate, each-at}
-use Rattle.job.proofs.ResourceLaws.{allowed-is}
+use Rattle.job.proofs.ResourceLaws.{small-charge, allowed-is}
+use Rattle.job.proofs.Rows.{fits-of-pass}
+use Rattle.times.specs.Earliest.{actionOf}
 use Rattle.job.specs.declared.Job as held
 use Rattle.job.specs.declared.refusal.Verdict.the-variants.{Pass}
 use Rattle.job.specs.Job.{Action, jobIn, actionAt, beyond, noAction}
-use Rattle.job.specs.Resources.{HandoversOf}
+use Rattle.job.specs.Resources.{storeAmount, HandoversOf}
 use Rattle.job.specs.Refusal.{first}
 use Rattle.job.specs.Valid.{jobRows}
-use Rattle.job.specs.Passed.{PassedAction}
+use Rattle.job.specs.Passed.{Amounts, PassedAction}
 use Rattle.job.proofs.Passed.{passed}
 use Rattle.tables.specs.Tables.{Describes, DescribesAction}
 use Rattle.tables.specs.declared.Steps.{Steps}
@@ -32,6 +35,22 @@ module _ (job : held.Job) (sets numbers : List ℕ) (filled : Filled job sets nu
       omega arith
 
   module _ (passes : first (jobRows (jobIn job)) ≡ Pass) where
+    -- what an action that passes its tests uses up of a store
+    small-amount : (store : ℕ) (a : Action) → a .duration ≤ 255 → PassedAction (job .facts) a
+        → storeAmount (jobIn job) store a < 4294967296
+    unfolding storeAmount
+    small-amount store a byte tested =
+        let amount = small-at (a .stores) (tested .stores) store in
+        let small = small-charge (job .rule) (a .duration) (getD (a .stores) store 0) byte amount in
+        omega arith
+      where
+        small-at : (xs : List ℕ) → Amounts xs → (k : ℕ) → getD xs k 0 ≤ 1000000
+        small-at xs each k =
+            elim (decLt k (length xs)) [
+              | yes l ↦ each-at (λ x. x ≤ 1000000) xs 0 each k l
+              | no l ↦ let none : getD xs k 0 ≡ 0 = List·getD-eq-default xs 0 (omega arith) in omega arith
+            ]
+
     describes-action : (i : ℕ) → i < job .counts .actions → DescribesAction (jobIn job) sets numbers i
     describes-action i l =
         let s = filled .eachSets i l in
@@ -48,7 +67,8 @@ module _ (job : held.Job) (sets numbers : List ℕ) (filled : Filled job sets nu
           positive = tested .duration;
           byte = n .byte;
           pools = n .pools;
-          stores = n .stores;
+          stores = λ store known.
+              n .stores store known (small-amount store (actionOf (jobIn job) i) (n .byte) tested);
         }
 
     pub describes : (goal from : ℕ) (kept : Steps) (handovers : List ℕ) → HandoversOf (jobIn job) handovers
@@ -60,7 +80,7 @@ module _ (job : held.Job) (sets numbers : List ℕ) (filled : Filled job sets nu
           pools = length-tabulate (job .counts .pools) (λ k. getD (job .pools) k 0);
           stores = length-tabulate (job .counts .stores) (λ k. getD (job .stores) k 0);
           available = λ k l. sym (getD-tabulate (job .counts .pools) (λ m. getD (job .pools) m 0) k 0 l);
-          stocks = λ k l. allowed-is job k l;
+          stocks = λ k l. let few = fits-of-pass job passes .1 in allowed-is job k l (omega arith);
           handovers = same;
           inTime = omega arith;
           each = describes-action;

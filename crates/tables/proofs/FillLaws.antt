@@ -1,6 +1,6 @@
 -- Filling the tables of a job: the set of clashing actions, and entries put one after the other.
 -- Assumes nothing.
-use Prim.Native.Nat.{ℕ, _+_, _*_, _≤_, _<_}
+use Prim.Native.Nat.{ℕ, zero, suc, _+_, _*_, _≤_, _<_}
 use mathlib.Core.Path.{_≡_, refl, sym, ap, ap₂, _∙_}
 use mathlib.Core.Bool.{Bool, true, false, cond, _&&_, _||_, and-true, and-false, or-false}
 use mathlib.Core.Logic.{⊎-elim}
@@ -11,6 +11,7 @@ use lib.Dec.{eqb}
 use lib.ListN.{length, getD, set, length-set}
 use lib.Seq.{getD-set-same, getD-set-other}
 use borrow.Author.Tests.{eq-eqb, ne-eqb}
+use Rattle.lists.proofs.Bools.{absurd}
 use Rattle.lists.proofs.Tabulate.{length-tabulate, getD-tabulate}
 use Rattle.facts.specs.FactSet.{has, single}
 use Rattle.facts.proofs.Membership.{has-zero}
@@ -24,7 +25,7 @@ use Rattle.timeline.proofs.Tests.{le-or-lt}
 use Rattle.times.specs.Earliest.{actionOf}
 use Rattle.times.proofs.Singles.{has-single}
 use Rattle.tables.specs.Tables.{clashes}
-use Rattle.tables.specs.Filled.{SetsFilled, NumbersFilled, Clash, ClashSet, SameBefore, ValuesPut}
+use Rattle.tables.specs.Filled.{SetsFilled, NumbersFilled, Clash, ClashSet, SameBefore, ValuesPut, CutTo}
 
 -- ---- the actions of a job value
 module _ (job : held.Job) where
@@ -125,10 +126,11 @@ module _ (job : held.Job) (i : ℕ) (known : i < job .counts .actions) where
         clash = λ j l. ap (λ (m : ℕ). has m j) (put .put 3 (omega arith)) ∙ clashing j (omega arith);
       }
 
-  pub numbers-put : (xs ys zs amounts : List ℕ) (d : ℕ) → amounts ≡ chargedIn job a → Fits (job .counts) → i * 9 < length xs → d ≡ a .duration → d < 256
-      → ValuesPut (set xs (i * 9) d) (i * 9 + 1) 4 (a .pools) ys → ValuesPut ys (i * 9 + 5) 4 amounts zs
+  pub numbers-put : (xs ys zs amounts cut : List ℕ) (d : ℕ) → amounts ≡ chargedIn job a → CutTo amounts cut
+      → Fits (job .counts) → i * 9 < length xs → d ≡ a .duration → d < 256
+      → ValuesPut (set xs (i * 9) d) (i * 9 + 1) 4 (a .pools) ys → ValuesPut ys (i * 9 + 5) 4 cut zs
       → NumbersFilled (jobIn job) zs i
-  numbers-put xs ys zs amounts d charges fits room is-d byte pools stores =
+  numbers-put xs ys zs amounts cut d charges cuts fits room is-d byte pools stores =
       let same = action-of-value job i known in
       let poolCount = length-tabulate (job .counts .pools) (λ k. getD (job .pools) k 0) in
       let storeCount = length-tabulate (job .counts .stores) (λ k. getD (job .stores) k 0) in
@@ -144,11 +146,11 @@ module _ (job : held.Job) (i : ℕ) (known : i < job .counts .actions) where
             ∙ sym (getD-tabulate (job .counts .pools) (λ m. getD (a .pools) m 0) k 0 (omega arith))
             ∙ sym (ap (λ (x : Action). getD (x .pools) k 0) same);
         stores =
-            λ k l.
-            stores .put k (omega arith)
-            ∙ ap (λ (list : List ℕ). getD list k 0) charges
-            ∙ charged-is job a k (omega arith)
-            ∙ sym (ap (storeAmount (jobIn job) k) same);
+            λ k l small.
+            let amount = ap (λ (list : List ℕ). getD list k 0) charges
+            ∙ charged-is job a k (omega arith) (omega arith)
+            ∙ sym (ap (storeAmount (jobIn job) k) same) in
+            stores .put k (omega arith) ∙ cuts k (omega arith) (omega arith) ∙ amount;
       }
 
 -- ---- one action after the other
@@ -176,5 +178,15 @@ module _ (J : Job) (n : ℕ) (xs ys : List ℕ) where
         duration = same (k * 9) (omega arith) ∙ old .duration;
         byte = old .byte;
         pools = λ p m. same (k * 9 + 1 + p) (omega arith) ∙ old .pools p m;
-        stores = λ p m. same (k * 9 + 5 + p) (omega arith) ∙ old .stores p m;
+        stores = λ p m small. same (k * 9 + 5 + p) (omega arith) ∙ old .stores p m small;
       }) (le-or-lt n k)
+
+-- four numbers, each cut
+pub four-cut : (xs : List ℕ) (a b c d : ℕ) → (getD xs 0 0 < 4294967296 → a ≡ getD xs 0 0)
+    → (getD xs 1 0 < 4294967296 → b ≡ getD xs 1 0) → (getD xs 2 0 < 4294967296 → c ≡ getD xs 2 0)
+    → (getD xs 3 0 < 4294967296 → d ≡ getD xs 3 0) → CutTo xs (a ∷ b ∷ c ∷ d ∷ [])
+four-cut xs a b c d ha hb hc hd zero l = ha
+four-cut xs a b c d ha hb hc hd (suc zero) l = hb
+four-cut xs a b c d ha hb hc hd (suc (suc zero)) l = hc
+four-cut xs a b c d ha hb hc hd (suc (suc (suc zero))) l = hd
+four-cut xs a b c d ha hb hc hd (suc (suc (suc (suc k)))) l = absurd (omega arith)

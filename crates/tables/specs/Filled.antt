@@ -25,12 +25,16 @@ pub record SetsFilled (J : Job) (sets : List ℕ) (i : ℕ) : Type 0 where
   pub deletes : deletesAt sets i ≡ actionOf J i .deletes
   pub clash : (j : ℕ) → j < length (J .actions) → has (clashesAt sets i) j ≡ clashes J i j
 
--- the nine numbers of action i are in the table; its duration is one byte
+-- four numbers cut to 32 bits
+abbrev pub CutTo : List ℕ → List ℕ → Type 0
+CutTo xs ys = (k : ℕ) → k < 4 → getD xs k 0 < 4294967296 → getD ys k 0 ≡ getD xs k 0
+
+-- the nine numbers of action i are in the table; its duration is one byte, and what it uses up of a store has 32 bits
 pub record NumbersFilled (J : Job) (numbers : List ℕ) (i : ℕ) : Type 0 where
   pub duration : durationAt numbers i ≡ actionOf J i .duration
   pub byte : actionOf J i .duration ≤ 255
   pub pools : (pool : ℕ) → pool < length (J .pools) → poolUseAt numbers i pool ≡ getD (actionOf J i .pools) pool 0
-  pub stores : (store : ℕ) → store < length (J .stores)
+  pub stores : (store : ℕ) → store < length (J .stores) → storeAmount J store (actionOf J i) < 4294967296
       → storeUseAt numbers i store ≡ storeAmount J store (actionOf J i)
 
 -- each action of the job value is in the table

@@ -4,12 +4,15 @@ ghost use Prim.Native.Nat.{_+_, _*_, _≤_, _<_};
 ghost use lib.ListN.{length};
 ghost use Rattle.job.specs.Job.{jobIn, Fits};
 ghost use Rattle.tables.specs.Filled.{SetsFilled, NumbersFilled, EachFilled, Filled};
-ghost use Rattle.tables.specs.Filled.{Clash, ClashSet, SameBefore, ValuesPut};
+ghost use Rattle.tables.specs.Filled.{Clash, ClashSet, SameBefore, ValuesPut, CutTo};
 use crate::layout::NumberTable;
 use crate::layout::SetTable;
 use job::Action;
 use job::Job;
 use job::resources;
+
+// The greatest number of 32 bits.
+const GREATEST: u64 = u32::MAX as u64;
 
 // A duration as a number of 32 bits.
 fn minutes(duration: u8) -> u32
@@ -84,6 +87,26 @@ fn put_amounts(numbers: &mut [u32], at: usize, amounts: [u32; Job::AMOUNTS])
     }
 }
 
+// Amounts of 64 bits as numbers of 32; the greatest stands for what is more, which no job that passes its tests has.
+fn cut(amounts: [u64; Job::AMOUNTS]) -> [u32; Job::AMOUNTS]
+    ensures { λ r. ⌜ CutTo amounts r ⌝ }
+{
+    let first = cut_one(amounts[0]);
+    let second = cut_one(amounts[1]);
+    let third = cut_one(amounts[2]);
+    let fourth = cut_one(amounts[3]);
+    [first, second, third, fourth]
+}
+
+fn cut_one(amount: u64) -> u32
+    ensures { λ r. ⌜ (amount < 4294967296 → r ≡ amount) ⌝ }
+{
+    if GREATEST < amount {
+        return u32::MAX;
+    }
+    amount as u32
+}
+
 // Puts the numbers of action i into the table, and leaves the entries before them.
 fn put_numbers(numbers: &mut [u32], job: Job, i: usize)
     requires { ⌜ (length (now numbers) ≡ 1220) × Fits (job .counts) × (i < job .counts .actions) ⌝ }
@@ -96,7 +119,7 @@ fn put_numbers(numbers: &mut [u32], job: Job, i: usize)
     let at = i * NumberTable::ROW;
     numbers[at] = minutes(action.duration);
     put_amounts(numbers, at + NumberTable::POOLS, pools);
-    put_amounts(numbers, at + NumberTable::STORES, stores);
+    put_amounts(numbers, at + NumberTable::STORES, cut(stores));
 }
 
 // Puts the numbers of all actions into the table.

@@ -9,14 +9,14 @@ use Rattle.lists.specs.Lists.{firsts}
 use Rattle.lists.proofs.Tabulate.{length-tabulate}
 use Rattle.encoding.specs.Bytes.{toBytes, joined, overwrite}
 use Rattle.job.specs.declared.Job as held
-use Rattle.job.specs.Job.{Job, entries, handoverCount, shortestCount, actionAt, jobIn, Fits}
+use Rattle.job.specs.Job.{Job, entries, handoverCount, shortestCount, headSize, actionAt, jobIn, Fits}
 use Rattle.job.proofs.Values.{few-handovers, few-shortest, job-in-shape}
 use Rattle.jobfile.specs.declared.Layout.{Layout}
 use Rattle.jobfile.specs.declared.Places.{Places}
 use Rattle.jobfile.specs.File.{headBytes, amountBytes, actionBytes, minuteBytes, bodies, contentNumbers, fileOf}
 use Rattle.jobfile.specs.File.{actionSize, layoutOf, placesOf, numbersOf, Small}
-use Rattle.jobfile.proofs.Lengths.{length-head, length-amounts, length-actions, handovers-sized, shortest-sized}
-use Rattle.jobfile.proofs.Lengths.{end-of-places}
+use Rattle.jobfile.proofs.Lengths.{length-head, short-head, length-amounts, length-actions, handovers-sized}
+use Rattle.jobfile.proofs.Lengths.{shortest-sized, end-of-places}
 use Rattle.jobfile.proofs.Writes.{writes, write-file, contents-of}
 use Rattle.writer.proofs.ActionLaws.{few-action-bytes}
 use Rattle.writer.specs.Room.{Room}
@@ -24,7 +24,7 @@ use Rattle.writer.specs.Room.{Room}
 -- the lengths by the counts of a value
 pub record Counted (job : held.Job) (l : Layout) : Type 0 where
   pub form : l .form ≡ job .form
-  pub head : l .head ≡ 19
+  pub head : l .head ≡ headSize (job .rule)
   pub pools : l .pools ≡ 4 * job .counts .pools
   pub stores : l .stores ≡ 4 * job .counts .stores
   pub actions : l .actions ≡ job .counts .actions * actionSize (job .counts .pools) (job .counts .stores)
@@ -74,6 +74,7 @@ module _ (job : held.Job) where
       let waits = few-handovers (job .form) (job .counts .pools) in
       let least = few-shortest (job .form) (job .counts .actions) in
       let h = c .head in
+      let short = short-head (job .rule) in
       let p = c .pools in
       let s = c .stores in
       let a = c .actions in
@@ -90,7 +91,7 @@ end-is-length job l at lengths places =
 -- what each body needs of a slice of n bytes, and of its array
 pub record Parts (job : held.Job) (l : Layout) (at : Places) (n : ℕ) : Type 0 where
   pub contents : 4 * entries (job .form) ≤ n
-  pub head : at .head + 19 ≤ n
+  pub head : at .head + headSize (job .rule) ≤ n
   pub pools : at .pools + 4 * job .counts .pools ≤ n
   pub stores : at .stores + 4 * job .counts .stores ≤ n
   pub actions : at .actions + job .counts .actions * actionSize (job .counts .pools) (job .counts .stores) ≤ n

@@ -4,14 +4,15 @@ ghost use Prim.Native.Nat.{_+_, _*_, _≤_};
 ghost use lib.ListN.{length};
 ghost use Rattle.lists.specs.Lists.{firsts};
 ghost use Rattle.encoding.specs.Bytes.{toBytes, joined, overwrite};
-ghost use Rattle.job.specs.Job.{actionIn, jobIn, Fits};
-ghost use Rattle.jobfile.specs.File.{headBytes, amountBytes, actionBytes, minuteBytes, actionSize, bodies};
-ghost use Rattle.jobfile.specs.File.{fileOf, layoutOf, numbersOf, Small};
+ghost use Rattle.job.specs.Job.{headSize, actionIn, jobIn, Fits};
+ghost use Rattle.jobfile.specs.File.{reserveBytes, headBytes, amountBytes, actionBytes, minuteBytes, actionSize};
+ghost use Rattle.jobfile.specs.File.{bodies, fileOf, layoutOf, numbersOf, Small};
 ghost use Rattle.writer.specs.Room.{Room};
 use encoding::write_number;
 use job::Action;
 use job::Counts;
 use job::Job;
+use job::StoreRule;
 use jobfile::Layout;
 use jobfile::Places;
 
@@ -26,11 +27,12 @@ pub fn layout(job: Job) -> Layout
     ensures { λ r. ⌜ (r ≡ layoutOf (job .form) (bodies (jobIn job))) × Small r ⌝ }
 {
     let form = job.form;
+    let rule = job.rule;
     let counts = job.counts;
     let size = Layout::action_size(counts.pools, counts.stores);
     Layout {
         form,
-        head: Layout::HEAD,
+        head: rule.head(),
         pools: Layout::AMOUNT * counts.pools,
         stores: Layout::AMOUNT * counts.stores,
         actions: counts.actions * size,
@@ -71,9 +73,21 @@ fn contents(out: &mut [u8], xs: [usize; NUMBERS], n: usize)
     }
 }
 
+// The reserve at place `at`, in a head that has one.
+fn reserve(out: &mut [u8], at: usize, job: Job)
+    requires { ⌜ at + length (reserveBytes (job .rule) (jobIn job .reserve)) ≤ length (now out) ⌝ }
+    ensures { λ r. ⌜ now (out .exit) ≡
+        overwrite (now (out .entry)) at (reserveBytes (job .rule) (jobIn job .reserve)) ⌝ }
+{
+    let rule = job.rule;
+    if let StoreRule::PerHour = rule {
+        write_number(out, at, Layout::RESERVE, job.reserve as u64);
+    }
+}
+
 // The head, from place `at` on.
 fn head(out: &mut [u8], at: usize, job: Job)
-    requires { ⌜ at + 19 ≤ length (now out) ⌝ }
+    requires { ⌜ at + headSize (job .rule) ≤ length (now out) ⌝ }
     ensures { λ r. ⌜ now (out .exit) ≡ overwrite (now (out .entry)) at (headBytes (jobIn job)) ⌝ }
 {
     write_number(out, at, Layout::FACTS, job.facts as u64);
@@ -85,6 +99,7 @@ fn head(out: &mut [u8], at: usize, job: Job)
     );
     write_number(out, at + Layout::START_AT, Layout::SET, job.start);
     write_number(out, at + Layout::GOAL_AT, Layout::SET, job.goal);
+    reserve(out, at + Layout::RESERVE_AT, job);
 }
 
 // The first n amounts, from place `at` on.

@@ -59,7 +59,7 @@ returns c =
     let k = c-loop .k in
     let cap = c .before .before .wide .ensures .0
     ∙ ap (λ (l : List ℕ). getD l k 0) (c-allowed .ensures)
-    ∙ allowed-is j k (c-if1 .taken) in
+    ∙ allowed-is j k (c-if1 .taken) (omega arith) in
     let e : test k ≡ true = lt-ltb _ _ (rw (c .before .used-up .ensures, cap) at (c .if2 .taken)) in
     sym (first-here StoreExceeded _ []
     (rw length-tabulate (below-found (j .counts .stores) test k (c-if1 .taken) e)))
@@ -81,7 +81,7 @@ loop-again c =
     let k = c-loop .k in
     let cap = c .before .before .wide .ensures .0
     ∙ ap (λ (l : List ℕ). getD l k 0) (c-allowed .ensures)
-    ∙ allowed-is j k (c-if1 .taken) in
+    ∙ allowed-is j k (c-if1 .taken) (omega arith) in
     let e : test k ≡ false = le-ltb _ _ (rw (c .before .used-up .ensures, cap) at (c .if2 .left)) in
     (omega arith, below-more k test ∙ rw (e, c-loop .inv .1))
 

@@ -18,7 +18,7 @@ use Rattle.checker.proofs.rules.used_up.Tie as tie
 abbrev Inv-loop : tie.InvT-loop
 Inv-loop job store plan sum₀ i₀ sum i =
     (i ≤ plan .length)
-    × (sum ≤ i * 4294967296)
+    × (sum ≤ i * 34359738368)
     × (sum ≡ usedUp (jobIn job) store (tabulate i (stepAt plan)))
 
 abbrev μ-loop : tie.MeasureT-loop
@@ -37,17 +37,17 @@ element-copy-out-step c = omega arith
 charged-requires : tie.Need-charged-requires Inv-loop μ-loop
 charged-requires c κs = search needs
 
-mul-wide : tie.Need-mul-wide Inv-loop μ-loop
-mul-wide c = omega arith
+mul-sum : tie.Need-mul-sum Inv-loop μ-loop
+mul-sum c = omega arith
 
-array-read-wide : tie.Need-array-read-wide Inv-loop μ-loop
-array-read-wide c = omega arith
-
-wide-requires : tie.Need-wide-requires Inv-loop μ-loop
-wide-requires c κs = search needs
+array-read-sum : tie.Need-array-read-sum Inv-loop μ-loop
+array-read-sum c = omega arith
 
 add-sum : tie.Need-add-sum Inv-loop μ-loop
-add-sum c = let s = c .wide .ensures .1 in omega arith
+add-sum c =
+    let c-args = c .before .before .before .before .args in
+    let small = c .charged .ensures .1 (c-args .store) .0 in
+    omega arith
 
 add-i : tie.Need-add-i Inv-loop μ-loop
 add-i c = omega arith
@@ -57,14 +57,14 @@ loop-less c = omega arith
 
 loop-again : tie.Need-loop-again Inv-loop μ-loop
 loop-again c =
-    let c-args = c .before .before .before .before .before .args in
-    let c-pre = c .before .before .before .before .before .pre in
-    let c-loop = c .before .before .before .before .loop in
+    let c-args = c .before .before .before .before .args in
+    let c-pre = c .before .before .before .before .pre in
+    let c-loop = c .before .before .before .loop in
     let a = c-args in
-    let s = c .wide .ensures .1 in
+    let small = c .charged .ensures .1 (a .store) .0 in
     let x = getD (a .t1 .steps) (c-loop .i) beyondStep in
-    let amount = c .wide .ensures .0 ∙ ap (λ (l : List ℕ). getD l (a .store) 0) (c .before .charged .ensures)
-    ∙ charged-is (a .job) (x .action) (a .store) (c-pre .3) in (
+    let amount = ap (λ (l : List ℕ). getD l (a .store) 0) (c .charged .ensures .0)
+    ∙ charged-is (a .job) (x .action) (a .store) (c-pre .3) (omega arith) in (
       omega arith,
       omega arith,
       one-more-step (a .t1) _ (c-pre .1) (storeUse (jobIn (a .job)) (a .store)) (c-loop .i) _ _ (c-loop .inv .2) amount,
@@ -86,9 +86,8 @@ used-up-spec =
     mul-step
     element-copy-out-step
     charged-requires
-    mul-wide
-    array-read-wide
-    wide-requires
+    mul-sum
+    array-read-sum
     add-sum
     add-i
     loop-less

@@ -8,6 +8,15 @@ use Rattle.job.proofs.same.same.Tie as tie
 same-form-requires : tie.Need-same-form-requires
 same-form-requires c κs = search needs
 
+same-rule-requires : tie.Need-same-rule-requires
+same-rule-requires c κs = search needs
+
+reserve-requires : tie.Need-reserve-requires
+reserve-requires c κs = search needs
+
+reserve-requires-2 : tie.Need-reserve-requires-2
+reserve-requires-2 c κs = search needs
+
 same-counts-requires : tie.Need-same-counts-requires
 same-counts-requires c κs = search needs
 
@@ -37,24 +46,33 @@ returns c =
     let at8 = c .before .before .before .before .before .before .before .before in
     let at16 = at8 .before .before .before .before .before .before .before .before in
     let at24 = at16 .before .before .before .before .before .before .before .before in
-    let c-args = at24 .before .before .before .before .before .args in
-    let c-same-form = c .before .before .before .before .before .before .before .before .same-form in
+    let at32 = at24 .before .before .before .before .before .before .before .before in
+    let c-args = at32 .args in
+    let c-same-form = at8 .before .before .before .same-form in
+    let c-same-rule = at8 .before .before .same-rule in
+    let c-reserve = at8 .before .reserve in
+    let c-reserve2 = c .before .before .before .before .before .before .before .before .reserve2 in
     let c-same-counts = c .before .before .before .before .before .before .before .same-counts in
     let c-same-amounts = c .before .before .before .before .before .before .same-amounts in
     let c-handovers = c .before .before .before .before .before .handovers in
     let c-same-handovers = c .before .before .before .before .same-handovers in
     let c-same-amounts2 = c .before .before .before .same-amounts2 in
-    same-job (c-args .a) (c-args .b) (c-same-form .ensures) (c-same-counts .ensures) (c-same-amounts .ensures)
+    rw (c-reserve .ensures, c-reserve2 .ensures)
+    (same-job (c-args .a) (c-args .b) (c-same-form .ensures) (c-same-rule .ensures) (c-same-counts .ensures)
+    (c-same-amounts .ensures)
     (rw (c-handovers .ensures) at (c-same-handovers .ensures))
     (c-same-amounts2 .ensures)
     (rw (c .before .before .shortest .ensures) at (c .before .same-shortest .ensures))
-    (c .same-actions .ensures)
+    (c .same-actions .ensures))
 
 pub same-spec : {M : Type 1} → statement M
 same-spec =
     tie.close
     (tie.spec
     same-form-requires
+    same-rule-requires
+    reserve-requires
+    reserve-requires-2
     same-counts-requires
     same-amounts-requires
     handovers-requires

@@ -2,6 +2,7 @@
 -- Assumes nothing.
 use native.Mathlib.Nat.{one-mul}
 use Rattle.jobfile.specs.File.{missized}
+use native.Mathlib.Omega.{arith}
 use borrow.Author.Needs.{needs}
 use Rattle.jobfile.proofs.Layout.missized.Statement.{statement}
 use Rattle.jobfile.proofs.Layout.missized.Tie as tie
@@ -28,7 +29,10 @@ mul-result-3 : tie.Need-mul-result-3
 mul-result-3 c = search needs
 
 div-shortest : tie.Need-div-shortest
-div-shortest c = search needs
+div-shortest c =
+    let at8 = c .before .before .before .before .before .before .before .before in
+    let c-action-size = at8 .before .before .before .before .action-size in
+    let same = c-action-size .ensures in omega arith
 
 shortest-requires : tie.Need-shortest-requires
 shortest-requires c κs = search needs
@@ -40,7 +44,7 @@ returns : tie.Need-returns
 unfolding missized
 returns c =
     let at8 = c .before .before .before .before .before .before .before .before in
-    let c-action-size = at8 .before .before .before .before .before .action-size in
+    let c-action-size = at8 .before .before .before .before .before .before .action-size in
     let c-handovers = c .before .before .before .before .handovers in
     rw (c-handovers .ensures, c .before .shortest .ensures, c-action-size .ensures) (simp one-mul)
 

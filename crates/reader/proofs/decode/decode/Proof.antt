@@ -51,22 +51,32 @@ read-number-requires-3 c κs = search needs
 read-number-requires-4 : tie.Need-read-number-requires-4
 read-number-requires-4 c κs = search needs
 
+rule-requires : tie.Need-rule-requires
+rule-requires c κs = search needs
+
+reserve-requires : tie.Need-reserve-requires
+reserve-requires c κs = search needs
+
 returns : tie.Need-returns
 unfolding jobOf
 returns c =
     let at8 = c .before .before .before .before .before .before .before .before in
-    let c-action-size = at8 .before .before .before .before .before .action-size in
-    let c-amounts = at8 .before .before .before .before .amounts in
-    let c-amounts2 = at8 .before .before .before .amounts2 in
-    let c-actions = at8 .before .before .actions in
-    let c-put-minutes = c .before .before .before .before .before .before .before .before .put-minutes in
-    let c-put-minutes2 = c .before .before .before .before .before .put-minutes2 in
-    let c-read-number = c .before .before .before .read-number in
+    let c-action-size = at8 .before .before .before .before .before .before .before .action-size in
+    let c-amounts = at8 .before .before .before .before .before .before .amounts in
+    let c-amounts2 = at8 .before .before .before .before .before .amounts2 in
+    let c-actions = at8 .before .before .before .before .actions in
+    let c-put-minutes = at8 .before .before .put-minutes in
+    let c-put-minutes2 = c .before .before .before .before .before .before .before .put-minutes2 in
+    let c-read-number = c .before .before .before .before .before .read-number in
+    let c-read-number2 = c .before .before .before .before .read-number2 in
+    let c-read-number3 = c .before .before .before .read-number3 in
     rw (
       c-read-number .ensures .0,
-      c .before .before .read-number2 .ensures .0,
-      c .before .read-number3 .ensures .0,
-      c .read-number4 .ensures .0,
+      c-read-number2 .ensures .0,
+      c-read-number3 .ensures .0,
+      c .before .before .read-number4 .ensures .0,
+      c .before .rule .ensures,
+      c .reserve .ensures,
       c-action-size .ensures,
       c-amounts .ensures,
       c-amounts2 .ensures,
@@ -95,4 +105,6 @@ decode-spec =
     cast-t33
     read-number-requires-3
     read-number-requires-4
+    rule-requires
+    reserve-requires
     returns)

@@ -42,11 +42,14 @@ put-amounts-requires c κs =
 add-put-amounts-2 : tie.Need-add-put-amounts-2
 add-put-amounts-2 c = search needs
 
+cut-requires : tie.Need-cut-requires
+cut-requires c κs = search needs
+
 put-amounts-requires-2 : tie.Need-put-amounts-requires-2
 put-amounts-requires-2 c κs =
     let at8 = c .before .before .before .before .before .before .before .before in
-    let c-pre = at8 .before .before .pre in
-    let c-put-amounts = c .before .before .before .put-amounts in
+    let c-pre = at8 .before .before .before .pre in
+    let c-put-amounts = c .before .before .before .before .put-amounts in
     let h = c-pre in
     let whole = simp length-set at (c-put-amounts .ensures .size) in
     omega arith
@@ -54,20 +57,21 @@ put-amounts-requires-2 c κs =
 same-length : tie.Need-same-length
 same-length c =
     let at8 = c .before .before .before .before .before .before .before .before in
-    let c-args = at8 .before .before .before .before .before .args in
-    let c-minutes = c .before .before .before .before .before .before .before .before .minutes in
-    let c-put-amounts = c .before .before .before .before .before .before .put-amounts in
+    let c-args = at8 .before .before .before .before .before .before .args in
+    let c-minutes = at8 .before .minutes in
+    let c-put-amounts = c .before .before .before .before .before .before .before .put-amounts in
     c .before .before .put-amounts2 .ensures .size ∙ c-put-amounts .ensures .size
     ∙ length-set (c-args .numbers .now) (c-args .i * 9) (c-minutes .result)
 
 returns : tie.Need-returns
 returns c =
     let at8 = c .before .before .before .before .before .before .before .before in
-    let c-pre = at8 .before .before .before .before .before .pre in
-    let c-args = at8 .before .before .before .before .before .args in
-    let c-charged = at8 .before .charged in
-    let c-minutes = c .before .before .before .before .before .before .before .before .minutes in
-    let c-put-amounts = c .before .before .before .before .before .before .put-amounts in
+    let c-pre = at8 .before .before .before .before .before .before .pre in
+    let c-args = at8 .before .before .before .before .before .before .args in
+    let c-charged = at8 .before .before .charged in
+    let c-minutes = at8 .before .minutes in
+    let c-put-amounts = c .before .before .before .before .before .before .before .put-amounts in
+    let c-cut = c .before .before .before .cut in
     let h = c-pre in
     let at = c-args in
     let i = at .i in
@@ -77,7 +81,8 @@ returns c =
     let pools = c-put-amounts .ensures in
     let stores = c .before .before .put-amounts2 .ensures in (
       stores .size ∙ pools .size ∙ length-set xs (i * 9) d ∙ h .0,
-      numbers-put (at .t2) i (h .2) xs _ _ _ d (c-charged .ensures) (h .1) (omega arith) (byte .0) (byte .1) pools stores,
+      numbers-put (at .t2) i (h .2) xs _ _ _ _ d (c-charged .ensures .0) (c-cut .ensures) (h .1) (omega arith) (byte .0)
+          (byte .1) pools stores,
       λ k l.
           stores .before k (omega arith) ∙ pools .before k (omega arith)
           ∙ getD-set-other xs (i * 9) k d 0 (λ e. omega arith),
@@ -97,6 +102,7 @@ put-numbers-spec =
     add-put-amounts
     put-amounts-requires
     add-put-amounts-2
+    cut-requires
     put-amounts-requires-2
     same-length
     returns)

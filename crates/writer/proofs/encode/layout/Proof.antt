@@ -12,17 +12,20 @@ use Rattle.writer.proofs.encode.layout.Tie as tie
 action-size-requires : tie.Need-action-size-requires
 action-size-requires c κs = search needs
 
-mul-t5 : tie.Need-mul-t5
-mul-t5 c = search needs
-
-mul-t6 : tie.Need-mul-t6
-mul-t6 c = search needs
+head-requires : tie.Need-head-requires
+head-requires c κs = search needs
 
 mul-t7 : tie.Need-mul-t7
-mul-t7 c =
-    let c-args = c .before .before .before .before .before .args in
-    let c-pre = c .before .before .before .before .before .pre in
-    let c-action-size = c .before .before .before .action-size in
+mul-t7 c = search needs
+
+mul-t8 : tie.Need-mul-t8
+mul-t8 c = search needs
+
+mul-t9 : tie.Need-mul-t9
+mul-t9 c =
+    let c-args = c .before .before .before .before .before .before .args in
+    let c-pre = c .before .before .before .before .before .before .pre in
+    let c-action-size = c .before .before .before .before .action-size in
     let few = few-action-bytes (c-args .job .counts) (c-pre) in
     rw (c-action-size .ensures) (omega arith)
 
@@ -34,14 +37,15 @@ shortest-requires c κs = search needs
 
 returns : tie.Need-returns
 returns c =
-    let c-args = c .before .before .before .before .before .before .before .args in
-    let c-pre = c .before .before .before .before .before .before .before .pre in
-    let c-action-size = c .before .before .before .before .before .action-size in
+    let c-args = c .before .before .before .before .before .before .before .before .args in
+    let c-pre = c .before .before .before .before .before .before .before .before .pre in
+    let c-action-size = c .before .before .before .before .before .before .action-size in
+    let c-head = c .before .before .before .before .before .head in
     let job = c-args .job in
     let lengths : Counted job _ =
     record {
       form = refl;
-      head = refl;
+      head = c-head .ensures;
       pools = refl;
       stores = refl;
       actions = ap (λ (size : ℕ). job .counts .actions * size) (c-action-size .ensures);
@@ -55,9 +59,10 @@ layout-spec =
     tie.close
     (tie.spec
     action-size-requires
-    mul-t5
-    mul-t6
+    head-requires
     mul-t7
+    mul-t8
+    mul-t9
     handovers-requires
     shortest-requires
     returns)
