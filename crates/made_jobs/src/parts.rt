@@ -3,6 +3,7 @@ use job::Action;
 use job::Counts;
 use job::Form;
 use job::Job;
+use job::StoreRule;
 use job::same::same;
 
 // A job without pools, stores and actions.
@@ -84,8 +85,8 @@ pub fn with_counts(mut job: Job, pools: usize, stores: usize, actions: usize) ->
     job
 }
 
-// The job in another form.
-pub fn with_form(job: Job, form: Form) -> Job {
+// The job in another form and under another rule.
+fn with_kind(job: Job, form: Form, rule: StoreRule) -> Job {
     let counts = job.counts;
     let pools = job.pools;
     let handovers = job.handovers;
@@ -98,6 +99,8 @@ pub fn with_form(job: Job, form: Form) -> Job {
         start: job.start,
         goal: job.goal,
         form,
+        rule,
+        reserve: job.reserve,
         counts,
         pools,
         handovers,
@@ -105,6 +108,19 @@ pub fn with_form(job: Job, form: Form) -> Job {
         shortest,
         actions,
     }
+}
+
+// The job in another form.
+pub fn with_form(job: Job, form: Form) -> Job {
+    let rule = job.rule;
+    with_kind(job, form, rule)
+}
+
+// The job under another rule, with another reserve.
+pub fn with_reserve(mut job: Job, rule: StoreRule, reserve: u8) -> Job {
+    let form = job.form;
+    job.reserve = reserve;
+    with_kind(job, form, rule)
 }
 
 // The job in another form, with other handovers.
@@ -119,21 +135,24 @@ pub fn with_shortest(mut job: Job, form: Form, shortest: [u8; Job::ACTIONS]) -> 
     with_form(job, form)
 }
 
-// The job as if it had every pool, store and action, handovers and shortest lengths.
+// The job as if it had every pool, store and action, handovers, shortest lengths and a reserve.
 fn whole(job: Job) -> Job {
     with_counts(
-        with_form(job, Form::Six),
+        with_kind(job, Form::Six, StoreRule::PerHour),
         Job::POOLS,
         Job::STORES,
         Job::ACTIONS,
     )
 }
 
-// Whether two jobs agree in every place, also beyond their counts and forms.
+// Whether two jobs agree in every place, also beyond their counts, forms and rules.
 pub fn same_everywhere(a: Job, b: Job) -> bool {
     let a_form = a.form;
     let b_form = b.form;
+    let a_rule = a.rule;
+    let b_rule = b.rule;
     (a_form.entries() == b_form.entries())
+        & (a_rule.head() == b_rule.head())
         & (a.counts.pools == b.counts.pools)
         & (a.counts.stores == b.counts.stores)
         & (a.counts.actions == b.counts.actions)

@@ -1,4 +1,4 @@
-// Small random jobs for tests: the same seed gives the same job, and every job passes tests 3 to 11, 27 and 29. In some an
+// Small random jobs for tests: the same seed gives the same job, and every job is within its limits. In some an
 // action uses more of a pool or store than there is (26). What stands beyond the counts and the form is drawn as well,
 // since it is to be ignored.
 mod actions; // the actions of a job
@@ -8,7 +8,9 @@ ghost use Prim.Native.Nat.{_≤_, _<_};
 use job::Counts;
 use job::Form;
 use job::Job;
+use job::StoreRule;
 use made_jobs::parts::with_handovers;
+use made_jobs::parts::with_reserve;
 
 // The largest availabilities, and the most that an action uses of a pool or store.
 const MOST_OF_A_POOL: u8 = 6;
@@ -109,6 +111,14 @@ fn form_of(seed: u64, kind: Kind) -> Form {
     }
 }
 
+// A quarter of the jobs are under the hourly rule, and some others have a reserve that is to be ignored.
+fn rule_of(seed: u64) -> StoreRule {
+    if draw::number(seed, 18, 4) == 0 {
+        return StoreRule::PerHour;
+    }
+    StoreRule::PerStep
+}
+
 // Four handovers of 0 to 3 minutes.
 fn handovers(seed: u64) -> [u8; Job::POOLS] {
     let first = draw::number(seed, 0, 4);
@@ -194,5 +204,6 @@ pub fn random_job(seed: u64) -> Job {
         job.start = 1;
         job.goal = job.goal | 16;
     }
+    let job = with_reserve(job, rule_of(seed), draw::number(seed, 19, 51));
     with_handovers(job, form_of(seed, kind), handovers(draw::part(seed, 16)))
 }

@@ -63,12 +63,32 @@ fn search(day: Day, state: State, left: u32, undecided: usize, decisions: u32) -
     search(day, state, left, number, rest)
 }
 
+// An amount of 64 bits as one of 32; the greatest stands for what is more, of which no store has enough.
+fn cut(amount: u64) -> u32 {
+    if amount <= u32::MAX as u64 {
+        return amount as u32;
+    }
+    u32::MAX
+}
+
+// The action with what a step of it uses up of each store.
+fn charged(job: Job, mut action: Action) -> Action {
+    let amounts = job::resources::charged(job, action);
+    let first = cut(amounts[0]);
+    let second = cut(amounts[1]);
+    let third = cut(amounts[2]);
+    let fourth = cut(amounts[3]);
+    action.stores = [first, second, third, fourth];
+    action
+}
+
 // The first actions of the job.
 fn actions(job: Job) -> [Action; Day::ACTIONS] {
     let mut actions = [Action::unused(); Day::ACTIONS];
     let mut i = 0;
     while i < Day::ACTIONS {
-        actions[i] = job.actions[i];
+        let action = job.actions[i];
+        actions[i] = charged(job, action);
         i += 1;
     }
     actions
@@ -100,7 +120,7 @@ fn least_horizon(day: Day, kept: Kept, minute: u16, deadline: u16) -> Makespan
 
 // The state of a job before any step.
 fn before(job: Job) -> State {
-    let stores = job.stores;
+    let stores = job::resources::allowed(job);
     State {
         facts: job.start,
         minutes: [0u32; Day::ACTIONS],

@@ -5,6 +5,7 @@ mod refused; // the cases
 mod beyond;
 mod forms;
 mod ranges;
+mod season;
 mod trips;
 mod calls; // what they are made with
 mod filled;
@@ -26,4 +27,7 @@ fn main() {
     ranges::ignored();
     ranges::trips();
     ranges::true_days();
+    season::refused();
+    season::ignored();
+    season::trips();
 }

@@ -19,14 +19,17 @@ unused-requires c κs = search needs
 loop-holds : tie.Need-loop-holds Inv-loop μ-loop
 loop-holds c = search needs
 
+mul-action : tie.Need-mul-action Inv-loop μ-loop
+mul-action c = search needs
+
+element-copy-out-action : tie.Need-element-copy-out-action Inv-loop μ-loop
+element-copy-out-action c = search needs
+
+charged-requires : tie.Need-charged-requires Inv-loop μ-loop
+charged-requires c κs = search needs
+
 mul-actions : tie.Need-mul-actions Inv-loop μ-loop
 mul-actions c = search needs
-
-element-copy-out-actions : tie.Need-element-copy-out-actions Inv-loop μ-loop
-element-copy-out-actions c = search needs
-
-mul-actions-2 : tie.Need-mul-actions-2 Inv-loop μ-loop
-mul-actions-2 c = search needs
 
 array-set-from-actions : tie.Need-array-set-from-actions Inv-loop μ-loop
 array-set-from-actions c = search needs
@@ -51,9 +54,10 @@ actions-spec =
     μ-loop
     unused-requires
     loop-holds
+    mul-action
+    element-copy-out-action
+    charged-requires
     mul-actions
-    element-copy-out-actions
-    mul-actions-2
     array-set-from-actions
     add-i
     loop-less
