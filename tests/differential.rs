@@ -292,6 +292,7 @@ fn some_file(r: &mut Random, kind: u64, job: Job) -> Vec<u8> {
     match kind {
         0 => cases::damage(r, cases::file(&job)),
         1 if r.one_in(3) => cases::with_bodies_behind(r, &job),
+        1 if r.one_in(3) => cases::with_head_of(&cases::file(&job), 18 + r.below(4) as usize, r.below(64) as u8),
         1 => cases::resize_bodies(r, cases::file(&job)),
         2 => cases::file(&(0..=r.below(3)).fold(job, |job, _| cases::at_a_limit(r, job))),
         3 => {
@@ -314,12 +315,13 @@ fn small_job(r: &mut Random) -> Job {
 
 fn one_case(case: &mut Case) {
     let mut r = Random::new(case.seed);
-    let size = r.below(8);
+    let size = r.below(9);
     let is_small = size > 1;
     let job = match size {
         0 => cases::job(&mut r, &cases::LARGE),
         1 => cases::job(&mut r, &cases::ROOMY),
         2 | 3 => cases::errands(&mut r),
+        4 => cases::hours(&mut r),
         _ => small_job(&mut r),
     };
     let kind = r.below(10);
@@ -342,7 +344,7 @@ const ALL_SEEN: u64 = 50_000;
 
 /// The numbers of the table that were never told.
 fn never_told(refusals: &[u64]) -> Vec<usize> {
-    (1..=27).chain([29, 30, 35]).filter(|&number| refusals[number] == 0).collect()
+    (1..=27).chain([29, 30, 31, 35]).filter(|&number| refusals[number] == 0).collect()
 }
 
 fn main() {
