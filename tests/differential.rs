@@ -1,6 +1,6 @@
 //! Compares the calls with an independent implementation in plain Rust, on random jobs, files, sets, plans, rates,
-//! begun days and true lengths, through the C interface. Before those it goes through files of each form and through
-//! true lengths one by one, as seed 0.
+//! begun days and true lengths, through the C interface. Before those it goes through files of each form, true lengths
+//! and the limits of stores one by one, as seed 0.
 //! A difference prints the seed of its case and ends with status 1. Arguments: number of cases, first seed.
 mod cases;
 mod forms;
@@ -15,6 +15,7 @@ mod replans;
 #[allow(dead_code)]
 #[path = "../examples/ruhkevois.rs"]
 mod ruhkevois;
+mod season;
 mod simple_planner;
 mod true_days;
 use cases::Random;
@@ -42,7 +43,7 @@ fn expected(end: Result<u64, u64>) -> u64 {
 
 /// What was seen: refusals by number (0: done), prices by their bits, accepted plans and planned ones by their steps,
 /// days by the number of pools that are in use at some minute, days with a pool of which all is in use, what handovers
-/// changed, replans, and true days.
+/// and the hourly rule changed, replans, and true days.
 struct Seen {
     refusals: [u64; 36],
     prices: [u64; 65],
@@ -51,6 +52,7 @@ struct Seen {
     pools: [u64; 5],
     full: u64,
     handovers: handovers::Seen,
+    season: season::Seen,
     replans: replans::Seen,
     true_days: true_days::Seen,
 }
@@ -128,6 +130,9 @@ impl Case<'_> {
         let answer = unsafe { ruhkevois_read(file.as_ptr(), file.len()) };
         let want = job.as_ref().map(|_| file.len() as u64).map_err(|n| *n);
         self.same("read", answer, expected(want));
+        if let Err(number) = want {
+            self.seen.season.read(file, number);
+        }
     }
 
     /// Into a slice of this length, between other bytes: all of them are compared.
@@ -154,6 +159,7 @@ impl Case<'_> {
         self.seen.accepted[if answer & 255 == 0 { plan.len() / 3 } else { 0 }] += 1;
         if let Ok(job) = job {
             self.seen.handovers.checked(job, plan, want);
+            self.seen.season.checked(job, plan, want);
         }
     }
 
@@ -165,8 +171,9 @@ impl Case<'_> {
         };
         let price = job.as_ref().map_err(|n| *n).and_then(|job| plain_price::price(job, plan, rates));
         self.same("price", answer, price.map_or_else(refused, |cents| cents << 8));
-        if let Ok(cents) = price {
+        if let (Ok(job), Ok(cents)) = (job, price) {
             self.seen.prices[64 - cents.leading_zeros() as usize] += 1;
+            self.seen.season.priced(job, plan, rates, cents);
         }
     }
 
@@ -212,6 +219,7 @@ impl Case<'_> {
             Ok(job) => {
                 let least = simple_planner::least_end(job);
                 self.seen.handovers.planned(job, least);
+                self.seen.season.planned(job, least);
                 least.map_or(refused(22), |end| done(end as u64, answer >> 48))
             }
         };
@@ -358,6 +366,7 @@ fn main() {
         pools: [0; 5],
         full: 0,
         handovers: handovers::Seen::default(),
+        season: season::Seen::default(),
         replans: replans::Seen::none(),
         true_days: true_days::Seen::default(),
     };
@@ -365,6 +374,7 @@ fn main() {
         every_call(&mut Case { seed: 0, seen: &mut seen }, &mut Random::new(place as u64), file, false);
     }
     true_days::one_by_one(&mut Case { seed: 0, seen: &mut seen });
+    season::one_by_one(&mut Case { seed: 0, seen: &mut seen });
     for seed in first..first + count {
         one_case(&mut Case { seed, seen: &mut seen });
     }
@@ -374,6 +384,7 @@ fn main() {
     println!("plans written, by steps: {}", counts(&seen.planned));
     println!("days, by pools in use: {}; all of a pool x {}", counts(&seen.pools), seen.full);
     seen.handovers.print();
+    seen.season.print();
     seen.replans.print();
     seen.true_days.print();
     let never = never_told(&seen.refusals);
