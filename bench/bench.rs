@@ -33,6 +33,8 @@ fn largest() -> Vec<u8> {
     };
     let job = plain::Job {
         form: plain::Form::Four,
+        rule: plain::Rule::Once,
+        reserve: 0,
         facts: 64,
         deadline: 1440,
         start: 0,

@@ -1,5 +1,5 @@
 //! Jobs for the benchmark of earliest times, made by code.
-use crate::plain::{write, Action, Form, Job};
+use crate::plain::{write, Action, Form, Job, Rule};
 
 /// A generator of numbers, the same in every run.
 pub struct Random(pub u64);
@@ -30,9 +30,22 @@ pub fn file(job: &Job) -> Vec<u8> {
 }
 
 fn job(facts: u8, start: u64, goal: u64, actions: Vec<Action>) -> Job {
-    let (form, deadline, pools, stores, none) = (Form::Four, 1440, 0, 0, [0; 4]);
-    let (handovers, shortest) = ([0; 4], [0; 64]);
-    Job { form, facts, deadline, start, goal, pools, stores, pool: none, store: none, actions, handovers, shortest }
+    Job {
+        form: Form::Four,
+        rule: Rule::Once,
+        reserve: 0,
+        facts,
+        deadline: 1440,
+        start,
+        goal,
+        pools: 0,
+        stores: 0,
+        pool: [0; 4],
+        store: [0; 4],
+        actions,
+        handovers: [0; 4],
+        shortest: [0; 64],
+    }
 }
 
 /// A small job with any sets, pools that forbid some choices, and lengths that often agree. No action uses more of a pool

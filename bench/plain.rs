@@ -30,8 +30,30 @@ impl Form {
     }
 }
 
+/// The rule that a job's stores go by: a step uses its amount once, or once for each started hour, with a reserve kept
+/// back.
+#[derive(Clone, Copy, PartialEq, Eq)]
+pub enum Rule {
+    Once,
+    Hourly,
+}
+
+impl Rule {
+    pub const BOTH: [Rule; 2] = [Rule::Once, Rule::Hourly];
+
+    /// The bytes of the head of a job's file, which tell the rule.
+    pub fn head(self) -> usize {
+        match self {
+            Rule::Once => 19,
+            Rule::Hourly => 20,
+        }
+    }
+}
+
 pub struct Job {
     pub form: Form,
+    pub rule: Rule,
+    pub reserve: u8, // percent, under the hourly rule
     pub facts: u8,
     pub deadline: u16,
     pub start: u64,
@@ -54,6 +76,22 @@ impl Job {
     /// How many minutes a step of an action takes at least; its duration is the longest length.
     pub fn shortest_length(&self, action: usize) -> u8 {
         if self.form == Form::Six { self.shortest[action] } else { self.actions[action].duration }
+    }
+
+    /// How much of a store a step of an action uses up.
+    pub fn charged(&self, action: &Action, store: usize) -> u32 {
+        match self.rule {
+            Rule::Once => action.stores[store],
+            Rule::Hourly => action.stores[store] * action.duration.div_ceil(60) as u32,
+        }
+    }
+
+    /// How much of a store a plan may use up.
+    pub fn allowed(&self, store: usize) -> u32 {
+        match self.rule {
+            Rule::Once => self.store[store],
+            Rule::Hourly => self.store[store] * (100 - self.reserve as u32) / 100,
+        }
     }
 }
 
@@ -110,7 +148,10 @@ pub fn read(b: &[u8]) -> Result<Job, u64> {
     }
     let (pools, stores) = (size[1] / 4, size[2] / 4);
     let one = 25 + 4 * pools + 4 * stores;
-    if size[0] != 19 || size[1] % 4 != 0 || size[1] > 16 || size[2] % 4 != 0 || size[2] > 16 {
+    let Some(&rule) = Rule::BOTH.iter().find(|rule| rule.head() == size[0]) else {
+        return Err(3);
+    };
+    if size[1] % 4 != 0 || size[1] > 16 || size[2] % 4 != 0 || size[2] > 16 {
         return Err(3);
     }
     if size[3] % one != 0 || size[3] / one > 64 {
@@ -119,8 +160,8 @@ pub fn read(b: &[u8]) -> Result<Job, u64> {
     if form != Form::Four && size[4] != pools || form == Form::Six && size[5] != size[3] / one {
         return Err(3);
     }
-    let head = &b[contents..contents + 19];
-    let pool_at = contents + 19;
+    let pool_at = contents + size[0];
+    let head = &b[contents..pool_at];
     let store_at = pool_at + size[1];
     let action_at = store_at + size[2];
     let handover_at = action_at + size[3];
@@ -130,6 +171,8 @@ pub fn read(b: &[u8]) -> Result<Job, u64> {
     shortest[..size[5]].copy_from_slice(&b[shortest_at..]);
     let job = Job {
         form,
+        rule,
+        reserve: if rule == Rule::Hourly { head[19] } else { 0 },
         facts: head[0],
         deadline: u16_at(head, 1) as u16,
         start: u64_at(head, 3),
@@ -163,6 +206,9 @@ fn validate(j: &Job) -> Result<(), u64> {
     if j.deadline > 1440 {
         return Err(5);
     }
+    if j.rule == Rule::Hourly && j.reserve > 50 {
+        return Err(31);
+    }
     if foreign(j.facts, j.start | j.goal) {
         return Err(6);
     }
@@ -188,8 +234,8 @@ fn validate(j: &Job) -> Result<(), u64> {
     if j.actions.iter().any(|a| a.pools.iter().chain(&a.stores).any(|&x| x > 1_000_000)) {
         return Err(11);
     }
-    let beyond = |used: &[u32; 4], there: &[u32; 4]| used.iter().zip(there).any(|(x, y)| x > y);
-    if j.actions.iter().any(|a| beyond(&a.pools, &j.pool) || beyond(&a.stores, &j.store)) {
+    let beyond = |a: &Action, k: usize| a.pools[k] > j.pool[k] || j.charged(a, k) > j.allowed(k);
+    if j.actions.iter().any(|a| (0..4).any(|k| beyond(a, k))) {
         return Err(26);
     }
     Ok(())
@@ -198,7 +244,7 @@ fn validate(j: &Job) -> Result<(), u64> {
 pub fn write(j: &Job, out: &mut [u8]) -> Result<usize, u64> {
     validate(j)?;
     let one = 25 + 4 * j.pools + 4 * j.stores;
-    let sizes = [19, 4 * j.pools, 4 * j.stores, j.actions.len() * one, j.pools, j.actions.len()];
+    let sizes = [j.rule.head(), 4 * j.pools, 4 * j.stores, j.actions.len() * one, j.pools, j.actions.len()];
     let entries = j.form.entries();
     let length = 4 * entries + sizes[..entries].iter().sum::<usize>();
     if out.len() < length {
@@ -216,6 +262,10 @@ pub fn write(j: &Job, out: &mut [u8]) -> Result<usize, u64> {
     out[at + 3..at + 11].copy_from_slice(&j.start.to_le_bytes());
     out[at + 11..at + 19].copy_from_slice(&j.goal.to_le_bytes());
     at += 19;
+    if j.rule == Rule::Hourly {
+        out[at] = j.reserve;
+        at += 1;
+    }
     let amounts = |out: &mut [u8], at: &mut usize, xs: &[u32]| {
         for x in xs {
             out[*at..*at + 4].copy_from_slice(&x.to_le_bytes());
@@ -287,7 +337,7 @@ pub fn check_lasting(j: &Job, plan: &[u8], lasts: impl Fn(usize, &Action) -> u8)
         }
     }
     for k in 0..j.stores {
-        if steps.iter().map(|s| s.3.stores[k] as u64).sum::<u64>() > j.store[k] as u64 {
+        if steps.iter().map(|s| j.charged(s.3, k) as u64).sum::<u64>() > j.allowed(k) as u64 {
             return Err(18);
         }
     }

@@ -93,13 +93,14 @@ fn plus(sums: &mut [u64; 4], amounts: &[u64; 4], handovers: &[i32; 4], longer: i
     }
 }
 
-/// The search for plans of a job: its handovers, pool by pool, and how long before a start there are events; its
-/// tables; what has begun and what the kept steps add; the rules left out, the horizon, the nodes so far, and the number
-/// of nodes and the instant at which it gives up.
+/// The search for plans of a job: its handovers, pool by pool, and how long before a start there are events; how much
+/// of its stores may be used up; its tables; what has begun and what the kept steps add; the rules left out, the
+/// horizon, the nodes so far, and the number of nodes and the instant at which it gives up.
 struct Search<'a> {
     job: &'a Job,
     handovers: [i32; 4],
     waits: Vec<u32>,
+    allowed: [u32; 4],
     rows: Vec<Row>,
     landmarks: Landmarks,
     times: Times,
@@ -192,7 +193,7 @@ impl Search<'_> {
 
     /// Whether an action leaves the pools and stores enough.
     fn affordable(&self, st: &State, row: &Row) -> bool {
-        !exceeds(&self.job.pool, &st.uses.before, &row.pools) && !exceeds(&self.job.store, &st.uses.spent, &row.stores)
+        !exceeds(&self.job.pool, &st.uses.before, &row.pools) && !exceeds(&self.allowed, &st.uses.spent, &row.stores)
     }
 
     /// What the chosen steps use of each pool in the last minute of the share of a step that stops at minute t.
@@ -306,7 +307,7 @@ impl Search<'_> {
     /// Whether a store has enough left for what is missing.
     fn store_suffices(&self, st: &State, missing: u64, k: usize) -> bool {
         let used = self.landmarks.of_store(k, missing) + SCALE * st.uses.spent[k];
-        used <= SCALE * self.job.store[k] as u64
+        used <= SCALE * self.allowed[k] as u64
     }
 
     /// What the chosen steps use of a pool from a minute on and before the state's, each minute for itself.
@@ -498,11 +499,22 @@ fn search(job: &Job, begun: &Begun, way: &Way) -> (Result<Option<u32>, Late>, u6
     let rows = rows::rows(job);
     let times = plain::times(job);
     let landmarks = Landmarks::new(job, &rows, &times);
-    let (without, most) = (way.without, way.nodes.unwrap_or(u64::MAX));
-    let (given, horizon, nodes) = (0, 0, 0);
-    let (handovers, waits) = ([0, 1, 2, 3].map(|k| job.handover(k) as i32), waits(job));
-    let mut search =
-        Search { job, handovers, waits, rows, landmarks, times, begun, given, without, horizon, nodes, most, until };
+    let mut search = Search {
+        job,
+        handovers: [0, 1, 2, 3].map(|k| job.handover(k) as i32),
+        waits: waits(job),
+        allowed: [0, 1, 2, 3].map(|k| job.allowed(k)),
+        rows,
+        landmarks,
+        times,
+        begun,
+        given: 0,
+        without: way.without,
+        horizon: 0,
+        nodes: 0,
+        most: way.nodes.unwrap_or(u64::MAX),
+        until,
+    };
     search.given = search.adds(begun.kept.iter());
     (search.shortest(), search.nodes)
 }

@@ -9,7 +9,7 @@ pub struct Row {
     pub clashes: u64, // the actions that clash with it, by their numbers
     pub duration: u32,
     pub pools: [u64; 4],
-    pub stores: [u64; 4],
+    pub stores: [u64; 4], // what a step uses up
 }
 
 fn hinders(a: &Action, b: &Action) -> bool {
@@ -33,7 +33,7 @@ fn row(job: &Job, i: usize) -> Row {
         clashes: clash_set(job, i),
         duration: a.duration as u32,
         pools: a.pools.map(u64::from),
-        stores: a.stores.map(u64::from),
+        stores: std::array::from_fn(|k| job.charged(a, k) as u64),
     }
 }
 

@@ -50,7 +50,7 @@ pub enum Answer {
     /// A plan's or a true day's end, an earliest time or a file's length; the number of steps of a plan that was
     /// written or of a true day, else 0; for each pool the most that either or a checked plan uses together, else 0.
     Done { end: u32, steps: u16, peaks: [u32; POOLS] },
-    /// A refusal by its number, 1 to 27, 29, 30 or 35.
+    /// A refusal by its number, 1 to 27, 29 to 31 or 35.
     Refused(u8),
     /// A set of facts that no plan ever has together.
     Unreachable,
@@ -69,7 +69,7 @@ pub struct Rates {
 #[derive(Clone, Copy, Debug, PartialEq, Eq)]
 pub enum Price {
     Cents(u64),
-    /// A refusal by its number, 1 to 27 or 29.
+    /// A refusal by its number, 1 to 27, 29 or 31.
     Refused(u8),
 }
 

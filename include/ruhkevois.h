@@ -15,13 +15,13 @@
  * Answers. Every call answers one number, packed the same way (but for a price that is done, see ruhkevois_price):
  *
  *   bits  0 to  7   kind: RUHKEVOIS_DONE, RUHKEVOIS_REFUSED or RUHKEVOIS_UNREACHABLE
- *   bits  8 to 15   number of the refusal, 1 to 27, 29, 30 or 35 (README.md has the table); 0 unless refused
+ *   bits  8 to 15   number of the refusal, 1 to 27, 29 to 31 or 35 (README.md has the table); 0 unless refused
  *   bits 16 to 47   end: a plan's or a true day's end, an earliest time, or a file's length; 0 unless done
  *   bits 48 to 63   number of steps of a plan that was written or of a true day; 0 otherwise
  *
  * Of the refusals that hold, the one with the place first in the table is told. The file is looked at first: where
- * both the file and the plan, set or slice are bad, the file's refusal (1 to 11, 26, 27, 29) is told. A refusal changes
- * no byte of any slice, and no number of `peaks`.
+ * both the file and the plan, set or slice are bad, one of the file's refusals is told: 1 to 11, 26, 27, 29 or 31. A
+ * refusal changes no byte of any slice, and no number of `peaks`.
  *
  * Peaks. A call that checks a day, hands one out or is told how it went also borrows an array of four numbers. It puts
  * into it for each pool the most that is in use in any minute, and 0 for a pool that the job lacks. The array is never
@@ -67,33 +67,33 @@ extern "C" {
 
 /*
  * Whether a job file is accepted.
- * Done: end is the file's length. Refused: 1 to 11, 26, 27 and 29.
+ * Done: end is the file's length. Refused: the file's.
  */
 uint64_t ruhkevois_read(const uint8_t *file, size_t file_length);
 
 /*
  * Reads a job file and writes its job again, at the front of `out`: an accepted file comes out byte for byte.
  * Done: end is the number of bytes written; the bytes of `out` behind them are kept.
- * Refused: 1 to 11, 26, 27 and 29; 23 where `out` is shorter than the file.
+ * Refused: the file's; 23 where `out` is shorter than the file.
  */
 uint64_t ruhkevois_rewrite(const uint8_t *file, size_t file_length, uint8_t *out, size_t out_length);
 
 /*
  * Whether a plan is accepted for the job of a file and its goal.
  * Done: end is the plan's end, and `peaks` has the peak of each pool.
- * Refused: 1 to 11, 26, 27 and 29 for the file, then 12 to 20 for the plan; `peaks` is kept as it was.
+ * Refused: the file's, then 12 to 20 for the plan; `peaks` is kept as it was.
  */
 uint64_t ruhkevois_check(const uint8_t *file, size_t file_length, const uint8_t *plan, size_t plan_length,
     uint32_t peaks[RUHKEVOIS_POOLS]);
 
 /*
  * What a plan for the job of a file costs, in cents. `pool_rates` has a rate for a unit of each of four pools and a
- * started quarter hour of a step, `store_rates` one for a unit of each of four stores; each is at most 100,000. Rates
- * beyond the job's pools and stores are ignored, but the arrays have four. `evening` is the percentage, at most 100,
- * on the pool charges of steps that end after minute 480; it is worked out once for all of them, and rounded to the
- * cent, halves up.
- * Done: the cents are in bits 8 to 63, RUHKEVOIS_PRICE(answer). Refused: 1 to 11, 26, 27 and 29 for the file, 12 to 20
- * for the plan, then 25 for a rate or the percentage, in bits 8 to 15 as in every call.
+ * started quarter hour of a step, `store_rates` one for a unit of each of four stores, which counts for each started
+ * hour where the file's head has 20 bytes; each is at most 100,000. Rates beyond the job's pools and stores are
+ * ignored, but the arrays have four. `evening` is the percentage, at most 100, on the pool charges of steps that end
+ * after minute 480; it is worked out once for all of them, and rounded to the cent, halves up.
+ * Done: the cents are in bits 8 to 63, RUHKEVOIS_PRICE(answer). Refused: the file's, 12 to 20 for the plan, then 25 for
+ * a rate or the percentage, in bits 8 to 15 as in every call.
  */
 uint64_t ruhkevois_price(const uint8_t *file, size_t file_length, const uint8_t *plan, size_t plan_length,
                          const uint32_t pool_rates[4], const uint32_t store_rates[4], uint32_t evening);
@@ -101,8 +101,7 @@ uint64_t ruhkevois_price(const uint8_t *file, size_t file_length, const uint8_t 
 /*
  * The earliest time of a set of facts (fact n is bit n): no plan for the job of the file has all of them together
  * before that minute.
- * Done: end is the minute, at most 530,400. Unreachable: no plan ever has all of them. Refused: 1 to 11, 26, 27 and 29,
- * then 24.
+ * Done: end is the minute, at most 530,400. Unreachable: no plan ever has all of them. Refused: the file's, then 24.
  */
 uint64_t ruhkevois_earliest(const uint8_t *file, size_t file_length, uint64_t set);
 
@@ -110,8 +109,8 @@ uint64_t ruhkevois_earliest(const uint8_t *file, size_t file_length, uint64_t se
  * Writes a shortest plan for the job of a file to the front of `out`, which has room for 96 bytes.
  * Done: end is the plan's end, and no accepted plan ends earlier; steps is its number of steps, three bytes each; the
  * bytes of `out` behind them are kept. `peaks` has the peak of each pool in that plan.
- * Refused: 1 to 11, 26, 27 and 29 for the file; 21 where `out` has under 96 bytes; 22 where the job has no plan; `out`
- * and `peaks` are kept as they were.
+ * Refused: the file's; 21 where `out` has under 96 bytes; 22 where the job has no plan; `out` and `peaks` are kept as
+ * they were.
  * The search takes as long as the job demands: README.md says how to bound it.
  */
 uint64_t ruhkevois_plan(const uint8_t *file, size_t file_length, uint8_t *out, size_t out_length,
@@ -125,9 +124,8 @@ uint64_t ruhkevois_plan(const uint8_t *file, size_t file_length, uint8_t *out, s
  * Done: end, steps, `out` and `peaks` as from ruhkevois_plan, of the whole day with its kept steps. Where these meet
  * the goal none are added; otherwise no accepted plan that keeps them, and starts none other before the minute, ends
  * earlier.
- * Refused: 1 to 11, 26, 27 and 29 for the file; 24 where the job lacks a fact of the goal; 12 to 19 for the current
- * plan; 21 where `out` has under 96 bytes; 35 where no plan with the kept steps is accepted; `out` and `peaks` are kept
- * as they were.
+ * Refused: the file's; 24 where the job lacks a fact of the goal; 12 to 19 for the current plan; 21 where `out` has
+ * under 96 bytes; 35 where no plan with the kept steps is accepted; `out` and `peaks` are kept as they were.
  * The search takes as long as the job demands: README.md says how to bound it.
  */
 uint64_t ruhkevois_replan(const uint8_t *file, size_t file_length, const uint8_t *plan, size_t plan_length,
@@ -140,8 +138,8 @@ uint64_t ruhkevois_replan(const uint8_t *file, size_t file_length, const uint8_t
  * longest lengths; the same starts then pass with any lengths within the ranges, and the day ends no later.
  * Done: end is the largest start plus true length, 0 for no steps; steps is the number of steps. `peaks` has the peak
  * of each pool; a share is in use from the step's start to its true stop and the pool's handover after it.
- * Refused: 1 to 11, 26, 27 and 29 for the file, 12 to 20 for the plan, then 30 where `lengths` has not one length for
- * each step or one is outside its range; `peaks` is kept as it was.
+ * Refused: the file's, 12 to 20 for the plan, then 30 where `lengths` has not one length for each step or one is
+ * outside its range; `peaks` is kept as it was.
  */
 uint64_t ruhkevois_true_day(const uint8_t *file, size_t file_length, const uint8_t *plan, size_t plan_length,
     const uint8_t *lengths, size_t lengths_length, uint32_t peaks[RUHKEVOIS_POOLS]);

@@ -1,5 +1,5 @@
 //! Random jobs, files and plans, each made from its seed.
-use crate::plain::{self, Action, Form, Job};
+use crate::plain::{self, Action, Form, Job, Rule};
 use crate::plain_price::Rates;
 
 /// A generator of numbers, the same for the same seed.
@@ -57,16 +57,29 @@ pub struct Size {
 pub const SMALL: Size = Size { facts: 7, actions: 6, deadline: 12, duration: 3, set: 2, pool: 8, store: 16 };
 
 /// A job of any size with small sets, in which long plans are accepted.
-pub const ROOMY: Size = Size { facts: 64, actions: 64, deadline: 1440, duration: 60, set: 3, pool: 40, store: 100 };
+pub const ROOMY: Size = Size { facts: 64, actions: 64, deadline: 1440, duration: 121, set: 3, pool: 40, store: 100 };
 
 /// A job of any size with any sets.
 pub const LARGE: Size = Size { facts: 64, actions: 64, deadline: 1440, duration: 255, set: 40, pool: 9, store: 40 };
+
+/// A length up to this one: if that is over an hour, often about a whole number of hours.
+fn length(r: &mut Random, most: u64) -> u8 {
+    if most > 60 && r.one_in(2) {
+        return about_hours(r, most / 60);
+    }
+    1 + r.below(most) as u8
+}
+
+/// A length of so many hours at most, or a minute less or more.
+fn about_hours(r: &mut Random, most: u64) -> u8 {
+    (59 + 60 * r.below(most) + r.below(3)) as u8
+}
 
 fn action(r: &mut Random, job: &Job, size: &Size) -> Action {
     let facts = job.facts as u64;
     let adds = if facts == 0 { 0 } else { 1 << r.below(facts) } | r.set(facts, size.set / 2);
     Action {
-        duration: 1 + r.below(size.duration) as u8,
+        duration: length(r, size.duration),
         needs: r.set(facts, size.set),
         adds,
         deletes: r.set(facts, size.set / 2) & !adds,
@@ -96,6 +109,8 @@ pub fn job(r: &mut Random, size: &Size) -> Job {
     let deadline = least + r.below(size.deadline - least + 1);
     let mut job = Job {
         form: [Form::Four, Form::Five, Form::Six][r.below(3) as usize],
+        rule: Rule::BOTH[r.below(2) as usize],
+        reserve: [0, 50, r.below(51) as u8][r.below(3) as usize],
         facts: facts as u8,
         deadline: deadline as u16,
         start: r.set(facts, size.set),
@@ -118,6 +133,9 @@ pub fn job(r: &mut Random, size: &Size) -> Job {
     if r.one_in(2) {
         scarce_pools(r, &mut job);
     }
+    if r.one_in(4) {
+        scarce_stores(r, &mut job);
+    }
     job
 }
 
@@ -126,6 +144,21 @@ fn scarce_pools(r: &mut Random, job: &mut Job) {
     for k in 0..job.pools {
         let most = job.actions.iter().map(|a| a.pools[k]).max().unwrap_or(0);
         job.pool[k] = most + r.below(2) as u32;
+    }
+}
+
+/// Each store allows as much as one to three steps use up at most, or now and then one less.
+fn scarce_stores(r: &mut Random, job: &mut Job) {
+    for k in 0..job.stores {
+        let most = job.actions.iter().map(|a| job.charged(a, k)).max().unwrap_or(0);
+        let wanted = most * (1 + r.below(3) as u32);
+        job.store[k] = wanted;
+        while job.allowed(k) < wanted {
+            job.store[k] += 1;
+        }
+        if r.one_in(8) {
+            job.store[k] = job.store[k].saturating_sub(1);
+        }
     }
 }
 
@@ -148,15 +181,38 @@ pub fn errands(r: &mut Random) -> Job {
     }
     within_available(&mut job);
     scarce_pools(r, &mut job);
+    if r.one_in(4) {
+        scarce_stores(r, &mut job);
+    }
+    job
+}
+
+/// A day of two to six hours under the hourly rule, and two facts with two ways to each, of one to three hours: which
+/// of them the stores allow decides when it ends.
+pub fn hours(r: &mut Random) -> Job {
+    let mut job = job(r, &SMALL);
+    (job.rule, job.facts, job.start, job.goal) = (Rule::Hourly, 2, 0, 3);
+    (job.deadline, job.actions) = (120 + r.below(240) as u16, Vec::new());
+    for n in 0..4 {
+        let (pools, stores) = (r.amounts(job.pools, 2), r.amounts(job.stores, 3));
+        let needs = if n > 1 && r.one_in(4) { 1 } else { 0 };
+        job.actions.push(Action { duration: about_hours(r, 3), needs, adds: 1 << (n / 2), deletes: 0, pools, stores });
+    }
+    shortest_lengths(r, &mut job);
+    within_available(&mut job);
+    scarce_pools(r, &mut job);
+    scarce_stores(r, &mut job);
     job
 }
 
 /// No action uses more of a pool or store than there is, so that the job is not refused by 26.
 fn within_available(job: &mut Job) {
-    for a in &mut job.actions {
+    for n in 0..job.actions.len() {
         for k in 0..4 {
-            a.pools[k] = a.pools[k].min(job.pool[k]);
-            a.stores[k] = a.stores[k].min(job.store[k]);
+            job.actions[n].pools[k] = job.actions[n].pools[k].min(job.pool[k]);
+            while job.charged(&job.actions[n], k) > job.allowed(k) {
+                job.actions[n].stores[k] -= 1;
+            }
         }
     }
 }
@@ -168,6 +224,8 @@ pub fn file(job: &Job) -> Vec<u8> {
     head.extend(job.deadline.to_le_bytes());
     head.extend(job.start.to_le_bytes());
     head.extend(job.goal.to_le_bytes());
+    head.push(job.reserve);
+    head.truncate(job.rule.head());
     let mut actions = Vec::new();
     for a in &job.actions {
         actions.push(a.duration);
@@ -201,7 +259,16 @@ pub fn contents(sizes: &[usize]) -> Vec<u8> {
     bytes
 }
 
-/// A job at a limit or beyond it, for each of the refusals 4 to 11, 27 and 29.
+/// The file with a head of another length: cut, or with such bytes behind it.
+pub fn with_head_of(file: &[u8], length: usize, byte: u8) -> Vec<u8> {
+    let (mut sizes, bytes) = parts(file);
+    let (head, rest) = bytes.split_at(sizes[0]);
+    let head: Vec<u8> = head.iter().copied().chain(std::iter::repeat(byte)).take(length).collect();
+    sizes[0] = length;
+    [contents(&sizes), head, rest.to_vec()].concat()
+}
+
+/// A job at a limit or beyond it, for each of the refusals 4 to 11, 27, 29 and 31.
 pub fn at_a_limit(r: &mut Random, mut job: Job) -> Job {
     if job.actions.is_empty() {
         job.actions.push(Action { duration: 255, ..Action::default() });
@@ -211,7 +278,7 @@ pub fn at_a_limit(r: &mut Random, mut job: Job) -> Job {
     let foreign = 1 << (job.facts as u64 + over).saturating_sub(1).min(63);
     let one = r.below(job.actions.len() as u64) as usize;
     let action = &mut job.actions[one];
-    match r.below(10) {
+    match r.below(11) {
         0 => job.facts = 64 + over as u8,
         1 => job.deadline = 1440 + over as u16,
         2 => *if r.one_in(2) { &mut job.start } else { &mut job.goal } |= foreign,
@@ -229,6 +296,7 @@ pub fn at_a_limit(r: &mut Random, mut job: Job) -> Job {
             job.form = Form::Six;
             job.shortest[one] = [0, action.duration.wrapping_add(over as u8)][r.below(2) as usize];
         }
+        9 => (job.rule, job.reserve) = (Rule::Hourly, 50 + over as u8),
         _ => action.duration = action.duration.wrapping_add(over as u8) & 1,
     }
     job
@@ -283,7 +351,7 @@ pub fn any_bytes(r: &mut Random, length: usize) -> Vec<u8> {
     match r.below(4) {
         0 if length >= 2 => bytes[..2].copy_from_slice(&[[16, 0], [20, 0], [24, 0]][r.below(3) as usize]),
         1 => {
-            let sizes: Vec<usize> = (0..4 + r.below(3)).map(|_| [0, 1, 4, 19][r.below(4) as usize]).collect();
+            let sizes: Vec<usize> = (0..4 + r.below(3)).map(|_| [0, 1, 4, 19, 20][r.below(5) as usize]).collect();
             bytes.resize(sizes.iter().sum(), 0);
             bytes = [contents(&sizes), bytes].concat();
         }
@@ -348,7 +416,7 @@ pub fn grown_plan(r: &mut Random, job: &Job) -> (Vec<u8>, u64) {
 
 /// The facts that hold at the end of a plan that keeps the rules.
 pub fn held_at_end(job: &Job, plan: &[u8]) -> u64 {
-    let held = (0..64).filter(|&n| plain::check(&Job { goal: 1 << n, ..copy(job) }, plan).is_ok());
+    let held = (0..job.facts).filter(|&n| plain::check(&Job { goal: 1 << n, ..copy(job) }, plan).is_ok());
     held.fold(0, |set, n| set | 1 << n)
 }
 

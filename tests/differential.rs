@@ -1,6 +1,6 @@
 //! Compares the calls with an independent implementation in plain Rust, on random jobs, files, sets, plans, rates,
-//! begun days and true lengths, through the C interface. Before those it goes through files of each form and through
-//! true lengths one by one, as seed 0.
+//! begun days and true lengths, through the C interface. Before those it goes through files of each form, true lengths
+//! and the limits of stores one by one, as seed 0.
 //! A difference prints the seed of its case and ends with status 1. Arguments: number of cases, first seed.
 mod cases;
 mod forms;
@@ -15,6 +15,7 @@ mod replans;
 #[allow(dead_code)]
 #[path = "../examples/ruhkevois.rs"]
 mod ruhkevois;
+mod season;
 mod simple_planner;
 mod true_days;
 use cases::Random;
@@ -42,7 +43,7 @@ fn expected(end: Result<u64, u64>) -> u64 {
 
 /// What was seen: refusals by number (0: done), prices by their bits, accepted plans and planned ones by their steps,
 /// days by the number of pools that are in use at some minute, days with a pool of which all is in use, what handovers
-/// changed, replans, and true days.
+/// and the hourly rule changed, replans, and true days.
 struct Seen {
     refusals: [u64; 36],
     prices: [u64; 65],
@@ -51,6 +52,7 @@ struct Seen {
     pools: [u64; 5],
     full: u64,
     handovers: handovers::Seen,
+    season: season::Seen,
     replans: replans::Seen,
     true_days: true_days::Seen,
 }
@@ -128,6 +130,9 @@ impl Case<'_> {
         let answer = unsafe { ruhkevois_read(file.as_ptr(), file.len()) };
         let want = job.as_ref().map(|_| file.len() as u64).map_err(|n| *n);
         self.same("read", answer, expected(want));
+        if let Err(number) = want {
+            self.seen.season.read(file, number);
+        }
     }
 
     /// Into a slice of this length, between other bytes: all of them are compared.
@@ -154,6 +159,7 @@ impl Case<'_> {
         self.seen.accepted[if answer & 255 == 0 { plan.len() / 3 } else { 0 }] += 1;
         if let Ok(job) = job {
             self.seen.handovers.checked(job, plan, want);
+            self.seen.season.checked(job, plan, want);
         }
     }
 
@@ -165,8 +171,9 @@ impl Case<'_> {
         };
         let price = job.as_ref().map_err(|n| *n).and_then(|job| plain_price::price(job, plan, rates));
         self.same("price", answer, price.map_or_else(refused, |cents| cents << 8));
-        if let Ok(cents) = price {
+        if let (Ok(job), Ok(cents)) = (job, price) {
             self.seen.prices[64 - cents.leading_zeros() as usize] += 1;
+            self.seen.season.priced(job, plan, rates, cents);
         }
     }
 
@@ -212,6 +219,7 @@ impl Case<'_> {
             Ok(job) => {
                 let least = simple_planner::least_end(job);
                 self.seen.handovers.planned(job, least);
+                self.seen.season.planned(job, least);
                 least.map_or(refused(22), |end| done(end as u64, answer >> 48))
             }
         };
@@ -292,6 +300,7 @@ fn some_file(r: &mut Random, kind: u64, job: Job) -> Vec<u8> {
     match kind {
         0 => cases::damage(r, cases::file(&job)),
         1 if r.one_in(3) => cases::with_bodies_behind(r, &job),
+        1 if r.one_in(3) => cases::with_head_of(&cases::file(&job), 18 + r.below(4) as usize, r.below(64) as u8),
         1 => cases::resize_bodies(r, cases::file(&job)),
         2 => cases::file(&(0..=r.below(3)).fold(job, |job, _| cases::at_a_limit(r, job))),
         3 => {
@@ -314,12 +323,13 @@ fn small_job(r: &mut Random) -> Job {
 
 fn one_case(case: &mut Case) {
     let mut r = Random::new(case.seed);
-    let size = r.below(8);
+    let size = r.below(9);
     let is_small = size > 1;
     let job = match size {
         0 => cases::job(&mut r, &cases::LARGE),
         1 => cases::job(&mut r, &cases::ROOMY),
         2 | 3 => cases::errands(&mut r),
+        4 => cases::hours(&mut r),
         _ => small_job(&mut r),
     };
     let kind = r.below(10);
@@ -342,7 +352,7 @@ const ALL_SEEN: u64 = 50_000;
 
 /// The numbers of the table that were never told.
 fn never_told(refusals: &[u64]) -> Vec<usize> {
-    (1..=27).chain([29, 30, 35]).filter(|&number| refusals[number] == 0).collect()
+    (1..=27).chain([29, 30, 31, 35]).filter(|&number| refusals[number] == 0).collect()
 }
 
 fn main() {
@@ -356,6 +366,7 @@ fn main() {
         pools: [0; 5],
         full: 0,
         handovers: handovers::Seen::default(),
+        season: season::Seen::default(),
         replans: replans::Seen::none(),
         true_days: true_days::Seen::default(),
     };
@@ -363,6 +374,7 @@ fn main() {
         every_call(&mut Case { seed: 0, seen: &mut seen }, &mut Random::new(place as u64), file, false);
     }
     true_days::one_by_one(&mut Case { seed: 0, seen: &mut seen });
+    season::one_by_one(&mut Case { seed: 0, seen: &mut seen });
     for seed in first..first + count {
         one_case(&mut Case { seed, seen: &mut seen });
     }
@@ -372,6 +384,7 @@ fn main() {
     println!("plans written, by steps: {}", counts(&seen.planned));
     println!("days, by pools in use: {}; all of a pool x {}", counts(&seen.pools), seen.full);
     seen.handovers.print();
+    seen.season.print();
     seen.replans.print();
     seen.true_days.print();
     let never = never_told(&seen.refusals);

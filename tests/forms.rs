@@ -1,13 +1,18 @@
-//! Files of each form, gone through one by one: every length, every byte of the contents, every handover, every
-//! shortest length, and bodies of other lengths behind contents that say so.
+//! Files of each form with both heads, gone through one by one: every length, every byte of the contents, every
+//! handover, every shortest length, every reserve, and bodies of other lengths behind contents that say so.
 use crate::cases::{self, Random};
-use crate::plain::{self, Form, Job};
+use crate::plain::{self, Form, Job, Rule};
 
-/// A small job with so many pools, in six entries.
+/// A small job with so many pools and a store, in six entries, that both rules accept.
 fn job_with(pools: usize) -> Job {
     let mut jobs = (0..).map(|seed| cases::errands(&mut Random::new(seed)));
-    let accepted = |job: &Job| job.pools == pools && plain::read(&cases::file(job)).is_ok();
-    in_form(&jobs.find(accepted).expect("a job"), Form::Six)
+    let accepted = |job: &Job| Rule::BOTH.iter().all(|&rule| plain::read(&cases::file(&under(job, rule))).is_ok());
+    let job = jobs.find(|job| job.pools == pools && job.stores > 0 && accepted(job));
+    in_form(&job.expect("a job"), Form::Six)
+}
+
+fn under(job: &Job, rule: Rule) -> Job {
+    Job { rule, ..cases::copy(job) }
 }
 
 fn in_form(job: &Job, form: Form) -> Job {
@@ -52,6 +57,16 @@ fn bodies(file: &[u8]) -> Vec<Vec<u8>> {
     files
 }
 
+/// The file with a head of each length up to 24: cut, or with bytes behind that are 1.
+fn heads(file: &[u8]) -> impl Iterator<Item = Vec<u8>> + '_ {
+    (0..=24).map(|length| cases::with_head_of(file, length, 1))
+}
+
+/// The file with each reserve.
+fn reserves(job: &Job) -> impl Iterator<Item = Vec<u8>> + '_ {
+    (0..=255).map(|reserve| cases::file(&Job { rule: Rule::Hourly, reserve, ..cases::copy(job) }))
+}
+
 /// The file with a body more, of each length up to this one and of bytes that are 1: the fifth, or the sixth.
 fn with_another_body(job: &Job, most: usize) -> Vec<Vec<u8>> {
     let (sizes, bytes) = cases::parts(&cases::file(job));
@@ -87,15 +102,19 @@ fn handovers(job: &Job) -> Vec<Vec<u8>> {
     files
 }
 
-/// Files about jobs with each number of pools, in each form.
+/// Files about jobs with each number of pools, in each form and with both heads.
 pub fn every_file() -> Vec<Vec<u8>> {
     let mut files = Vec::new();
     for job in (0..=4).map(job_with) {
         for form in [Form::Four, Form::Five, Form::Six] {
-            let file = cases::file(&in_form(&job, form));
-            files.extend(lengths(&file));
-            files.extend(contents(&file));
-            files.extend(bodies(&file));
+            for rule in Rule::BOTH {
+                let file = cases::file(&under(&in_form(&job, form), rule));
+                files.extend(lengths(&file));
+                files.extend(contents(&file));
+                files.extend(bodies(&file));
+                files.extend(heads(&file));
+            }
+            files.extend(reserves(&in_form(&job, form)));
         }
         files.extend(with_another_body(&in_form(&job, Form::Four), 8));
         files.extend(with_another_body(&in_form(&job, Form::Five), 70));

@@ -19,6 +19,7 @@ struct Job {
     facts: u64,
     deadline: u64,
     sets: [u64; 2], // start, goal
+    reserve: Option<u64>, // the last byte of the head, where it has 20
     amounts: [Vec<u64>; 2], // pools, stores
     actions: Vec<Action>,
     handovers: Option<Vec<u64>>, // the bytes of the fifth body, where they are named
@@ -187,6 +188,7 @@ fn change(job: &mut Job, text: &str, names: &Names) -> Result<(), Fault> {
         "deadline" => job.deadline = count(rest, 0)?,
         "start" => job.sets[0] = set(rest, 0)?,
         "goal" => job.sets[1] = set(rest, 0)?,
+        "reserve" => job.reserve = Some(count(rest, 0)?),
         "pool" => change_amounts(&mut job.amounts[0], rest)?,
         "store" => change_amounts(&mut job.amounts[1], rest)?,
         "action" | "actions" | "every" => change_actions(job, word, rest)?,
@@ -222,7 +224,8 @@ fn bodies(job: &Job) -> Vec<Vec<u8>> {
         actions.extend([0, 1].iter().flat_map(|k| amount_bytes(&action.uses[*k], counts[*k])));
     }
     let sets = job.sets.iter().flat_map(|set| bytes_of(*set, 8));
-    let head = bytes_of(job.facts, 1).into_iter().chain(bytes_of(job.deadline, 2)).chain(sets).collect();
+    let reserve = job.reserve.map(|percent| percent as u8);
+    let head = bytes_of(job.facts, 1).into_iter().chain(bytes_of(job.deadline, 2)).chain(sets).chain(reserve).collect();
     let amounts = [0, 1].map(|k| amount_bytes(&job.amounts[k], counts[k]));
     let none = job.shortest.as_ref().map(|_| vec![0; counts[0]]);
     let minutes = [job.handovers.clone().or(none), job.shortest.clone()];

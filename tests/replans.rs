@@ -173,7 +173,9 @@ impl Case<'_> {
         }
         if let (Ok(job), Ok(Day::Planned(_))) = (job, day) {
             let kept = plain_replan::begun(&asked.current, asked.minute);
-            self.seen.handovers.replanned(job, &plain_replan::steps_of(&kept), asked.minute);
+            let steps = plain_replan::steps_of(&kept);
+            self.seen.handovers.replanned(job, &steps, asked.minute);
+            self.seen.season.replanned(job, &steps);
         }
     }
 }

@@ -5,9 +5,13 @@ use std::collections::HashSet;
 
 const STEPS: u8 = 32;
 
+/// The latest deadline of a short day. In a longer one, steps start only at the first free minute and where a step has
+/// stopped or a share is free again: a step that starts elsewhere could start a minute earlier.
+const SHORT: u16 = 40;
+
 /// What plans have reached at a minute: the facts that hold, the running actions with the minutes left of each, the
 /// amounts of pools that are handed over (those that are free in a minute, in two, and so on), the amounts of stores
-/// used up, and the number of steps.
+/// used up, the number of steps, and whether steps start now.
 #[derive(Clone, PartialEq, Eq, Hash)]
 struct State {
     facts: u64,
@@ -15,6 +19,7 @@ struct State {
     handed_over: Vec<[u32; 4]>,
     used: [u32; 4],
     steps: u8,
+    starts: bool,
 }
 
 fn clash(job: &Job, i: usize, k: usize) -> bool {
@@ -33,14 +38,14 @@ fn may_start(job: &Job, state: &State, i: usize, left: u16) -> bool {
         && state.steps < STEPS
         && state.running.iter().all(|r| !clash(job, i, r.0))
         && (0..job.pools).all(|k| in_use(k) + a.pools[k] <= job.pool[k])
-        && (0..job.stores).all(|k| state.used[k] + a.stores[k] <= job.store[k])
+        && (0..job.stores).all(|k| state.used[k] + job.charged(a, k) <= job.allowed(k))
 }
 
 fn started(job: &Job, state: &State, i: usize) -> State {
     let mut next = state.clone();
     next.running.push((i, job.actions[i].duration));
     for k in 0..job.stores {
-        next.used[k] += job.actions[i].stores[k];
+        next.used[k] += job.charged(&job.actions[i], k);
     }
     next.steps += 1;
     next
@@ -61,6 +66,8 @@ fn a_minute_later(job: &Job, state: &State) -> State {
     next.running.iter_mut().for_each(|r| r.1 -= 1);
     let ending: Vec<&Action> = next.running.iter().filter(|r| r.1 == 0).map(|r| &job.actions[r.0]).collect();
     next.handed_over = handed_over_later(job, &state.handed_over, &ending);
+    let free_again = state.handed_over.first().is_some_and(|amounts| *amounts != [0; 4]);
+    next.starts = job.deadline <= SHORT || !ending.is_empty() || free_again;
     next.facts &= !ending.iter().fold(0, |set, a| set | a.deletes);
     next.facts |= ending.iter().fold(0, |set, a| set | a.adds);
     next.running.retain(|r| r.1 > 0);
@@ -97,7 +104,7 @@ pub fn least_end(job: &Job) -> Option<u16> {
 pub fn least_end_begun(job: &Job, kept: &[(u32, usize)], first_free: u32) -> Option<u16> {
     let longest = (0..job.pools).map(|k| job.handover(k)).max().unwrap_or(0);
     let handed_over = vec![[0; 4]; longest as usize];
-    let begin = State { facts: job.start, running: Vec::new(), handed_over, used: [0; 4], steps: 0 };
+    let begin = State { facts: job.start, running: Vec::new(), handed_over, used: [0; 4], steps: 0, starts: true };
     let mut states = HashSet::from([begin]);
     for minute in 0..=job.deadline {
         let all_started = kept.iter().all(|step| step.0 < minute as u32);
@@ -108,8 +115,10 @@ pub fn least_end_begun(job: &Job, kept: &[(u32, usize)], first_free: u32) -> Opt
         for state in &states {
             if (minute as u32) < first_free {
                 next.insert(a_minute_later(job, &with_kept(job, state, kept, minute as u32)));
-            } else {
+            } else if state.starts || minute as u32 == first_free {
                 go_on(job, state, 0, job.deadline - minute, &mut next);
+            } else {
+                next.insert(a_minute_later(job, state));
             }
         }
         states = next;

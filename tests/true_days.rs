@@ -1,7 +1,7 @@
 //! True days through the exported call, each compared with the plain version. Where one is told, the document's promise
 //! is tested too: the same starts pass the checker with the true lengths.
 use crate::cases::{self, Random};
-use crate::plain::{self, Action, Form, Job};
+use crate::plain::{self, Action, Form, Job, Rule};
 use crate::plain_true_day::{self, range, true_day, within_ranges};
 use crate::ruhkevois::exported::ruhkevois_true_day;
 use crate::{done, refused, Case, BEFORE};
@@ -124,31 +124,36 @@ impl Case<'_> {
     }
 }
 
-/// Three observations under trees, of 40 to 70, 71 and 72 minutes, with a receiver each of two.
-fn under_trees(form: Form) -> Job {
-    let action = |n: u8| Action { duration: 70 + n, adds: 1 << n, pools: [1, 0, 0, 0], ..Action::default() };
+/// Three observations under trees, of 40 to 70, 71 and 72 minutes, with a receiver each of two. The longest lengths use
+/// all the batteries that the hourly rule allows.
+fn under_trees(form: Form, rule: Rule) -> Job {
+    let (pools, stores) = ([1, 0, 0, 0], [1, 0, 0, 0]);
+    let action = |n: u8| Action { duration: 70 + n, adds: 1 << n, pools, stores, ..Action::default() };
     Job {
         form,
+        rule,
+        reserve: 50,
         facts: 3,
         deadline: 212,
         start: 0,
         goal: 7,
         pools: 1,
-        stores: 0,
+        stores: 1,
         pool: [2, 0, 0, 0],
-        store: [0; 4],
+        store: [12, 0, 0, 0],
         actions: (0..3).map(action).collect(),
         handovers: [5, 0, 0, 0],
         shortest: [40; 64],
     }
 }
 
-/// A day in each form, gone through one by one: every length of each step, and every number of lengths up to 600. The
-/// first step may stop before the second starts or after it.
+/// A day in each form and under both rules, gone through one by one: every length of each step, and every number of
+/// lengths up to 600. The first step may stop before the second starts or after it.
 pub fn one_by_one(case: &mut Case) {
     let (plan, longest) = ([0, 0, 0, 1, 60, 0, 2, 140, 0], [70, 71, 72]);
-    for form in [Form::Four, Form::Five, Form::Six] {
-        let file = cases::file(&under_trees(form));
+    let forms = [Form::Four, Form::Five, Form::Six];
+    for job in forms.into_iter().flat_map(|form| Rule::BOTH.map(|rule| under_trees(form, rule))) {
+        let file = cases::file(&job);
         let job = plain::read(&file);
         for step in 0..3 {
             for length in 0..=255 {
