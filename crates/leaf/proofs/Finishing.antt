@@ -110,7 +110,7 @@ module _ (J : Job) (frame : Frame) (steps s : Steps) (same : Reordered steps s) 
 
 -- the file has a job
 pub finishes-read : (file : List ℕ) (frame : Frame) (steps s : Steps) (reading : Reading) (r : Answer)
-    → reading ≡ readFile file → (job : held.Job) → job ≡ resumedValue (reading .job) (frame .start) (frame .stocks)
+    → reading ≡ readFile file → (job : held.Job) → job ≡ resumedValue (reading .job) (frame .start) (frame .supplies)
     → steps .count ≤ 32 → Reordered steps s → Ordered s (s .count)
     → Answers (jobIn job) (frame .goal) (frame .horizon) s r → Finishes file frame steps r
 finishes-read file frame steps s reading r e job begun few same ordered a =
@@ -124,11 +124,11 @@ finishes-read file frame steps s reading r e job begun few same ordered a =
           dead J frame steps s same ordered (have .passes) asked r (answers J have) f b t l;
     }
   where
-    answers : (J : Job) → FileOf J file (frame .start) (frame .stocks) → Answers J (frame .goal) (frame .horizon) s r
+    answers : (J : Job) → FileOf J file (frame .start) (frame .supplies) → Answers J (frame .goal) (frame .horizon) s r
     answers J have =
         let q : jobIn job ≡ J =
         ap jobIn begun
-        ∙ job-in-resumed (reading .job) (frame .start) (frame .stocks)
-        ∙ ap (λ (x : Reading). resumed (jobIn (x .job)) (frame .start) (frame .stocks)) (e ∙ have .read)
+        ∙ job-in-resumed (reading .job) (frame .start) (frame .supplies)
+        ∙ ap (λ (x : Reading). resumed (jobIn (x .job)) (frame .start) (frame .supplies)) (e ∙ have .read)
         ∙ have .same in
         subst (λ (K : Job). Answers K (frame .goal) (frame .horizon) s r) q a

@@ -52,11 +52,11 @@ abbrev pub Answers : Job → ℕ → ℕ → Steps → Answer → Type 0
 Answers J goal T steps r =
     r ≡ answerOf (checkFor J goal (planBytes (inOrder J steps))) T (steps .count) (planOf J steps)
 
--- J is the job of the file with these facts at its start and these stocks, and passes its tests
-pub record FileOf (J : Job) (file : List ℕ) (start : ℕ) (stocks : List ℕ) : Type 0 where
+-- J is the job of the file with these facts at its start and so much in its stores, and passes its tests
+pub record FileOf (J : Job) (file : List ℕ) (start : ℕ) (supplies : List ℕ) : Type 0 where
   pub value : held.Job
   pub read : readFile file ≡ record { verdict = Pass; job = value }
-  pub same : resumed (jobIn value) start stocks ≡ J
+  pub same : resumed (jobIn value) start supplies ≡ J
   pub passes : first (jobRows J) ≡ Pass
 
 -- the bytes of the answer's plan
@@ -80,11 +80,11 @@ pub record Asked (J : Job) (frame : Frame) (steps : Steps) : Type 0 where
 
 -- a plan that is found is accepted and has the chosen steps; where none is, they are a dead end
 pub record Finishes (file : List ℕ) (frame : Frame) (steps : Steps) (r : Answer) : Type 0 where
-  pub found : r .found ≡ true → (J : Job) → FileOf J file (frame .start) (frame .stocks)
+  pub found : r .found ≡ true → (J : Job) → FileOf J file (frame .start) (frame .supplies)
       → Found J (frame .goal) (frame .horizon) r
-  pub same : r .found ≡ true → (J : Job) → FileOf J file (frame .start) (frame .stocks)
+  pub same : r .found ≡ true → (J : Job) → FileOf J file (frame .start) (frame .supplies)
       → Known (length (J .actions)) steps → ((k : ℕ) → k < steps .count → getD (steps .starts) k 0 < 65536)
       → Permutation (stepsIn J (bytesIn r)) (chosen J steps)
-  pub dead : r .found ≡ false → (J : Job) → FileOf J file (frame .start) (frame .stocks) → Asked J frame steps
+  pub dead : r .found ≡ false → (J : Job) → FileOf J file (frame .start) (frame .supplies) → Asked J frame steps
       → (b : From) (t : ℕ) → t ≤ b .minute
       → Dead J b (frame .goal) (frame .horizon) (Until b t) (chosen J steps)

@@ -63,7 +63,7 @@ pub fn as_plan(job: Job, goal: u64, horizon: u16, steps: Steps) -> Answer
     }
 }
 
-// The chosen steps as a plan of the file's job, begun with the frame's facts and stocks; or nothing, and then they are
+// The chosen steps as a plan of the file's job, begun with the frame's facts and supplies; or nothing, and then they are
 // a dead end.
 pub fn finish(file: &[u8], frame: Frame, steps: Steps) -> Answer
     requires { ⌜ steps .count ≤ 32 ⌝ }
@@ -74,7 +74,7 @@ pub fn finish(file: &[u8], frame: Frame, steps: Steps) -> Answer
     let Verdict::Pass = verdict else {
         return nothing();
     };
-    let stocks = frame.stocks;
-    let job = resumed::resumed(reading.job, frame.start, stocks);
+    let supplies = frame.supplies;
+    let job = resumed::resumed(reading.job, frame.start, supplies);
     as_plan(job, frame.goal, frame.horizon, order::in_order(steps))
 }

@@ -81,7 +81,7 @@ plan-permuted J T goal o plan =
 -- a plan that the leaf finds has the kept steps, and else new ones
 pub found-when-finished : (J : Job) (file : List ℕ) (frame : Frame) (steps : Steps) (r : Answer) → KeepsKept frame steps
     → Known (frame .actions) steps → ((k : ℕ) → k < steps .count → getD (steps .starts) k 0 < 65536)
-    → Finishes file frame steps r → r .found ≡ true → FileOf J file (frame .start) (frame .stocks)
+    → Finishes file frame steps r → r .found ≡ true → FileOf J file (frame .start) (frame .supplies)
     → length (J .actions) ≡ frame .actions
     → FoundFor J frame r
 found-when-finished J file frame steps r keeps known starts finishes e have count =

@@ -25,6 +25,7 @@ until frame T =
       pools = frame .pools;
       stores = frame .stores;
       available = frame .available;
+      supplies = frame .supplies;
       stocks = frame .stocks;
       handovers = frame .handovers;
       start = frame .start;

@@ -31,7 +31,7 @@ CountsFor J frame bytes = stepsBefore (fromOf frame) (stepsIn J bytes) ≡ inOrd
 
 -- everything that is lent is of this job
 pub record TaskOf (J : Job) (file sets numbers times : List ℕ) (frame : Frame) : Type 0 where
-  pub inFile : FileOf J file (frame .start) (frame .stocks)
+  pub inFile : FileOf J file (frame .start) (frame .supplies)
   pub described : Describes J sets numbers frame
   pub timely : TimesBound J (frame .first) (keptOf J frame) (frame .origin) times
   pub goal : foreign (J .facts) (frame .goal) ≡ false
@@ -59,7 +59,7 @@ pub record FoundFor (J : Job) (frame : Frame) (r : Answer) : Type 0 where
 -- for every job in the file that has the frame's number of actions
 abbrev pub FoundIn : List ℕ → Frame → Answer → Type 0
 FoundIn file frame r =
-    (J : Job) → FileOf J file (frame .start) (frame .stocks) → length (J .actions) ≡ frame .actions → FoundFor J frame r
+    (J : Job) → FileOf J file (frame .start) (frame .supplies) → length (J .actions) ≡ frame .actions → FoundFor J frame r
 
 -- the answer of a search: a plan found is accepted and has the kept steps; none found makes a dead end
 pub record Answered (file : List ℕ) (frame : Frame) (Dead : Type 0) (r : Answer) : Type 0 where

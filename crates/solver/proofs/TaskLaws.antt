@@ -81,8 +81,9 @@ filled-still job sets numbers sets′ numbers′ passes filled keptSets keptNumb
             byte = f .byte;
             pools = λ pool m.
                 let p = limits .fewPools in keptNumbers .same (i * 9 + 1 + pool) (omega arith) ∙ f .pools pool m;
-            stores = λ store m.
-                let p = limits .fewStores in keptNumbers .same (i * 9 + 5 + store) (omega arith) ∙ f .stores store m;
+            stores = λ store m small.
+                let p = limits .fewStores in
+                keptNumbers .same (i * 9 + 5 + store) (omega arith) ∙ f .stores store m small;
           };
     }
 

@@ -58,6 +58,7 @@ frameOf job goal first kept handovers =
       pools = job .counts .pools;
       stores = job .counts .stores;
       available = job .pools;
+      supplies = job .stores;
       stocks = allowedIn job;
       handovers = handovers;
       start = job .start;

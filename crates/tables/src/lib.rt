@@ -21,7 +21,8 @@ pub struct Frame {
     pub pools: usize,
     pub stores: usize,
     pub available: [u32; Job::POOLS],
-    pub stocks: [u32; Job::STORES],
+    pub supplies: [u32; Job::STORES], // what the stores have
+    pub stocks: [u32; Job::STORES], // how much of it may be used up
     pub handovers: [u8; Job::POOLS],
     pub start: u64,
     pub goal: u64,
@@ -40,6 +41,7 @@ impl Frame {
     {
         let counts = job.counts;
         let available = job.pools;
+        let supplies = job.stores;
         let stocks = resources::allowed(job);
         let handovers = resources::handovers(job);
         Frame {
@@ -48,6 +50,7 @@ impl Frame {
             pools: counts.pools,
             stores: counts.stores,
             available: available,
+            supplies: supplies,
             stocks: stocks,
             handovers: handovers,
             start: job.start,
