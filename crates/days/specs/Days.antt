@@ -1,4 +1,4 @@
--- "Days to try it on": the starred cases, as one list.
+-- "Days to try it on": the starred cases, as one list; and days for the quoting screen (document 02, l).
 -- Assumes nothing.
 use Prim.Native.Nat.{ℕ}
 use mathlib.Core.Path.{_≡_}
@@ -7,8 +7,10 @@ use lib.ListN.{replicate}
 use Rattle.encoding.specs.Bytes.{toBytes}
 use Rattle.job.specs.Job.{Action, Job}
 use Rattle.job.specs.Refusal.{number, Reply, refused, returned}
-use Rattle.job.specs.declared.Form.the-variants.{Four}
-use Rattle.job.specs.declared.StoreRule.the-variants.{PerStep}
+use Rattle.job.specs.declared.Form.{Form}
+use Rattle.job.specs.declared.Form.the-variants.{Four, Five, Six}
+use Rattle.job.specs.declared.StoreRule.{StoreRule}
+use Rattle.job.specs.declared.StoreRule.the-variants.{PerStep, PerHour}
 use Rattle.job.specs.declared.refusal.Refusal.the-variants.{NoPlan}
 use Rattle.timeline.specs.Day.{Told, dayReply}
 use Rattle.checker.specs.Check.{checkPlan}
@@ -113,6 +115,30 @@ job6 =
 abbrev pub job7 : ℕ → ℕ → Job
 job7 store deadline = twoActions deadline [] (store ∷ []) [] (2 ∷ [])
 
+-- a day for the quoting screen (document 02, l), with the parts that forms and rules tell apart. Facts 0 to 3, start {0}, a
+-- pool of 1 and a store of 5; each action uses 1 of both. Action 0: length 10, needs 0, adds 1. Action 1: length 5,
+-- needs 0, adds 2. Action 2: length 70, needs 1 and 2, adds 3.
+abbrev pub quoted : Form → StoreRule → ℕ → List ℕ → List ℕ → Job
+quoted form rule reserve handovers shortest =
+    record {
+      facts = 4;
+      deadline = 100;
+      start = 1;
+      goal = 8;
+      form = form;
+      rule = rule;
+      reserve = reserve;
+      pools = 1 ∷ [];
+      handovers = handovers;
+      stores = 5 ∷ [];
+      shortest = shortest;
+      actions = sharing 10 1 2 ∷ sharing 5 1 4 ∷ sharing 70 6 8 ∷ [];
+    }
+  where
+    sharing : ℕ → ℕ → ℕ → Action
+    sharing duration needs adds =
+        record { duration = duration; needs = needs; adds = adds; deletes = 0; pools = 1 ∷ []; stores = 1 ∷ [] }
+
 -- ── plans ──
 
 -- "a step is the action (1 byte), then the start (2 bytes)"
@@ -180,3 +206,20 @@ days =
     ∷ checked (job2 6) (step 1 0 ++ step 2 2 ++ step 0 4) (refused 15)
     ∷ checked (job2 7) [] (refused 20)
     ∷ []
+
+-- ── the quoting screen (document 02, l) ──
+
+-- "all file forms, both battery rules": files of four, five and six entries, each with a head of 19 bytes and of 20
+abbrev pub quotedJobs : List Job
+quotedJobs =
+    quoted Four PerStep 0 [] []
+    ∷ quoted Five PerStep 0 (2 ∷ []) []
+    ∷ quoted Six PerStep 0 (2 ∷ []) (9 ∷ 5 ∷ 60 ∷ [])
+    ∷ quoted Four PerHour 20 [] []
+    ∷ quoted Five PerHour 20 (2 ∷ []) []
+    ∷ quoted Six PerHour 20 (2 ∷ []) (9 ∷ 5 ∷ 60 ∷ [])
+    ∷ []
+
+-- "sets of every size, not the goal alone": one fact, two, three and all
+abbrev pub quotes : Job → List Day
+quotes J = earliest J 2 (at 10) ∷ earliest J 6 (at 15) ∷ earliest J 7 (at 15) ∷ earliest J 15 (at 85) ∷ []

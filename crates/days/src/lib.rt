@@ -1,1 +1,1 @@
-// The worked days of document 01 that are shown of the definitions: the list in specs/, the theorem in proofs/.
+// Worked days that are shown of the definitions, of documents 01 and 02: the lists in specs/, the theorems in proofs/.

@@ -23,7 +23,7 @@ use Rattle.times.proofs.PlanSteps.{plan-of-accepted}
 use Rattle.times.proofs.Admissible.{held-set-not-before-its-time, unreachable-set-never-holds}
 
 -- a time that is at most t is a number
-number-by : (time : Time) (t : ℕ) → By time t → (x : ℕ) × (time ≡ at x) × (x ≤ t)
+pub number-by : (time : Time) (t : ℕ) → By time t → (x : ℕ) × (time ≡ at x) × (x ≤ t)
 number-by (at x) t by = (x, refl, by)
 number-by unreachable t by = absurd by
 
