@@ -206,12 +206,7 @@ module _ (J : Job) (T : Table) (solves : Solves J T) (horizon goal : ℕ) (P : L
       (held-comes-from (J .start) P t q hq))
       (held-comes-from (J .start) P t p hp)
 
-  -- two facts that hold together at minute t have a time of at most t
-  pub held-pair-not-before-its-time : (p q t : ℕ) → p ≤ q → q < J .facts → has (held (J .start) P t) p ≡ true
-      → has (held (J .start) P t) q ≡ true → By (T p q) t
-  held-pair-not-before-its-time p q t = timely (suc t) t (omega arith) p q
-
-  -- and so has every set of facts
+  -- a set of facts that holds together at minute t has a time of at most t
   pub held-set-not-before-its-time : (set t : ℕ) → Subset set (held (J .start) P t) → By (timeOf J T set) t
   held-set-not-before-its-time set t = timely-set J T P t (timely (suc t) t (omega arith)) set
 
@@ -219,7 +214,3 @@ module _ (J : Job) (T : Table) (solves : Solves J T) (horizon goal : ℕ) (P : L
   pub unreachable-set-never-holds : (set t : ℕ) → timeOf J T set ≡ unreachable
       → Subset set (held (J .start) P t) → ⊥
   unreachable-set-never-holds set t e h = by-same t e (held-set-not-before-its-time set t h)
-
-  -- nor is the goal met before its time
-  pub goal-not-before-its-time : By (timeOf J T goal) horizon
-  goal-not-before-its-time = held-set-not-before-its-time goal horizon (plan .keeps .goalHolds)
