@@ -15,7 +15,7 @@
  * Answers. Every call answers one number, packed the same way (but for a price that is done, see ruhkevois_price):
  *
  *   bits  0 to  7   kind: RUHKEVOIS_DONE, RUHKEVOIS_REFUSED or RUHKEVOIS_UNREACHABLE
- *   bits  8 to 15   number of the refusal, 1 to 27, 29 to 31 or 35 (README.md has the table); 0 unless refused
+ *   bits  8 to 15   number of the refusal, 1 to 27, 29 to 33 or 35 (README.md has the table); 0 unless refused
  *   bits 16 to 47   end: a plan's or a true day's end, an earliest time, or a file's length; 0 unless done
  *   bits 48 to 63   number of steps of a plan that was written or of a true day; 0 otherwise
  *
@@ -143,6 +143,18 @@ uint64_t ruhkevois_replan(const uint8_t *file, size_t file_length, const uint8_t
  */
 uint64_t ruhkevois_true_day(const uint8_t *file, size_t file_length, const uint8_t *plan, size_t plan_length,
     const uint8_t *lengths, size_t lengths_length, uint32_t peaks[RUHKEVOIS_POOLS]);
+
+/*
+ * Pools the jobs of two files to one and writes its file to the front of `out`. The second's facts and actions are
+ * numbered behind the first's; start and goal sets join, pools and stores add up place by place, the later deadline
+ * holds, and the file has the form with more entries of the two. 4,096 bytes are room enough.
+ * Done: end is the number of bytes written; the bytes of `out` behind them are kept.
+ * Refused: the first file's; the second file's; 32 where the pooled job has over 64 facts or actions, or a pool or
+ * store over 1,000,000; 33 where handovers of a pool that both have, head forms or reserves differ; 23 where `out` is
+ * shorter than the pooled job's file.
+ */
+uint64_t ruhkevois_pool(const uint8_t *first, size_t first_length, const uint8_t *second, size_t second_length,
+    uint8_t *out, size_t out_length);
 
 #ifdef __cplusplus
 }

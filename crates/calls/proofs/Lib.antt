@@ -2,3 +2,5 @@
 mod Fitting
 mod CallLaws
 mod Meaning
+mod PoolLaws
+mod PoolMeaning

@@ -18,6 +18,8 @@ use Rattle.earliest.specs.Answer.{Answers}
 use Rattle.timeline.specs.declared.Day.{Day}
 use Rattle.planner.specs.Plan.{Plans}
 use Rattle.replanner.specs.Replan.{Replans}
+use Rattle.pooling.specs.declared.Pooled.{Pooled}
+use Rattle.pooling.specs.Pooled.{poolJobs}
 use Rattle.packing.specs.Answer.{done, refusal, writtenNumber, checkedNumber, timeNumber, plannedNumber}
 use Rattle.packing.specs.Answer.{peaksBy, pricedNumber}
 
@@ -103,3 +105,23 @@ abbrev pub ReplanAnswers : List ℕ → List ℕ → ℕ → ℕ → List ℕ �
 ReplanAnswers file plan minute goal slice peaks r after peaksThen =
     DayBy (readFile file .verdict) (λ answer. Replans (jobOf file) plan minute goal slice answer after) slice peaks r
     after peaksThen
+
+-- the pooled job of two files
+abbrev pub pooledOfFiles : List ℕ → List ℕ → Pooled
+pooledOfFiles first second = poolJobs (jobOf first) (jobOf second)
+
+-- the refusals of the first file, of the second and of pooling; then the writer's answer to the pooled job
+abbrev pub poolAnswer : List ℕ → List ℕ → List ℕ → ℕ
+poolAnswer first second slice =
+    let pooled = pooledOfFiles first second in
+    unlessRefused (readFile first .verdict)
+    (unlessRefused (readFile second .verdict)
+    (unlessRefused (pooled .verdict) (writtenNumber (writeFile (jobIn (pooled .job)) slice))))
+
+-- what the writer leaves in the slice; "no slice changes" after a refusal
+abbrev pub leftByPool : List ℕ → List ℕ → List ℕ → List ℕ
+leftByPool first second slice =
+    let pooled = pooledOfFiles first second in
+    keptIfRefused (readFile first .verdict) slice
+    (keptIfRefused (readFile second .verdict) slice
+    (keptIfRefused (pooled .verdict) slice (leftByWrite (jobIn (pooled .job)) slice)))

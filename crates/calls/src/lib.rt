@@ -3,7 +3,7 @@
 ghost use mathlib.Core.Path.{_≡_};
 ghost use Rattle.calls.specs.Calls.{readAnswer, checkAnswer, peaksByCheck, rewriteAnswer, leftByRewrite};
 ghost use Rattle.calls.specs.Calls.{priceAnswer, ratesIn, trueDayAnswer, peaksByTrueDay};
-ghost use Rattle.calls.specs.Calls.{EarliestAnswers, PlanAnswers, ReplanAnswers};
+ghost use Rattle.calls.specs.Calls.{EarliestAnswers, PlanAnswers, ReplanAnswers, poolAnswer, leftByPool};
 use job::Job;
 use job::refusal::Verdict;
 use packing::DONE;
@@ -170,4 +170,32 @@ pub extern "C" fn ruhkevois_replan(
     let day = replanner::replan(reading.job, plan, minute, goal, out);
     put_peaks(peaks, day);
     day_told(day, day.steps as u16)
+}
+
+// Pools the jobs of two files and writes the pooled job's file to the front of the slice: its length, or the first
+// refusal of the first file, of the second, of 32, 33 and 23. The bytes behind the file are kept; a refusal changes no
+// byte.
+#[no_mangle]
+pub extern "C" fn ruhkevois_pool(first: &[u8], second: &[u8], out: &mut [u8]) -> u64
+    ensures { λ r. ⌜ r ≡ poolAnswer (now (first .entry)) (now (second .entry)) (now (out .entry)) ⌝ }
+    ensures { λ _. ⌜ now (out .exit) ≡
+        leftByPool (now (first .entry)) (now (second .entry)) (now (out .entry)) ⌝ }
+{
+    let mine = reader::read(first);
+    let mine_read = mine.verdict;
+    if let Verdict::Refused(why) = mine_read {
+        return refused(why);
+    }
+    let other = reader::read(second);
+    let other_read = other.verdict;
+    if let Verdict::Refused(why) = other_read {
+        return refused(why);
+    }
+    let pooled = pooling::pool(mine.job, other.job);
+    let verdict = pooled.verdict;
+    if let Verdict::Refused(why) = verdict {
+        return refused(why);
+    }
+    let answer = writer::write(pooled.job, out);
+    written(answer)
 }

@@ -41,6 +41,8 @@ number why.HandoverOver = 27
 number why.ShortestLength = 29
 number why.TrueLengths = 30
 number why.ReserveOver = 31
+number why.PoolTooLarge = 32
+number why.PoolUnlike = 33
 number why.NoPlanWithKept = 35
 
 -- a row of the table: the refusal, and whether it holds

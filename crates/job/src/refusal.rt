@@ -47,6 +47,9 @@ pub enum Refusal {
     TrueLengths,
     // the reserve of its stores
     ReserveOver,
+    // two jobs pooled to one
+    PoolTooLarge,
+    PoolUnlike,
     // the replanner
     NoPlanWithKept,
 }
@@ -92,6 +95,8 @@ pub fn number(refusal: Refusal) -> u8
         Refusal::ShortestLength => 29,
         Refusal::TrueLengths => 30,
         Refusal::ReserveOver => 31,
+        Refusal::PoolTooLarge => 32,
+        Refusal::PoolUnlike => 33,
         Refusal::NoPlanWithKept => 35,
     }
 }

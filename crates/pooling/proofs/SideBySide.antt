@@ -1,0 +1,262 @@
+-- Two plans side by side keep the rules of the pooled job.
+-- Assumes nothing.
+use Prim.Native.Nat.{ℕ, _+_, _-_, _<_, _≤_}
+use mathlib.Core.Path.{_≡_, refl, ap, ap₂, _∙_}
+use mathlib.Core.Bool.{true, false}
+use mathlib.Core.Logic.{⊎-elim}
+use mathlib.Core.List.{List, [], _∷_, _++_, map}
+use native.Mathlib.Omega.{arith}
+use lib.ListN.{length, getD}
+use Rattle.lists.proofs.Tabulate.{each-at}
+use Rattle.facts.specs.FactSet.{has, Subset, Within}
+use Rattle.facts.proofs.SetLaws.{in-union-cases}
+use Rattle.job.specs.Job.{Action, Job}
+use Rattle.job.specs.Passed.{Passed, PassedAction}
+use Rattle.job.proofs.Passed.{passed}
+use Rattle.job.proofs.Values.{Shape}
+use Rattle.timeline.specs.Step.{Step, anyPair, total}
+use Rattle.job.specs.Job.{noAction}
+use Rattle.timeline.specs.Timeline.{held, inUse, storeUse, usedUp}
+use Rattle.job.specs.Resources.{storeCap}
+use Rattle.timeline.specs.Accepted.{clashing}
+use Rattle.timeline.proofs.Tests.{not-both, le-or-lt}
+use Rattle.timeline.proofs.Places.{each-rest}
+use Rattle.timeline.specs.Places.{here, EachStep}
+use Rattle.timeline.proofs.Places.{total-append, total-zero}
+use Rattle.timeline.proofs.Clashes.{compatible-no-clash, not-clashing}
+use Rattle.timeline.proofs.Shares.{useAt, use-at-most}
+use Rattle.timeline.specs.Keeps.{OfJob}
+use Rattle.timeline.specs.Keeps.{Keeps}
+use Rattle.pooling.specs.Pooled.{behind, pooled}
+use Rattle.pooling.proofs.Steps.{inPool}
+use Rattle.pooling.proofs.Behind.{behind-member, plus-at}
+use Rattle.pooling.proofs.Merged.{first-held, second-held}
+use Rattle.pooling.proofs.Renamed.{each-map}
+use Rattle.pooling.proofs.Sums.{getD-beyond}
+use Rattle.pooling.proofs.Alike.{Alike, alike-of-test}
+use Rattle.pooling.proofs.PooledJob.{poolCount, storeCount}
+use Rattle.pooling.proofs.PooledForm.{handover-of-first, handover-of-second}
+use Rattle.pooling.proofs.PooledUses.{use-in-pool, store-amount-in-pool, no-store-amount, cap-of-pooled}
+use Rattle.pooling.proofs.PassingActions.{within-of}
+use Rattle.pooling.proofs.PooledPasses.{Pooling}
+use Rattle.pooling.proofs.ClashesInPool.{each-append, no-clash-in-pool, no-clash-append, sides-apart}
+
+-- ---- the action of a step of a job that passes
+module _ (J : Job) (passed : Passed J) (shape : Shape J) (x : Step) (own : OfJob J x)
+    (known : x .number < length (J .actions)) where
+  mine : x .action ≡ getD (J .actions) (x .number) noAction
+  mine = ap (λ (y : Step). y .action) own
+
+  pub action-passes : PassedAction (J .facts) (x .action)
+  action-passes = rw mine (each-at (PassedAction (J .facts)) (J .actions) noAction (passed .actions) (x .number) known)
+
+  pub action-pools : length (x .action .pools) ≡ length (J .pools)
+  action-pools =
+      ap (λ (a : Action). length (a .pools)) mine
+      ∙ each-at _ (J .actions) noAction (shape .actions) (x .number) known .pools
+
+  pub action-stores : length (x .action .stores) ≡ length (J .stores)
+  action-stores =
+      ap (λ (a : Action). length (a .stores)) mine
+      ∙ each-at _ (J .actions) noAction (shape .actions) (x .number) known .stores
+
+-- ---- sums over the steps in the pool
+total-in-pool : (f g : Step → ℕ) (k n p s : ℕ) (P : List Step) → EachStep (λ x. f (inPool k n p s x) ≡ g x) P
+    → total f (map (inPool k n p s) P) ≡ total g P
+total-in-pool f g k n p s [] h = refl
+total-in-pool f g k n p s (x ∷ P) h =
+    ap₂ _+_ (h x P here) (total-in-pool f g k n p s P (each-rest (λ y. f (inPool k n p s y) ≡ g y) x P h))
+
+-- of a pool that the job lacks nothing is used
+module _ (J : Job) (P : List Step) (exact : EachStep (λ x. length (x .action .pools) ≡ length (J .pools)) P)
+    (keeps : (pool t : ℕ) → pool < length (J .pools) → inUse J pool t P ≤ getD (J .pools) pool 0) where
+  every-pool : (pool t : ℕ) → inUse J pool t P ≤ getD (J .pools) pool 0
+  every-pool pool t =
+      ⊎-elim
+      (λ lacks.
+      let none = total-zero (useAt J pool t) P
+      (λ x Q i.
+      let n = exact x Q i in
+      let zero = getD-beyond (x .action .pools) pool 0 (omega arith) in
+      let most = use-at-most J pool t x in
+      omega arith) in
+      omega arith)
+      (λ has. keeps pool t has)
+      (le-or-lt (length (J .pools)) pool)
+
+-- and of a store that it lacks
+module _ (J : Job) (P : List Step) (exact : EachStep (λ x. length (x .action .stores) ≡ length (J .stores)) P)
+    (keeps : (store : ℕ) → store < length (J .stores) → usedUp J store P ≤ storeCap J store) where
+  every-store : (store : ℕ) → usedUp J store P ≤ storeCap J store
+  every-store store =
+      ⊎-elim
+      (λ lacks.
+      let none = total-zero (storeUse J store) P
+      (λ x Q i. let n = exact x Q i in no-store-amount J store (x .action) (omega arith)) in
+      omega arith)
+      (λ has. keeps store has)
+      (le-or-lt (length (J .stores)) store)
+
+-- ---- all rules
+module _ (A B : Job) (pooling : Pooling A B) (T : ℕ) (P Q : List Step)
+    (ownP : EachStep (OfJob A) P) (knownP : EachStep (λ x. x .number < length (A .actions)) P)
+    (ownQ : EachStep (OfJob B) Q) (knownQ : EachStep (λ x. x .number < length (B .actions)) Q)
+    (keepsP : Keeps A T (A .goal) P) (keepsQ : Keeps B T (B .goal) Q) where
+  passedA : Passed A
+  passedA = passed A (pooling .validA)
+
+  passedB : Passed B
+  passedB = passed B (pooling .validB)
+
+  alike : Alike A B
+  alike = alike-of-test A B (pooling .alike)
+
+  abbrev pub inFirst : Step → Step
+  inFirst = inPool 0 0 (poolCount A B) (storeCount A B)
+
+  abbrev pub inSecond : Step → Step
+  inSecond = inPool (A .facts) (length (A .actions)) (poolCount A B) (storeCount A B)
+
+  abbrev pub side-by-side : List Step
+  side-by-side = map inFirst P ++ map inSecond Q
+
+  both-sides : (F : Step → Type 0) → EachStep (λ x. F (inFirst x)) P → EachStep (λ x. F (inSecond x)) Q
+      → EachStep F side-by-side
+  both-sides F p q = each-append F (map inFirst P) (map inSecond Q) (each-map F inFirst P p) (each-map F inSecond Q q)
+
+  passesP : EachStep (λ x. PassedAction (A .facts) (x .action)) P
+  passesP x R i = action-passes A passedA (pooling .shapeA) x (ownP x R i) (knownP x R i)
+
+  passesQ : EachStep (λ x. PassedAction (B .facts) (x .action)) Q
+  passesQ x R i = action-passes B passedB (pooling .shapeB) x (ownQ x R i) (knownQ x R i)
+
+  poolsP : EachStep (λ x. length (x .action .pools) ≡ length (A .pools)) P
+  poolsP x R i = action-pools A passedA (pooling .shapeA) x (ownP x R i) (knownP x R i)
+
+  poolsQ : EachStep (λ x. length (x .action .pools) ≡ length (B .pools)) Q
+  poolsQ x R i = action-pools B passedB (pooling .shapeB) x (ownQ x R i) (knownQ x R i)
+
+  storesP : EachStep (λ x. length (x .action .stores) ≡ length (A .stores)) P
+  storesP x R i = action-stores A passedA (pooling .shapeA) x (ownP x R i) (knownP x R i)
+
+  storesQ : EachStep (λ x. length (x .action .stores) ≡ length (B .stores)) Q
+  storesQ x R i = action-stores B passedB (pooling .shapeB) x (ownQ x R i) (knownQ x R i)
+
+  held-first : (n : ℕ) → n < A .facts → (t : ℕ)
+      → has (held (pooled A B .start) side-by-side t) n ≡ has (held (A .start) P t) n
+  held-first =
+      first-held (A .start) (B .start) (A .facts) (length (A .actions)) (poolCount A B) (storeCount A B) P Q
+      (within-of (passedA .start)) (λ x R i. within-of (passesP x R i .deletes))
+      (λ x R i. within-of (passesP x R i .adds))
+
+  held-second : (n t : ℕ) → has (held (pooled A B .start) side-by-side t) (A .facts + n) ≡ has (held (B .start) Q t) n
+  held-second =
+      second-held (A .start) (B .start) (A .facts) (length (A .actions)) (poolCount A B) (storeCount A B) P Q
+      (within-of (passedA .start)) (λ x R i. within-of (passesP x R i .deletes))
+      (λ x R i. within-of (passesP x R i .adds))
+
+  -- what a set of the one job or the other needs holds in the pooled day if it held in its own
+  holds-first : (set t : ℕ) → Within (A .facts) set → Subset set (held (A .start) P t)
+      → (n : ℕ) → has set n ≡ true → has (held (pooled A B .start) side-by-side t) n ≡ true
+  holds-first set t within inside n h =
+      ⊎-elim (λ l. not-both h (within n l)) (λ l. held-first n l t ∙ inside n h) (le-or-lt (A .facts) n)
+
+  holds-second : (set t : ℕ) → Subset set (held (B .start) Q t)
+      → Subset (behind (A .facts) set) (held (pooled A B .start) side-by-side t)
+  holds-second set t inside n h =
+      let m = behind-member (A .facts) set n h in
+      ap (has (held (pooled A B .start) side-by-side t)) (m .1) ∙ held-second (m .0) t ∙ inside (m .0) (m .2)
+
+  needs-hold : EachStep (λ x. Subset (x .action .needs) (held (pooled A B .start) side-by-side (x .start)))
+      side-by-side
+  needs-hold =
+      both-sides (λ x. Subset (x .action .needs) (held (pooled A B .start) side-by-side (x .start)))
+      (λ x R i n h.
+      let m = behind-member 0 (x .action .needs) n h in
+      let e = m .1 in
+      let f : n ≡ m .0 = omega arith in
+      ap (has (held (pooled A B .start) side-by-side (x .start))) f
+      ∙ holds-first (x .action .needs) (x .start) (within-of (passesP x R i .needs)) (keepsP .needsHold x R i)
+      (m .0) (m .2))
+      (λ x R i. holds-second (x .action .needs) (x .start) (keepsQ .needsHold x R i))
+
+  goal-holds : Subset (pooled A B .goal) (held (pooled A B .start) side-by-side T)
+  goal-holds n h =
+      ⊎-elim (λ g. holds-first (A .goal) T (within-of (passedA .goal)) (keepsP .goalHolds) n g)
+      (λ g. holds-second (B .goal) T (keepsQ .goalHolds) n g)
+      (in-union-cases (A .goal) (behind (A .facts) (B .goal)) n h)
+
+  no-clash : anyPair clashing side-by-side ≡ false
+  no-clash =
+      no-clash-append (map inFirst P) (map inSecond Q)
+      (no-clash-in-pool 0 0 (poolCount A B) (storeCount A B) P (keepsP .noClash))
+      (no-clash-in-pool (A .facts) (length (A .actions)) (poolCount A B) (storeCount A B) Q (keepsQ .noClash))
+      (each-map (λ x. EachStep (λ y. clashing x y ≡ false) (map inSecond Q)) inFirst P
+      (λ x R i.
+      each-map (λ y. clashing (inFirst x) y ≡ false) inSecond Q
+      (λ y S j.
+      not-clashing (inFirst x) (inSecond y)
+      (λ a b.
+      let l = knownP x R i in
+      let p = passesP x R i in
+      compatible-no-clash (inFirst x) (inSecond y)
+      (record {
+        different = λ e. omega arith;
+        spares = record {
+          needs = λ n d m.
+              sides-apart (A .facts) (x .action .deletes) (y .action .needs) n (within-of (p .deletes)) d m;
+          adds = λ n d m. sides-apart (A .facts) (x .action .deletes) (y .action .adds) n (within-of (p .deletes)) d m;
+        };
+        spared = record {
+          needs = λ n d m. sides-apart (A .facts) (x .action .needs) (y .action .deletes) n (within-of (p .needs)) m d;
+          adds = λ n d m. sides-apart (A .facts) (x .action .adds) (y .action .deletes) n (within-of (p .adds)) m d;
+        };
+      })))))
+
+  in-use-of-both : (pool t : ℕ) → inUse (pooled A B) pool t side-by-side ≡ inUse A pool t P + inUse B pool t Q
+  in-use-of-both pool t =
+      total-append (useAt (pooled A B) pool t) (map inFirst P) (map inSecond Q)
+      ∙ ap₂ _+_
+      (total-in-pool (useAt (pooled A B) pool t) (useAt A pool t) 0 0 (poolCount A B) (storeCount A B) P
+      (λ x R i.
+      use-in-pool (pooled A B) A pool t 0 0 (poolCount A B) (storeCount A B) x (poolsP x R i)
+      (handover-of-first A B (pooling .shapeA) (pooling .shapeB) pool)))
+      (total-in-pool (useAt (pooled A B) pool t) (useAt B pool t) (A .facts) (length (A .actions)) (poolCount A B)
+      (storeCount A B) Q
+      (λ x R i.
+      use-in-pool (pooled A B) B pool t (A .facts) (length (A .actions)) (poolCount A B) (storeCount A B) x
+      (poolsQ x R i) (handover-of-second A B (pooling .shapeA) (pooling .shapeB) alike pool)))
+
+  used-by-both : (store : ℕ) → usedUp (pooled A B) store side-by-side ≡ usedUp A store P + usedUp B store Q
+  used-by-both store =
+      total-append (storeUse (pooled A B) store) (map inFirst P) (map inSecond Q)
+      ∙ ap₂ _+_
+      (total-in-pool (storeUse (pooled A B) store) (storeUse A store) 0 0 (poolCount A B) (storeCount A B) P
+      (λ x R i. store-amount-in-pool (pooled A B) A store 0 (poolCount A B) (storeCount A B) (x .action) refl))
+      (total-in-pool (storeUse (pooled A B) store) (storeUse B store) (A .facts) (length (A .actions)) (poolCount A B)
+      (storeCount A B) Q
+      (λ x R i.
+      store-amount-in-pool (pooled A B) B store (A .facts) (poolCount A B) (storeCount A B) (x .action)
+      (alike .rule)))
+
+  pub side-by-side-keeps : Keeps (pooled A B) T (pooled A B .goal) side-by-side
+  side-by-side-keeps =
+      record {
+        lasting = both-sides (λ x. x .start < x .stop) (keepsP .lasting) (keepsQ .lasting);
+        inTime = both-sides (λ x. x .stop ≤ T) (keepsP .inTime) (keepsQ .inTime);
+        noClash = no-clash;
+        pools = λ pool t l.
+            let sum = in-use-of-both pool t in
+            let cap = plus-at (A .pools) (B .pools) pool in
+            let a = every-pool A P poolsP (keepsP .pools) pool t in
+            let b = every-pool B Q poolsQ (keepsQ .pools) pool t in
+            omega arith;
+        stores = λ store l.
+            let sum = used-by-both store in
+            let cap = cap-of-pooled A B alike store in
+            let a = every-store A P storesP (keepsP .stores) store in
+            let b = every-store B Q storesQ (keepsQ .stores) store in
+            omega arith;
+        needsHold = needs-hold;
+        goalHolds = goal-holds;
+      }
