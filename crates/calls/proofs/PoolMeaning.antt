@@ -1,36 +1,32 @@
 -- What follows for a caller of `ruhkevois_pool`, of two accepted files: which refusals are left, and what is written.
 -- Assumes nothing.
-use Prim.Native.Nat.{ℕ, _+_, _-_, _<_, _≤_}
-use mathlib.Core.Path.{_≡_, sym, ap, _∙_, subst}
-use mathlib.Core.Logic.{_⊎_, ⊎-elim}
-use mathlib.Core.List.{List, [], map}
+use Prim.Native.Nat.{ℕ, _<_, _≤_}
+use mathlib.Core.Path.{_≡_, sym, ap, _∙_}
+use mathlib.Core.Logic.{_⊎_}
+use mathlib.Core.List.{List, []}
 use native.Mathlib.Omega.{arith}
-use lib.ListN.{length, getD, length-map, List·getD-append}
+use lib.ListN.{length}
 use borrow.Author.Tests.{le-ltb}
-use Rattle.lists.proofs.Tabulate.{length-tabulate, getD-map}
+use Rattle.lists.specs.Lists.{Each}
 use Rattle.encoding.specs.Bytes.{overwrite}
-use Rattle.job.specs.declared.Action as act
-use Rattle.job.specs.declared.Job as held
+use Rattle.encoding.proofs.Parts.{Bytes}
 use Rattle.job.specs.declared.refusal.Refusal.{Refusal}
 use Rattle.job.specs.declared.refusal.Refusal.the-variants.{PoolTooLarge, PoolUnlike}
 use Rattle.job.specs.declared.refusal.Verdict.{Verdict}
 use Rattle.job.specs.declared.refusal.Verdict.the-variants.{Pass, Refused}
-use Rattle.job.specs.Job.{Job, noAction, beyond, actionAt, jobIn, actionValue, jobValue}
-use Rattle.job.specs.Lengths.{longestOf}
+use Rattle.job.specs.Job.{Job, jobValue}
 use Rattle.job.specs.Refusal.{first}
 use Rattle.job.specs.Valid.{jobRows}
-use Rattle.job.proofs.LengthLaws.{longest-is}
 use Rattle.job.proofs.Passed.{passed}
 use Rattle.job.proofs.Table.{first-append-pass, first-next, first-none}
 use Rattle.job.proofs.Values.{job-in-shape}
 use Rattle.jobfile.specs.File.{fileOf}
 use Rattle.jobfile.specs.Answers.{readFile, writeRows, writtenOf, writeFile, leftOf, leftByWrite}
 use Rattle.jobfile.proofs.Lengths.{file-fits}
-use Rattle.jobfile.proofs.RoundTrips.{ByteDurations, read-after-write, read-job-passes}
-use Rattle.timeline.proofs.Tests.{le-or-lt}
-use Rattle.pooling.specs.Pooled.{pooled, poolRows}
-use Rattle.pooling.proofs.PooledJob.{count-of-actions}
-use Rattle.pooling.proofs.PooledForm.{longest-of-first, longest-of-second, pooled-shape, value-holds-pooled}
+use Rattle.jobfile.proofs.RoundTrips.{file-reads-back, read-job-passes, read-durations}
+use Rattle.pooling.specs.Pooled.{pooled}
+use Rattle.pooling.proofs.Sums.{each-of-append, each-of-map}
+use Rattle.pooling.proofs.PooledForm.{pooled-shape}
 use Rattle.pooling.proofs.PooledPasses.{pooling-of-rows, pooled-passes}
 use Rattle.pooling.proofs.PoolAnswers.{verdict-of-pooling, only-32-or-33, answer-holds-pooled}
 use Rattle.packing.specs.Answer.{done, writtenNumber}
@@ -88,52 +84,18 @@ module _ (first-file second-file : List ℕ) (mine : readFile first-file .verdic
             (ap (λ (J : Job). leftByWrite J slice) holds ∙ written-slice (pooled A B) slice passes fits),
       )
 
--- ---- the pooled job's file reads as the pooled job
-duration-of-value : (J : Job) (i : ℕ) → i < length (J .actions)
-    → getD (jobValue J .actions) i beyond .duration ≡ longestOf J i
-duration-of-value J i known =
-    let n = length-map (J .actions) actionValue in
-    ap (λ (a : act.Action). a .duration)
-    (List·getD-append (map actionValue (J .actions)) _ beyond i (omega arith)
-    ∙ getD-map actionValue (J .actions) i beyond noAction known)
-
-short-durations : (job : held.Job) → ByteDurations job → (i : ℕ) → i < length (jobIn job .actions)
-    → longestOf (jobIn job) i < 256
-short-durations job short i known =
-    let n = length-tabulate (job .counts .actions) (actionAt job) in
-    let e = longest-is job i (omega arith) in
-    let l = short i (omega arith) in
-    omega arith
-
-module _ (one two : held.Job) (short : ByteDurations one) (short′ : ByteDurations two)
-    (rows : first (poolRows (jobIn one) (jobIn two)) ≡ Pass) where
-  abbrev P : Job
-  P = pooled (jobIn one) (jobIn two)
-
-  pooled-durations : ByteDurations (jobValue P)
-  pooled-durations i known =
-      let a = jobIn one in
-      let b = jobIn two in
-      let n = count-of-actions a b in
-      let e = duration-of-value P i known in
-      ⊎-elim
-      (λ (behind : length (a .actions) ≤ i).
-      let k : ℕ = i - length (a .actions) in
-      let same : i ≡ length (a .actions) + k = omega arith in
-      let f = ap (longestOf P) same in
-      let g = longest-of-second a b (job-in-shape one) (job-in-shape two) k (omega arith) in
-      let l = short-durations two short′ k (omega arith) in
-      omega arith)
-      (λ (mine : i < length (a .actions)).
-      let g = longest-of-first a b (job-in-shape one) (job-in-shape two) i mine in
-      let l = short-durations one short i mine in
-      omega arith)
-      (le-or-lt (length (a .actions)) i)
-
-  pub pooled-file-reads-back : readFile (fileOf P) ≡ record { verdict = Pass; job = jobValue P }
-  pooled-file-reads-back =
-      let holds = value-holds-pooled (jobIn one) (jobIn two) (job-in-shape one) (job-in-shape two) in
-      let passes = pooled-passes (jobIn one) (jobIn two)
-      (pooling-of-rows (jobIn one) (jobIn two) (job-in-shape one) (job-in-shape two) rows) in
-      subst (λ (J : Job). readFile (fileOf J) ≡ record { verdict = Pass; job = jobValue J }) holds
-      (read-after-write (jobValue P) pooled-durations (ap (λ (J : Job). first (jobRows J)) holds ∙ passes))
+  -- and it reads as the pooled job
+  pub pooled-file-reads-back : Bytes first-file → Bytes second-file
+      → pooledOfFiles first-file second-file .verdict ≡ Pass
+      → readFile (fileOf (pooled A B)) ≡ record { verdict = Pass; job = jobValue (pooled A B) }
+  pooled-file-reads-back bytes bytes′ pass =
+      let one = readFile first-file .job in
+      let two = readFile second-file .job in
+      let both = pooling-of-rows A B (job-in-shape one) (job-in-shape two) (sym (verdict-of-pooling A B) ∙ pass) in
+      let short : Job → Type 0 = λ J. Each (λ a. a .duration < 256) (J .actions) in
+      let mine-short : short A = read-durations first-file one bytes (rw mine) in
+      let other-short : short B = read-durations second-file two bytes′ (rw other) in
+      file-reads-back (pooled A B) (pooled-shape A B (job-in-shape one) (job-in-shape two))
+      (each-of-append (λ a. a .duration < 256) _ _ (each-of-map (λ a. a .duration < 256) _ (A .actions) mine-short)
+      (each-of-map (λ a. a .duration < 256) _ (B .actions) other-short))
+      (pooled-passes A B both)

@@ -87,14 +87,15 @@ actions-again p s bs h e =
     joined-split n (actionOf p s) actionBytes bs (omega arith) e
     (λ at k. action-again p s (part bs at n) (part-bytes bs at n h) (length-part bs at n k))
 
-module _ (file : List ℕ) (h : Bytes file) (l : Laid file) where
-  body-bytes : (k : ℕ) → Bytes (bodyIn file k)
+module _ (file : List ℕ) (h : Bytes file) where
+  pub body-bytes : (k : ℕ) → Bytes (bodyIn file k)
   body-bytes k = go (ltb k (entriesIn file))
     where
       go : (b : Bool) → Bytes (cond b (body file k) [])
       go true = part-bytes file (offset file k) (size file k) h
       go false = λ i. omega arith
 
+module _ (file : List ℕ) (h : Bytes file) (l : Laid file) where
   -- the bodies of the file, one by one
   one-by-one : (form : Form) → formIn file ≡ form → (handovers shortest : List ℕ) → handovers ≡ bodyIn file 4
       → shortest ≡ bodyIn file 5 → (J : Job) → minuteBytes (J .handovers) ≡ handovers
@@ -115,16 +116,16 @@ module _ (file : List ℕ) (h : Bytes file) (l : Laid file) where
       let handovers = bodyIn file 4 in
       let shortest = bodyIn file 5 in
       rw (
-        head-again (formIn file) (bodyIn file 0) pools stores (bodyIn file 3) handovers shortest (body-bytes 0)
+        head-again (formIn file) (bodyIn file 0) pools stores (bodyIn file 3) handovers shortest (body-bytes file h 0)
             (rw (n 0) (z .wholeHead)) (rw (n 0) (z .shortHead)),
-        amounts-again pools (body-bytes 1) (rw (n 1) (z .wholePools)),
-        amounts-again stores (body-bytes 2) (rw (n 2) (z .wholeStores)),
-        actions-again (length pools / 4) (length stores / 4) (bodyIn file 3) (body-bytes 3)
+        amounts-again pools (body-bytes file h 1) (rw (n 1) (z .wholePools)),
+        amounts-again stores (body-bytes file h 2) (rw (n 2) (z .wholeStores)),
+        actions-again (length pools / 4) (length stores / 4) (bodyIn file 3) (body-bytes file h 3)
             (rw (n 1, n 2, n 3) (z .wholeActions)),
       )
       (one-by-one (formIn file) refl handovers shortest refl refl (decoded file)
-      (numbers-again 1 handovers (omega arith) (body-bytes 4) (omega arith))
-      (numbers-again 1 shortest (omega arith) (body-bytes 5) (omega arith)))
+      (numbers-again 1 handovers (omega arith) (body-bytes file h 4) (omega arith))
+      (numbers-again 1 shortest (omega arith) (body-bytes file h 5) (omega arith)))
 
 pub read-write : (file : List ℕ) → Bytes file → first (readRows file) ≡ Pass → fileOf (decoded file) ≡ file
 unfolding fileOf

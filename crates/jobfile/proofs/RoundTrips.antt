@@ -1,14 +1,16 @@
 -- The two round trips of the job file, over job values and the slices that the writer leaves.
 -- Assumes nothing.
-use Prim.Native.Nat.{ℕ, _+_, _≤_, _<_}
-use mathlib.Core.Path.{_≡_, refl, ap, sym, _∙_}
-use mathlib.Core.List.{List, []}
+use Prim.Native.Nat.{ℕ, _+_, _*_, _/_, _≤_, _<_}
+use mathlib.Core.Path.{_≡_, refl, ap, sym, subst, _∙_}
+use mathlib.Core.List.{List, [], _∷_}
+use native.Mathlib.Omega.{arith}
 use lib.ListN.{length, getD, take, drop}
 use lib.Seq.{take-at}
 use borrow.Author.Tests.{le-ltb}
+use Rattle.lists.specs.Lists.{Each}
 use Rattle.lists.proofs.Tabulate.{each-tabulate}
-use Rattle.encoding.specs.Bytes.{overwrite}
-use Rattle.encoding.proofs.Parts.{Bytes}
+use Rattle.encoding.specs.Bytes.{fromBytes, part, overwrite}
+use Rattle.encoding.proofs.Parts.{Bytes, part-bytes}
 use Rattle.job.specs.Job.{Job, beyond, actionAt, jobIn, jobValue}
 use Rattle.job.specs.Refusal.{first}
 use Rattle.job.specs.Valid.{jobRows}
@@ -17,15 +19,15 @@ use Rattle.job.specs.declared.refusal.Refusal.the-variants.{FileSlice}
 use Rattle.job.specs.declared.refusal.Verdict.{Verdict}
 use Rattle.job.specs.declared.refusal.Verdict.the-variants.{Pass, Refused}
 use Rattle.job.proofs.Table.{first-next, first-append-pass, pass-of-append}
-use Rattle.job.proofs.Values.{job-in-shape}
+use Rattle.job.proofs.Values.{Shape, job-in-shape}
 use Rattle.jobfile.specs.declared.Reading.{Reading}
 use Rattle.jobfile.specs.declared.Written.the-variants as written
-use Rattle.jobfile.specs.File.{fileOf, decoded}
+use Rattle.jobfile.specs.File.{fileOf, bodyIn, actionSize, actionOf, jobOf, decoded}
 use Rattle.jobfile.specs.Answers.{readRows, readingOf, readFile, writeRows, writtenOf, writeFile, leftOf}
 use Rattle.jobfile.specs.Answers.{leftByWrite}
 use Rattle.jobfile.proofs.DecodeLaws.{value-holds-decoded}
 use Rattle.jobfile.proofs.ReadLaws.{passes-laid}
-use Rattle.jobfile.proofs.ReadWrite.{read-write}
+use Rattle.jobfile.proofs.ReadWrite.{body-bytes, read-write}
 use Rattle.jobfile.proofs.WriteRead.{write-read}
 
 -- the durations within the counts are bytes
@@ -33,13 +35,17 @@ abbrev pub ByteDurations : held.Job → Type 0
 ByteDurations j = (i : ℕ) → i < j .counts .actions → getD (j .actions) i beyond .duration < 256
 
 -- "A job written and read is the same job": its value, with zeros in the unused places.
+pub file-reads-back : (J : Job) → Shape J → Each (λ a. a .duration < 256) (J .actions) → first (jobRows J) ≡ Pass
+    → readFile (fileOf J) ≡ record { verdict = Pass; job = jobValue J }
+unfolding readFile
+file-reads-back J shape durations passes =
+    let r = write-read J shape durations passes in
+    ap (λ (v : Verdict). readingOf v (decoded (fileOf J))) (r .0) ∙ ap (readingOf Pass) (r .1)
+
 pub read-after-write : (j : held.Job) → ByteDurations j → first (jobRows (jobIn j)) ≡ Pass
     → readFile (fileOf (jobIn j)) ≡ record { verdict = Pass; job = jobValue (jobIn j) }
-unfolding readFile
-read-after-write j d passes =
-    let file = fileOf (jobIn j) in
-    let r = write-read (jobIn j) (job-in-shape j) (each-tabulate _ (j .counts .actions) (actionAt j) d) passes in
-    ap (λ (v : Verdict). readingOf v (decoded file)) (r .0) ∙ ap (readingOf Pass) (r .1)
+read-after-write j d =
+    file-reads-back (jobIn j) (job-in-shape j) (each-tabulate _ (j .counts .actions) (actionAt j) d)
 
 passed-reading : (v : Verdict) (J : Job) (j : held.Job) → readingOf v J ≡ record { verdict = Pass; job = j }
     → (v ≡ Pass) × (j ≡ jobValue J)
@@ -60,6 +66,26 @@ pub read-job-passes : (file : List ℕ) (j : held.Job) → readFile file ≡ rec
 read-job-passes file j h =
     let r = accepted-file file j h in
     ap (λ (J : Job). first (jobRows J)) (r .1) ∙ passes-laid file (r .0) .1
+
+-- the lengths of the actions that are read are bytes
+byte-duration : (pools stores : ℕ) (bytes : List ℕ) → Bytes bytes → actionOf pools stores bytes .duration < 256
+unfolding actionOf fromBytes
+byte-duration pools stores [] b = omega arith
+byte-duration pools stores (x ∷ bytes) b = let l : x < 256 = b 0 in omega arith
+
+durations-in : (file : List ℕ) → Bytes file → Each (λ a. a .duration < 256) (decoded file .actions)
+unfolding jobOf
+durations-in file b =
+    let p = length (bodyIn file 1) / 4 in
+    let s = length (bodyIn file 2) / 4 in
+    let n = actionSize p s in
+    each-tabulate (λ a. a .duration < 256) (length (bodyIn file 3) / n) (λ i. actionOf p s (part (bodyIn file 3) (i * n) n))
+    (λ i known. byte-duration p s _ (part-bytes (bodyIn file 3) (i * n) n (body-bytes file b 3)))
+
+pub read-durations : (file : List ℕ) (j : held.Job) → Bytes file → readFile file ≡ record { verdict = Pass; job = j }
+    → Each (λ a. a .duration < 256) (jobIn j .actions)
+read-durations file j b h =
+    subst (λ (J : Job). Each (λ a. a .duration < 256) (J .actions)) (sym (accepted-file file j h .1)) (durations-in file b)
 
 -- "An accepted file read and written is the same file."
 pub write-after-read : (file : List ℕ) (j : held.Job) → Bytes file → readFile file ≡ record { verdict = Pass; job = j }

@@ -12,10 +12,12 @@ pub mod ByFact
 pub mod Merged
 pub mod Renamed
 pub mod ClashesInPool
+pub mod OwnSteps
 pub mod SideBySide
 pub mod Carried
 pub mod PooledDays
 pub mod Exchanged
+pub mod InOtherOrder
 pub mod OtherOrder
 pub mod PooledArrays
 pub mod PooledValues

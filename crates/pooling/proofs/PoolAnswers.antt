@@ -9,7 +9,7 @@ use Rattle.job.specs.declared.refusal.Refusal.{Refusal}
 use Rattle.job.specs.declared.refusal.Refusal.the-variants.{PoolTooLarge, PoolUnlike}
 use Rattle.job.specs.declared.refusal.Verdict.{Verdict}
 use Rattle.job.specs.declared.refusal.Verdict.the-variants.{Pass, Refused}
-use Rattle.job.specs.Job.{Job, jobIn, jobValue, zeroValue}
+use Rattle.job.specs.Job.{Job, jobIn, jobValue}
 use Rattle.job.specs.Refusal.{_when_, first, replyBy}
 use Rattle.job.specs.Valid.{jobRows}
 use Rattle.job.proofs.Passed.{passed}
@@ -17,7 +17,7 @@ use Rattle.job.proofs.Rows.{fits-of-pass}
 use Rattle.job.proofs.Table.{first-here, first-next, first-none, first-append-pass, first-append-refused}
 use Rattle.job.proofs.Values.{job-in-shape}
 use Rattle.pooling.specs.declared.Pooled.{Pooled}
-use Rattle.pooling.specs.Pooled.{pooled, tooLarge, unlike, poolRows, pooledOf, poolJobs, Pools}
+use Rattle.pooling.specs.Pooled.{pooled, tooLarge, unlike, poolRows, pooledOf, poolJobs, pooledReply, Pools}
 use Rattle.pooling.specs.Inner.{BothPass, Poolable}
 use Rattle.pooling.proofs.Alike.{too-large-other-order, unlike-other-order}
 use Rattle.pooling.proofs.PooledForm.{value-holds-pooled}
@@ -84,27 +84,25 @@ pub verdict-of-pooling : (A B : Job) → poolJobs A B .verdict ≡ first (poolRo
 unfolding poolJobs
 verdict-of-pooling A B = verdict-of-rows (first (poolRows A B)) (pooled A B)
 
-module _ (A B : Job) (r : Pooled) where
-  pub pools-when-refused : (why : Refusal) → first (poolRows A B) ≡ Refused why → r .verdict ≡ Refused why
-      → r .job ≡ zeroValue → Pools A B r
-  unfolding poolJobs
-  pools-when-refused why rows verdict job =
-      record {
-        answers = ap₂ {C = Pooled} (λ (v : Verdict) (j : held.Job). record { verdict = v; job = j }) verdict job
-            ∙ sym (ap (λ (v : Verdict). pooledOf v (pooled A B)) rows);
-        replies = ap₂ (λ (v : Verdict) (j : held.Job). replyBy v j) verdict job
-            ∙ sym (ap (λ (v : Verdict). replyBy v (jobValue (pooled A B))) rows);
-      }
+reply-of-rows : (v : Verdict) (J : Job) → pooledReply (pooledOf v J) ≡ replyBy v (jobValue J)
+reply-of-rows Pass J = refl
+reply-of-rows (Refused why) J = refl
 
-  pub pools-when-pass : first (poolRows A B) ≡ Pass → r .verdict ≡ Pass → r .job ≡ jobValue (pooled A B) → Pools A B r
+module _ (A B : Job) (r : Pooled) where
+  answer-when : (v : Verdict) → r .verdict ≡ v → r .job ≡ pooledOf v (pooled A B) .job → r ≡ pooledOf v (pooled A B)
+  answer-when Pass verdict job =
+      ap₂ {C = Pooled} (λ (v : Verdict) (j : held.Job). record { verdict = v; job = j }) verdict job
+  answer-when (Refused why) verdict job =
+      ap₂ {C = Pooled} (λ (v : Verdict) (j : held.Job). record { verdict = v; job = j }) verdict job
+
+  -- what is promised, for a verdict that the rows have
+  pub pools-when : (v : Verdict) → first (poolRows A B) ≡ v → r .verdict ≡ v → r .job ≡ pooledOf v (pooled A B) .job
+      → Pools A B r
   unfolding poolJobs
-  pools-when-pass rows verdict job =
-      record {
-        answers = ap₂ {C = Pooled} (λ (v : Verdict) (j : held.Job). record { verdict = v; job = j }) verdict job
-            ∙ sym (ap (λ (v : Verdict). pooledOf v (pooled A B)) rows);
-        replies = ap₂ (λ (v : Verdict) (j : held.Job). replyBy v j) verdict job
-            ∙ sym (ap (λ (v : Verdict). replyBy v (jobValue (pooled A B))) rows);
-      }
+  pools-when v rows verdict job =
+      let same : r ≡ pooledOf (first (poolRows A B)) (pooled A B)
+      = answer-when v verdict job ∙ ap (λ (w : Verdict). pooledOf w (pooled A B)) (sym rows) in
+      record { answers = same; replies = ap pooledReply same ∙ reply-of-rows (first (poolRows A B)) (pooled A B) }
 
 -- ---- what inner functions ask
 module _ (one other : held.Job) (a : first (jobRows (jobIn one)) ≡ Pass) (b : first (jobRows (jobIn other)) ≡ Pass)

@@ -1,6 +1,6 @@
 -- A plan with its facts and actions renamed keeps the rules.
 -- Assumes nothing.
-use Prim.Native.Nat.{ℕ, _<_, _≤_}
+use Prim.Native.Nat.{ℕ, _+_, _<_, _≤_}
 use mathlib.Core.Path.{_≡_, refl, sym, ap, ap₂, _∙_}
 use mathlib.Core.Bool.{Bool, true, false, cond, _||_}
 use mathlib.Core.List.{List, [], _∷_, map}
@@ -12,7 +12,7 @@ use Rattle.lists.proofs.Bools.{or-left, or-right}
 use Rattle.facts.specs.FactSet.{has, Subset}
 use Rattle.facts.proofs.Membership.{has-zero, has-union}
 use Rattle.job.specs.Job.{Action, Job}
-use Rattle.timeline.specs.Step.{Step, unionOf, anyPair}
+use Rattle.timeline.specs.Step.{Step, unionOf, anyPair, total}
 use Rattle.timeline.specs.Timeline.{ifStops, held, inUse, usedUp, clash, overlap}
 use Rattle.job.specs.Resources.{storeCap}
 use Rattle.timeline.specs.Accepted.{clashing}
@@ -36,6 +36,11 @@ pub each-map : (F : Step → Type 0) (f : Step → Step) (P : List Step) → Eac
 each-map F f [] h = each-step F [] tt
 each-map F f (x ∷ P) h =
     each-cons F (f x) (map f P) (h x P here) (each-map F f P (each-rest (λ y. F (f y)) x P h))
+
+pub total-of-map : (f g : Step → ℕ) (to : Step → Step) (P : List Step) → EachStep (λ x. f (to x) ≡ g x) P
+    → total f (map to P) ≡ total g P
+total-of-map f g to [] h = refl
+total-of-map f g to (x ∷ P) h = ap₂ _+_ (h x P here) (total-of-map f g to P (each-rest (λ y. f (to y) ≡ g y) x P h))
 
 module _ (of : ℕ → ℕ) (f : Step → Step) where
   -- ---- facts

@@ -4,100 +4,38 @@ use Prim.Native.Nat.{ℕ, _+_, _-_, _<_, _≤_}
 use mathlib.Core.Path.{_≡_, refl, ap, ap₂, _∙_}
 use mathlib.Core.Bool.{true, false}
 use mathlib.Core.Logic.{⊎-elim}
-use mathlib.Core.List.{List, [], _∷_, _++_, map}
+use mathlib.Core.List.{List, _++_, map}
 use native.Mathlib.Omega.{arith}
-use lib.ListN.{length, getD}
-use Rattle.lists.proofs.Tabulate.{each-at}
+use lib.ListN.{length}
 use Rattle.facts.specs.FactSet.{has, Subset, Within}
 use Rattle.facts.proofs.SetLaws.{in-union-cases}
-use Rattle.job.specs.Job.{Action, Job}
+use Rattle.job.specs.Job.{Job}
 use Rattle.job.specs.Passed.{Passed, PassedAction}
 use Rattle.job.proofs.Passed.{passed}
-use Rattle.job.proofs.Values.{Shape}
-use Rattle.timeline.specs.Step.{Step, anyPair, total}
-use Rattle.job.specs.Job.{noAction}
+use Rattle.timeline.specs.Step.{Step, anyPair}
 use Rattle.timeline.specs.Timeline.{held, inUse, storeUse, usedUp}
-use Rattle.job.specs.Resources.{storeCap}
 use Rattle.timeline.specs.Accepted.{clashing}
 use Rattle.timeline.proofs.Tests.{not-both, le-or-lt}
-use Rattle.timeline.proofs.Places.{each-rest}
-use Rattle.timeline.specs.Places.{here, EachStep}
-use Rattle.timeline.proofs.Places.{total-append, total-zero}
+use Rattle.timeline.specs.Places.{EachStep}
+use Rattle.timeline.proofs.Places.{total-append}
 use Rattle.timeline.proofs.Clashes.{compatible-no-clash, not-clashing}
-use Rattle.timeline.proofs.Shares.{useAt, use-at-most}
+use Rattle.timeline.proofs.Shares.{useAt}
 use Rattle.timeline.specs.Keeps.{OfJob}
 use Rattle.timeline.specs.Keeps.{Keeps}
 use Rattle.pooling.specs.Pooled.{behind, pooled}
 use Rattle.pooling.proofs.Steps.{inPool}
 use Rattle.pooling.proofs.Behind.{behind-member, plus-at}
 use Rattle.pooling.proofs.Merged.{first-held, second-held}
-use Rattle.pooling.proofs.Renamed.{each-map}
-use Rattle.pooling.proofs.Sums.{getD-beyond}
+use Rattle.pooling.proofs.Renamed.{each-map, total-of-map}
+use Rattle.pooling.proofs.OwnSteps.{action-passes, action-pools, action-stores, every-pool, every-store}
 use Rattle.pooling.proofs.Alike.{Alike, alike-of-test}
 use Rattle.pooling.proofs.PooledJob.{poolCount, storeCount}
 use Rattle.pooling.proofs.PooledForm.{handover-of-first, handover-of-second}
-use Rattle.pooling.proofs.PooledUses.{use-in-pool, store-amount-in-pool, no-store-amount, cap-of-pooled}
+use Rattle.pooling.proofs.PooledUses.{use-in-pool, store-amount-in-pool, cap-of-pooled}
 use Rattle.pooling.proofs.PassingActions.{within-of}
 use Rattle.pooling.proofs.PooledPasses.{Pooling}
 use Rattle.pooling.proofs.ClashesInPool.{each-append, no-clash-in-pool, no-clash-append, sides-apart}
 
--- ---- the action of a step of a job that passes
-module _ (J : Job) (passed : Passed J) (shape : Shape J) (x : Step) (own : OfJob J x)
-    (known : x .number < length (J .actions)) where
-  mine : x .action ≡ getD (J .actions) (x .number) noAction
-  mine = ap (λ (y : Step). y .action) own
-
-  pub action-passes : PassedAction (J .facts) (x .action)
-  action-passes = rw mine (each-at (PassedAction (J .facts)) (J .actions) noAction (passed .actions) (x .number) known)
-
-  pub action-pools : length (x .action .pools) ≡ length (J .pools)
-  action-pools =
-      ap (λ (a : Action). length (a .pools)) mine
-      ∙ each-at _ (J .actions) noAction (shape .actions) (x .number) known .pools
-
-  pub action-stores : length (x .action .stores) ≡ length (J .stores)
-  action-stores =
-      ap (λ (a : Action). length (a .stores)) mine
-      ∙ each-at _ (J .actions) noAction (shape .actions) (x .number) known .stores
-
--- ---- sums over the steps in the pool
-total-in-pool : (f g : Step → ℕ) (k n p s : ℕ) (P : List Step) → EachStep (λ x. f (inPool k n p s x) ≡ g x) P
-    → total f (map (inPool k n p s) P) ≡ total g P
-total-in-pool f g k n p s [] h = refl
-total-in-pool f g k n p s (x ∷ P) h =
-    ap₂ _+_ (h x P here) (total-in-pool f g k n p s P (each-rest (λ y. f (inPool k n p s y) ≡ g y) x P h))
-
--- of a pool that the job lacks nothing is used
-module _ (J : Job) (P : List Step) (exact : EachStep (λ x. length (x .action .pools) ≡ length (J .pools)) P)
-    (keeps : (pool t : ℕ) → pool < length (J .pools) → inUse J pool t P ≤ getD (J .pools) pool 0) where
-  every-pool : (pool t : ℕ) → inUse J pool t P ≤ getD (J .pools) pool 0
-  every-pool pool t =
-      ⊎-elim
-      (λ lacks.
-      let none = total-zero (useAt J pool t) P
-      (λ x Q i.
-      let n = exact x Q i in
-      let zero = getD-beyond (x .action .pools) pool 0 (omega arith) in
-      let most = use-at-most J pool t x in
-      omega arith) in
-      omega arith)
-      (λ has. keeps pool t has)
-      (le-or-lt (length (J .pools)) pool)
-
--- and of a store that it lacks
-module _ (J : Job) (P : List Step) (exact : EachStep (λ x. length (x .action .stores) ≡ length (J .stores)) P)
-    (keeps : (store : ℕ) → store < length (J .stores) → usedUp J store P ≤ storeCap J store) where
-  every-store : (store : ℕ) → usedUp J store P ≤ storeCap J store
-  every-store store =
-      ⊎-elim
-      (λ lacks.
-      let none = total-zero (storeUse J store) P
-      (λ x Q i. let n = exact x Q i in no-store-amount J store (x .action) (omega arith)) in
-      omega arith)
-      (λ has. keeps store has)
-      (le-or-lt (length (J .stores)) store)
-
--- ---- all rules
 module _ (A B : Job) (pooling : Pooling A B) (T : ℕ) (P Q : List Step)
     (ownP : EachStep (OfJob A) P) (knownP : EachStep (λ x. x .number < length (A .actions)) P)
     (ownQ : EachStep (OfJob B) Q) (knownQ : EachStep (λ x. x .number < length (B .actions)) Q)
@@ -217,12 +155,11 @@ module _ (A B : Job) (pooling : Pooling A B) (T : ℕ) (P Q : List Step)
   in-use-of-both pool t =
       total-append (useAt (pooled A B) pool t) (map inFirst P) (map inSecond Q)
       ∙ ap₂ _+_
-      (total-in-pool (useAt (pooled A B) pool t) (useAt A pool t) 0 0 (poolCount A B) (storeCount A B) P
+      (total-of-map (useAt (pooled A B) pool t) (useAt A pool t) inFirst P
       (λ x R i.
       use-in-pool (pooled A B) A pool t 0 0 (poolCount A B) (storeCount A B) x (poolsP x R i)
       (handover-of-first A B (pooling .shapeA) (pooling .shapeB) pool)))
-      (total-in-pool (useAt (pooled A B) pool t) (useAt B pool t) (A .facts) (length (A .actions)) (poolCount A B)
-      (storeCount A B) Q
+      (total-of-map (useAt (pooled A B) pool t) (useAt B pool t) inSecond Q
       (λ x R i.
       use-in-pool (pooled A B) B pool t (A .facts) (length (A .actions)) (poolCount A B) (storeCount A B) x
       (poolsQ x R i) (handover-of-second A B (pooling .shapeA) (pooling .shapeB) alike pool)))
@@ -231,10 +168,9 @@ module _ (A B : Job) (pooling : Pooling A B) (T : ℕ) (P Q : List Step)
   used-by-both store =
       total-append (storeUse (pooled A B) store) (map inFirst P) (map inSecond Q)
       ∙ ap₂ _+_
-      (total-in-pool (storeUse (pooled A B) store) (storeUse A store) 0 0 (poolCount A B) (storeCount A B) P
+      (total-of-map (storeUse (pooled A B) store) (storeUse A store) inFirst P
       (λ x R i. store-amount-in-pool (pooled A B) A store 0 (poolCount A B) (storeCount A B) (x .action) refl))
-      (total-in-pool (storeUse (pooled A B) store) (storeUse B store) (A .facts) (length (A .actions)) (poolCount A B)
-      (storeCount A B) Q
+      (total-of-map (storeUse (pooled A B) store) (storeUse B store) inSecond Q
       (λ x R i.
       store-amount-in-pool (pooled A B) B store (A .facts) (poolCount A B) (storeCount A B) (x .action)
       (alike .rule)))

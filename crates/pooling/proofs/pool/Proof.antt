@@ -3,7 +3,7 @@
 use mathlib.Core.Path.{refl, sym, _∙_}
 use Rattle.job.specs.Job.{jobIn}
 use Rattle.pooling.proofs.PoolAnswers.{first-refused, second-refused, refused-by-32, refused-by-33}
-use Rattle.pooling.proofs.PoolAnswers.{refused-by-none, pools-when-refused, pools-when-pass, both-pass, poolable}
+use Rattle.pooling.proofs.PoolAnswers.{refused-by-none, pools-when, both-pass, poolable}
 use borrow.Author.Needs.{needs}
 use Rattle.pooling.proofs.pool.Statement.{statement}
 use Rattle.pooling.proofs.pool.Tie as tie
@@ -22,7 +22,7 @@ returns c =
     let c-validate = c .before .before .before .before .validate in
     let c-mine = c .before .before .mine in
     let a = c .before .before .before .before .before .args in
-    pools-when-refused (jobIn (a .first)) (jobIn (a .second)) (c .refused .result) _
+    pools-when (jobIn (a .first)) (jobIn (a .second)) (c .refused .result) _
     (first-refused _ _ _ (sym (c-validate .ensures) ∙ c-mine .given .1)) (c .refused .ensures .0)
     (c .refused .ensures .1)
 
@@ -46,7 +46,7 @@ returns-2 c =
     let c-other = c .before .before .other in
     let a = c .before .before .before .before .before .before .before .before .args in
     let mine = sym (c-validate .ensures) ∙ c-enum-told .given .1 in
-    pools-when-refused (jobIn (a .first)) (jobIn (a .second)) (c .refused2 .result) _
+    pools-when (jobIn (a .first)) (jobIn (a .second)) (c .refused2 .result) _
     (second-refused _ _ mine _ (sym (c-validate2 .ensures) ∙ c-other .given .1)) (c .refused2 .ensures .0)
     (c .refused2 .ensures .1)
 
@@ -76,7 +76,7 @@ returns-3 c =
     let a = at8 .before .args in
     let mine = sym (c-validate .ensures) ∙ c-enum-told .given .1 in
     let other = sym (c-validate2 .ensures) ∙ c-enum-told2 .given .1 in
-    pools-when-refused (jobIn (a .first)) (jobIn (a .second)) (c .refused3 .result) _
+    pools-when (jobIn (a .first)) (jobIn (a .second)) (c .refused3 .result) _
     (refused-by-32 _ _ mine other (sym (c-too-large .ensures) ∙ c .before .if1 .taken)) (c .refused3 .ensures .0)
     (c .refused3 .ensures .1)
 
@@ -106,7 +106,7 @@ returns-4 c =
     let a = at8 .before .before .before .args in
     let mine = sym (c-validate .ensures) ∙ c-enum-told .given .1 in
     let other = sym (c-validate2 .ensures) ∙ c-enum-told2 .given .1 in
-    pools-when-refused (jobIn (a .first)) (jobIn (a .second)) (c .refused4 .result) _
+    pools-when (jobIn (a .first)) (jobIn (a .second)) (c .refused4 .result) _
     (refused-by-33 _ _ mine other (sym (c-too-large .ensures) ∙ c-if1 .left)
     (sym (c-unlike .ensures) ∙ c .before .if2 .taken))
     (c .refused4 .ensures .0) (c .refused4 .ensures .1)
@@ -138,7 +138,7 @@ returns-5 c =
     let a = at8 .before .before .before .args in
     let mine = sym (c-validate .ensures) ∙ c-enum-told .given .1 in
     let other = sym (c-validate2 .ensures) ∙ c-enum-told2 .given .1 in
-    pools-when-pass (jobIn (a .first)) (jobIn (a .second)) _
+    pools-when (jobIn (a .first)) (jobIn (a .second)) _ _
     (refused-by-none _ _ mine other (sym (c-too-large .ensures) ∙ c-if1 .left)
     (sym (c-unlike .ensures) ∙ c .before .if2 .left))
     refl (c .pooled-job .ensures)
