@@ -3,18 +3,17 @@
 use Prim.Native.Nat.{ℕ, _<_, _≤_}
 use mathlib.Core.Path.{_≡_, sym, ap, _∙_}
 use mathlib.Core.Logic.{_⊎_}
-use mathlib.Core.List.{List, []}
+use mathlib.Core.List.{List, [], map}
 use native.Mathlib.Omega.{arith}
 use lib.ListN.{length}
 use borrow.Author.Tests.{le-ltb}
-use Rattle.lists.specs.Lists.{Each}
 use Rattle.encoding.specs.Bytes.{overwrite}
 use Rattle.encoding.proofs.Parts.{Bytes}
 use Rattle.job.specs.declared.refusal.Refusal.{Refusal}
 use Rattle.job.specs.declared.refusal.Refusal.the-variants.{PoolTooLarge, PoolUnlike}
 use Rattle.job.specs.declared.refusal.Verdict.{Verdict}
 use Rattle.job.specs.declared.refusal.Verdict.the-variants.{Pass, Refused}
-use Rattle.job.specs.Job.{Job, jobValue}
+use Rattle.job.specs.Job.{Action, Job, jobValue}
 use Rattle.job.specs.Refusal.{first}
 use Rattle.job.specs.Valid.{jobRows}
 use Rattle.job.proofs.Passed.{passed}
@@ -24,8 +23,9 @@ use Rattle.jobfile.specs.File.{fileOf}
 use Rattle.jobfile.specs.Answers.{readFile, writeRows, writtenOf, writeFile, leftOf, leftByWrite}
 use Rattle.jobfile.proofs.Lengths.{file-fits}
 use Rattle.jobfile.proofs.RoundTrips.{file-reads-back, read-job-passes, read-durations}
-use Rattle.pooling.specs.Pooled.{pooled}
+use Rattle.pooling.specs.Pooled.{renumbered, pooled}
 use Rattle.pooling.proofs.Sums.{each-of-append, each-of-map}
+use Rattle.pooling.proofs.PooledJob.{poolCount, storeCount}
 use Rattle.pooling.proofs.PooledForm.{pooled-shape}
 use Rattle.pooling.proofs.PooledPasses.{pooling-of-rows, pooled-passes}
 use Rattle.pooling.proofs.PoolAnswers.{verdict-of-pooling, only-32-or-33, answer-holds-pooled}
@@ -92,10 +92,11 @@ module _ (first-file second-file : List ℕ) (mine : readFile first-file .verdic
       let one = readFile first-file .job in
       let two = readFile second-file .job in
       let both = pooling-of-rows A B (job-in-shape one) (job-in-shape two) (sym (verdict-of-pooling A B) ∙ pass) in
-      let short : Job → Type 0 = λ J. Each (λ a. a .duration < 256) (J .actions) in
-      let mine-short : short A = read-durations first-file one bytes (rw mine) in
-      let other-short : short B = read-durations second-file two bytes′ (rw other) in
+      let short : Action → Type 0 = λ a. a .duration < 256 in
+      let inFirst = renumbered 0 (poolCount A B) (storeCount A B) in
+      let inSecond = renumbered (A .facts) (poolCount A B) (storeCount A B) in
       file-reads-back (pooled A B) (pooled-shape A B (job-in-shape one) (job-in-shape two))
-      (each-of-append (λ a. a .duration < 256) _ _ (each-of-map (λ a. a .duration < 256) _ (A .actions) mine-short)
-      (each-of-map (λ a. a .duration < 256) _ (B .actions) other-short))
+      (each-of-append short (map inFirst (A .actions)) (map inSecond (B .actions))
+      (each-of-map short inFirst (A .actions) (read-durations first-file one bytes (rw mine)))
+      (each-of-map short inSecond (B .actions) (read-durations second-file two bytes′ (rw other))))
       (pooled-passes A B both)

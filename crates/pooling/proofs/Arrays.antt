@@ -4,7 +4,7 @@ use Prim.Native.Nat.{ℕ, _+_, _-_, _<_, _≤_}
 use mathlib.Core.Path.{_≡_, sym, ap, _∙_}
 use mathlib.Core.List.{List}
 use native.Mathlib.Omega.{arith}
-use lib.ListN.{length, getD}
+use lib.ListN.{length, getD, List·getD-eq-default}
 use Rattle.lists.specs.Lists.{tabulate, firsts, filled}
 use Rattle.lists.proofs.Tabulate.{length-tabulate, tabulate-same, getD-tabulate, firsts-all, each-at}
 use Rattle.job.specs.Passed.{Amounts}
@@ -12,7 +12,7 @@ use Rattle.timeline.proofs.Tests.{le-or-lt}
 use mathlib.Core.Logic.{⊎-elim}
 use Rattle.pooling.specs.Pooled.{plus}
 use Rattle.pooling.proofs.Behind.{plus-at}
-use Rattle.pooling.proofs.Sums.{length-plus, getD-beyond, getD-filled, length-filled}
+use Rattle.pooling.proofs.Sums.{length-plus, getD-filled, length-filled}
 
 -- of the first n, one that is there, and 0 behind them
 pub firsts-at : (n : ℕ) (xs : List ℕ) (k : ℕ) → k < n → getD xs k 0 ≡ getD (firsts n 0 xs) k 0
@@ -21,7 +21,7 @@ firsts-at n xs k l = sym (getD-tabulate n (λ i. getD xs i 0) k 0 l)
 pub firsts-behind : (n : ℕ) (xs : List ℕ) (k : ℕ) → n ≤ k → 0 ≡ getD (firsts n 0 xs) k 0
 firsts-behind n xs k l =
     let e = length-tabulate n (λ i. getD xs i 0) in
-    sym (getD-beyond (firsts n 0 xs) k 0 (omega arith))
+    sym (List·getD-eq-default (firsts n 0 xs) 0 {n = k} (omega arith))
 
 -- filled with zeros, it is the list by its places
 pub filled-by-place : (n : ℕ) (xs : List ℕ) → length xs ≤ n → tabulate n (λ k. getD xs k 0) ≡ filled n 0 xs
@@ -48,7 +48,7 @@ sums-by-place n xs ys l m =
 pub amount-small : (xs : List ℕ) → Amounts xs → (k : ℕ) → getD xs k 0 ≤ 1000000
 amount-small xs h k =
     ⊎-elim
-    (λ (lacks : length xs ≤ k). let z = getD-beyond xs k 0 lacks in omega arith)
+    (λ (lacks : length xs ≤ k). let z = List·getD-eq-default xs 0 {n = k} lacks in omega arith)
     (λ (has : k < length xs). each-at (λ x. x ≤ 1000000) xs 0 h k has)
     (le-or-lt (length xs) k)
 

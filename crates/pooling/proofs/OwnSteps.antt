@@ -5,7 +5,7 @@ use mathlib.Core.Path.{_≡_, ap, _∙_}
 use mathlib.Core.Logic.{⊎-elim}
 use mathlib.Core.List.{List}
 use native.Mathlib.Omega.{arith}
-use lib.ListN.{length, getD}
+use lib.ListN.{length, getD, List·getD-eq-default}
 use Rattle.lists.proofs.Tabulate.{each-at}
 use Rattle.facts.specs.FactSet.{has}
 use Rattle.job.specs.Job.{Action, Job}
@@ -21,7 +21,6 @@ use Rattle.timeline.specs.Places.{EachStep}
 use Rattle.timeline.proofs.Places.{total-zero}
 use Rattle.timeline.proofs.Shares.{useAt, use-at-most}
 use Rattle.timeline.specs.Keeps.{OfJob}
-use Rattle.pooling.proofs.Sums.{getD-beyond}
 use Rattle.pooling.proofs.PooledUses.{no-store-amount}
 
 -- ---- the action of a step of a job that passes
@@ -53,7 +52,7 @@ module _ (J : Job) (P : List Step) (exact : EachStep (λ x. length (x .action .p
       let none = total-zero (useAt J pool t) P
       (λ x Q i.
       let n = exact x Q i in
-      let zero = getD-beyond (x .action .pools) pool 0 (omega arith) in
+      let zero = List·getD-eq-default (x .action .pools) 0 {n = pool} (omega arith) in
       let most = use-at-most J pool t x in
       omega arith) in
       omega arith)

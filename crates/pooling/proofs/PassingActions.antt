@@ -6,7 +6,7 @@ use mathlib.Core.Bool.{false}
 use mathlib.Core.Logic.{⊎-elim}
 use mathlib.Core.List.{List, [], _∷_}
 use native.Mathlib.Omega.{arith}
-use lib.ListN.{length, getD}
+use lib.ListN.{length, getD, List·getD-eq-default}
 use borrow.Author.Tests.{ltb-false, le-ltb, ne-eqb}
 use Rattle.lists.specs.Lists.{filled, anyBelow, Each}
 use Rattle.lists.proofs.Any.{any-append}
@@ -29,7 +29,7 @@ use Rattle.timeline.proofs.Tests.{or-neither, le-or-lt}
 use Rattle.pooling.specs.Pooled.{behind, renumbered, pooled}
 use Rattle.pooling.proofs.Behind.{behind-member, behind-within, within-more, not-foreign}
 use Rattle.pooling.proofs.Behind.{within-unless-foreign}
-use Rattle.pooling.proofs.Sums.{filled-small, getD-beyond}
+use Rattle.pooling.proofs.Sums.{filled-small}
 use Rattle.pooling.proofs.Sums.{getD-filled}
 use Rattle.pooling.proofs.PooledUses.{store-amount-in-pool, no-store-amount}
 
@@ -80,7 +80,7 @@ pub small-handover : (J : Job) → Passed J → (pool : ℕ) → handover J pool
 unfolding handover
 small-handover J passed pool =
     ⊎-elim
-    (λ (lacks : length (J .handovers) ≤ pool). let z = getD-beyond (J .handovers) pool 0 lacks in omega arith)
+    (λ (lacks : length (J .handovers) ≤ pool). let z = List·getD-eq-default (J .handovers) 0 {n = pool} lacks in omega arith)
     (λ (has : pool < length (J .handovers)). each-at (λ x. x ≤ 30) (J .handovers) 0 (passed .handovers) pool has)
     (le-or-lt (length (J .handovers)) pool)
 
@@ -118,7 +118,7 @@ within-larger W J k p s a shape rule pools caps h =
         let more = pools pool in
         let n = shape .pools in
         ⊎-elim
-        (λ (lacks : length (J .pools) ≤ pool). let z = getD-beyond (a .pools) pool 0 (omega arith) in omega arith)
+        (λ (lacks : length (J .pools) ≤ pool). let z = List·getD-eq-default (a .pools) 0 {n = pool} (omega arith) in omega arith)
         (λ (has : pool < length (J .pools)).
         let l = ltb-false (getD (J .pools) pool 0) (getD (a .pools) pool 0) (tests .0 pool has) in omega arith)
         (le-or-lt (length (J .pools)) pool)

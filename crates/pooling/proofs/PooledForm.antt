@@ -7,7 +7,7 @@ use mathlib.Core.Logic.{⊎-elim}
 use mathlib.Core.List.{List, _++_, map}
 use native.Mathlib.Omega.{arith}
 use lib.Dec.{ltb}
-use lib.ListN.{length, getD, length-append, List·getD-append}
+use lib.ListN.{length, getD, length-append, List·getD-append, List·getD-eq-default}
 use borrow.Author.Tests.{lt-ltb, le-ltb}
 use Rattle.lists.specs.Lists.{tabulate, Each}
 use Rattle.lists.proofs.Tabulate.{length-tabulate, getD-tabulate, each-map}
@@ -19,7 +19,7 @@ use Rattle.job.specs.Resources.{handover}
 use Rattle.job.proofs.Values.{Shaped, Shape, value-holds-job}
 use Rattle.timeline.proofs.Tests.{le-or-lt}
 use Rattle.pooling.specs.Pooled.{renumbered, moreEntries, pooledHandover, shortestLengths, shortestIn, pooled}
-use Rattle.pooling.proofs.Sums.{each-of-map, each-of-append, length-plus, getD-behind, getD-beyond}
+use Rattle.pooling.proofs.Sums.{each-of-map, each-of-append, length-plus, getD-behind}
 use Rattle.pooling.proofs.Sums.{length-filled}
 use Rattle.pooling.proofs.Alike.{Alike}
 use Rattle.pooling.proofs.PooledJob.{poolCount, storeCount, count-of-actions, action-of-first, action-of-second}
@@ -63,14 +63,14 @@ unfolding handover
 handover-zero J shape l pool =
     let e = shape .handovers in
     let z = no-handovers (J .form) (length (J .pools)) l in
-    getD-beyond (J .handovers) pool 0 (omega arith)
+    List·getD-eq-default (J .handovers) 0 {n = pool} (omega arith)
 
 shortest-is-longest : (J : Job) → Shape J → entries (J .form) ≤ 5 → (i : ℕ) → shortestOf J i ≡ longestOf J i
 unfolding shortestOf
 shortest-is-longest J shape l i =
     let e = shape .shortest in
     let z = no-shortest (J .form) (length (J .actions)) l in
-    getD-beyond (J .shortest) i (longestOf J i) (omega arith)
+    List·getD-eq-default (J .shortest) (longestOf J i) {n = i} (omega arith)
 
 -- no places
 no-places : (f : ℕ → ℕ) (pool : ℕ) → getD (tabulate 0 f) pool 0 ≡ 0

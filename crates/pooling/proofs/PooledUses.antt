@@ -5,7 +5,7 @@ use mathlib.Core.Path.{_≡_, refl, sym, ap, _∙_}
 use mathlib.Core.Bool.{Bool, true, false, cond}
 use mathlib.Core.Logic.{⊎-elim}
 use native.Mathlib.Omega.{arith}
-use lib.ListN.{length, getD}
+use lib.ListN.{length, getD, List·getD-eq-default}
 use Rattle.job.specs.declared.StoreRule.{StoreRule}
 use Rattle.job.specs.declared.StoreRule.the-variants.{PerStep, PerHour}
 use Rattle.job.specs.Job.{Action, Job}
@@ -17,7 +17,7 @@ use Rattle.timeline.proofs.Shares.{useAt, share-reads, share-when}
 use Rattle.pooling.specs.Pooled.{renumbered, pooled}
 use Rattle.pooling.proofs.Steps.{inPool}
 use Rattle.pooling.proofs.Behind.{plus-at}
-use Rattle.pooling.proofs.Sums.{getD-beyond, getD-filled, shares-rounded-down}
+use Rattle.pooling.proofs.Sums.{getD-filled, shares-rounded-down}
 use Rattle.pooling.proofs.Alike.{Alike}
 
 -- ---- pools
@@ -40,7 +40,7 @@ use-in-pool W J pool t k n p s x exact same =
     ap (λ (m : ℕ). cond (hasShare W pool t (inPool k n p s x)) m 0) (getD-filled p (x .action .pools) pool)
     ∙ ⊎-elim
     (λ (lacks : length (J .pools) ≤ pool).
-    let none = getD-beyond (x .action .pools) pool 0 (omega arith) in
+    let none = List·getD-eq-default (x .action .pools) 0 {n = pool} (omega arith) in
     nothing-used (hasShare W pool t (inPool k n p s x)) (hasShare J pool t x) (getD (x .action .pools) pool 0) none)
     (λ has. ap (λ (b : Bool). cond b (getD (x .action .pools) pool 0) 0) (same-share W J pool t k n p s x (same has)))
     (le-or-lt (length (J .pools)) pool)
@@ -66,7 +66,7 @@ store-amount-in-pool W J store k p s a rule =
 pub no-store-amount : (J : Job) (store : ℕ) (a : Action) → length (a .stores) ≤ store → storeAmount J store a ≡ 0
 unfolding storeAmount
 no-store-amount J store a l =
-    ap (chargedBy (J .rule) (a .duration)) (getD-beyond (a .stores) store 0 l) ∙ nothing (J .rule)
+    ap (chargedBy (J .rule) (a .duration)) (List·getD-eq-default (a .stores) 0 {n = store} l) ∙ nothing (J .rule)
   where
     nothing : (rule : StoreRule) → chargedBy rule (a .duration) 0 ≡ 0
     nothing PerStep = refl

@@ -7,7 +7,7 @@ use mathlib.Core.Logic.{⊎-elim}
 use mathlib.Core.List.{List}
 use native.Mathlib.Omega.{arith}
 use lib.Dec.{eqb, ltb}
-use lib.ListN.{length, getD}
+use lib.ListN.{length, getD, List·getD-eq-default}
 use borrow.Author.Tests.{lt-ltb, le-ltb}
 use Rattle.lists.specs.Lists.{tabulate, firsts, filled, any, anyBelow}
 use Rattle.lists.proofs.Any.{any-append}
@@ -26,7 +26,7 @@ use Rattle.job.proofs.Values.{Shape, few-handovers, job-in-shape}
 use Rattle.timeline.proofs.Tests.{le-or-lt}
 use Rattle.pooling.specs.Pooled.{plus, moreEntries, pooledHandover, pooled, tooLarge, handoversDiffer}
 use Rattle.pooling.specs.Inner.{Widens, HasActions, BothPass}
-use Rattle.pooling.proofs.Sums.{length-plus, getD-beyond}
+use Rattle.pooling.proofs.Sums.{length-plus}
 use Rattle.pooling.proofs.Arrays.{filled-by-place}
 use Rattle.pooling.proofs.Alike.{few-actions}
 use Rattle.pooling.proofs.PooledJob.{poolCount, storeCount, count-of-actions}
@@ -80,7 +80,7 @@ module _ (A B : Job) (shapeA : Shape A) (shapeB : Shape B) (xs ys : List ℕ) (m
       let count = length-tabulate (handoverCount (moreEntries (A .form) (B .form)) (poolCount A B))
       (pooledHandover A B) in
       ap (λ (c : Bool). cond c (getD ys k 0) 0) (le-ltb k (length (B .pools)) neither)
-      ∙ sym (getD-beyond (pooled A B .handovers) k 0 (omega arith)))
+      ∙ sym (List·getD-eq-default (pooled A B .handovers) 0 {n = k} (omega arith)))
       (λ (has : k < length (B .pools)).
       ap (λ (c : Bool). cond c (getD ys k 0) 0) (lt-ltb k (length (B .pools)) has) ∙ other k has
       ∙ ap (λ (c : Bool). cond c (handover A k) (handover B k)) (sym (le-ltb k (length (A .pools)) lacks))

@@ -31,11 +31,6 @@ length-plus (x ∷ xs) [] = omega arith
 length-plus (x ∷ xs) (y ∷ ys) = let e = length-plus xs ys in omega arith
 
 -- ---- places of lists one after the other
-pub getD-beyond : {A : Type 0} (xs : List A) (k : ℕ) (d : A) → length xs ≤ k → getD xs k d ≡ d
-getD-beyond [] k d l = refl
-getD-beyond (x ∷ xs) zero d l = absurd (omega arith)
-getD-beyond (x ∷ xs) (suc k) d l = getD-beyond xs k d (omega arith)
-
 pub getD-behind : {A : Type 0} (xs ys : List A) (k : ℕ) (d : A) → getD (xs ++ ys) (length xs + k) d ≡ getD ys k d
 getD-behind [] ys k d = let e : 0 + k ≡ k = omega arith in ap (λ (i : ℕ). getD ys i d) e
 getD-behind (x ∷ xs) ys k d =
