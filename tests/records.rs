@@ -4,6 +4,11 @@ use std::collections::HashMap;
 
 type Fault = String;
 
+// The bytes of a slice that takes every plan, of the longest slice or file, and of the longest input: two files.
+const PLAN: u64 = 96;
+const SLICE: u64 = 4_200;
+const INPUT: u64 = 2 + 2 * SLICE;
+
 // What a name stands for: changes to a job or to its file, one after the other.
 type Names = HashMap<String, Vec<String>>;
 
@@ -343,16 +348,28 @@ fn priced(record: &mut Record, text: &str) -> Result<(), Fault> {
     Ok(())
 }
 
+// What is said beside the slice. The slice has the usual length where none is named.
+fn beside_slice(record: &mut Record, usual: u64, text: &str) -> Result<String, Fault> {
+    let mut rest = vec![];
+    record.room = usual;
+    for part in text.split(';').map(str::trim) {
+        if let Some(length) = part.strip_prefix("slice of ") {
+            record.room = count(length, 0)?;
+        } else {
+            rest.push(part);
+        }
+    }
+    Ok(rest.join(";"))
+}
+
 // A question about a begun day: the current plan, the minute, which goes before it, the goal set and the slice.
 fn replanned(record: &mut Record, text: &str) -> Result<(), Fault> {
     let mut minute = None;
     let mut rest = vec![];
-    record.room = 96;
-    for part in text.split(';').map(str::trim) {
+    let text = &beside_slice(record, PLAN, text)?;
+    for part in text.split(';') {
         if let Some(at) = part.strip_prefix("at ") {
             minute = Some(count(at, 0)?);
-        } else if let Some(length) = part.strip_prefix("slice of ") {
-            record.room = count(length, 0)?;
         } else {
             rest.push(part);
         }
@@ -383,43 +400,68 @@ fn true_day(record: &mut Record, text: &str) -> Result<(), Fault> {
     Ok(())
 }
 
-// A row of a table: its call and title, the job, what else the call is given, and the answer.
-fn row(line: &str, names: &Names) -> Result<(Record, String), Fault> {
-    let columns: Vec<&str> = line.split('|').map(str::trim).collect();
-    let (call, title) = columns[0].split_once(' ').unwrap_or((columns[0], ""));
-    let mut record = Record { title: title.trim().to_string(), ..Record::default() };
-    let (job, input, answer) = match (call, columns[1..].to_vec().as_slice()) {
-        ("read", [job, answer]) => (*job, "", *answer),
-        ("rewrite" | "bytes" | "check" | "price", [job, input, answer]) => (*job, *input, *answer),
-        ("earliest" | "plan" | "replan" | "true_day", [job, input, answer]) => (*job, *input, *answer),
-        _ => return fault("not a row of a table", line),
+// A second job, with which the first is pooled: its length, its file and, where one is named, the file of the job that
+// they must become.
+fn pooled(record: &mut Record, second: &str, expected: &str, names: &Names) -> Result<(), Fault> {
+    let second = job_file(second, names)?;
+    let expected = match beside_slice(record, SLICE, expected)?.as_str() {
+        "" => vec![],
+        job => job_file(job, names)?,
     };
-    record.call = call.as_bytes()[0];
-    record.file = job_file(job, names)?;
-    match call {
-        "check" => plan(&mut record, input)?,
-        "price" => priced(&mut record, input)?,
-        "replan" => replanned(&mut record, input)?,
-        "true_day" => true_day(&mut record, input)?,
-        "earliest" => record.set = set(input, 0)?,
-        "rewrite" | "plan" => record.room = count(input.strip_prefix("slice of ").unwrap_or(input), 0)?,
-        "bytes" => {
+    record.input = [bytes_of(second.len() as u64, 2), second, expected].concat();
+    record.call = b'i';
+    Ok(())
+}
+
+// The same where the pooled job is planned.
+fn pooled_day(record: &mut Record, second: &str, names: &Names) -> Result<(), Fault> {
+    pooled(record, second, "", names)?;
+    (record.call, record.room) = (b'd', PLAN);
+    Ok(())
+}
+
+// What a call is given beside the job of its row.
+fn given(record: &mut Record, call: &str, inputs: &[&str], names: &Names) -> Result<(), Fault> {
+    record.call = call.bytes().next().unwrap_or(0);
+    match (call, inputs) {
+        ("read", []) => (),
+        ("check", [input]) => plan(record, input)?,
+        ("price", [input]) => priced(record, input)?,
+        ("replan", [input]) => replanned(record, input)?,
+        ("true_day", [input]) => true_day(record, input)?,
+        ("earliest", [input]) => record.set = set(input, 0)?,
+        ("rewrite" | "plan", [input]) => record.room = count(input.strip_prefix("slice of ").unwrap_or(input), 0)?,
+        ("bytes", [input]) => {
             let (from, to) = input.split_once(" to ").ok_or(format!("not a range: '{input}'"))?;
             (record.set, record.room) = (count(from, 0)?, count(to, 0)?);
         }
-        _ => (),
+        ("pool", [second]) => pooled(record, second, "", names)?,
+        ("pool", [second, expected]) => pooled(record, second, expected, names)?,
+        ("pool_day", [second]) => pooled_day(record, second, names)?,
+        _ => return fault("not what a row of a table has", call),
     }
     if call == "rewrite" {
         record.call = b'w';
     }
+    Ok(())
+}
+
+// A row of a table: its call and title, the job, what else the call is given, and the answer.
+fn row(line: &str, names: &Names) -> Result<(Record, String), Fault> {
+    let columns: Vec<&str> = line.split('|').map(str::trim).collect();
+    let [first, job, inputs @ .., answer] = columns.as_slice() else { return fault("not a row of a table", line) };
+    let (call, title) = first.split_once(' ').unwrap_or((first, ""));
+    let mut record = Record { title: title.trim().to_string(), file: job_file(job, names)?, ..Record::default() };
+    given(&mut record, call, inputs, names)?;
     Ok((record, answer.to_string()))
 }
 
 // A record as the program reads it: the head, then the title, the file and the input.
 fn record_bytes(record: &Record) -> Result<Vec<u8>, Fault> {
     let title = record.title.as_bytes();
-    if title.len() > 255 || record.file.len() > 4_200 || record.input.len() > 255 || record.room > 4_200 {
-        return fault("a title, file, plan or slice is too long", &record.title);
+    let files = [record.file.len() as u64, record.room];
+    if title.len() > 255 || files.iter().any(|length| *length > SLICE) || record.input.len() as u64 > INPUT {
+        return fault("a title, file, input or slice is too long", &record.title);
     }
     let body = [title, &record.file, &record.input].concat();
     let mut bytes = vec![record.call, title.len() as u8];

@@ -2,6 +2,7 @@
 use crate::Record;
 use crate::lending;
 use crate::peaks;
+use crate::pools;
 use crate::rates;
 use crate::replans;
 use crate::true_days;
@@ -18,13 +19,13 @@ use output::text;
 use price::Priced;
 use timeline::Day;
 
-fn refused(why: Refusal) {
+pub fn refused(why: Refusal) {
     text(b"refused ");
     number(job::refusal::number(why) as u64);
 }
 
 // One of two words.
-fn choose(is_first: bool, first: &[u8], second: &[u8]) {
+pub fn choose(is_first: bool, first: &[u8], second: &[u8]) {
     if is_first {
         text(first);
     } else {
@@ -39,17 +40,18 @@ pub fn answer(record: Record, file: &[u8], plan: &[u8]) {
     let job = reading.job;
     match verdict {
         Verdict::Pass => answer_for(job, record, file, plan),
-        Verdict::Refused(why) => refused_file(why, job),
+        Verdict::Refused(why) => print_no_job(why, job),
     }
 }
 
-fn refused_file(why: Refusal, job: Job) {
+// A refusal, beside which the job is all zero.
+pub fn print_no_job(why: Refusal, job: Job) {
     refused(why);
     choose(same_everywhere(job, Job::zero()), b"", b", job not zero");
 }
 
-// The answer to a record whose file holds this job: of the reader, the writer, the planner, the replanner and the true
-// day.
+// The answer to a record whose file holds this job: of the reader, the writer, the planner, the replanner, the true day
+// and the pooling.
 fn answer_for(job: Job, record: Record, file: &[u8], plan: &[u8]) {
     let call = record.call;
     match call {
@@ -59,6 +61,8 @@ fn answer_for(job: Job, record: Record, file: &[u8], plan: &[u8]) {
         b'p' => print_plan(job, record.room),
         b'm' => replans::print(job, record, plan),
         b't' => true_days::print(job, plan),
+        b'i' => pools::print(job, record, plan),
+        b'd' => pools::print(job, record, plan),
         _ => answer_asked(job, call, record.set, plan),
     }
 }
@@ -170,7 +174,7 @@ fn print_time(time: EarliestTime) {
 }
 
 // The planner is lent a slice of so many bytes.
-fn print_plan(job: Job, length: usize) {
+pub fn print_plan(job: Job, length: usize) {
     let mut slice = [lent::FILL; lending::ROOM];
     let day = lending::plan(&mut slice, length, job);
     print_day(job, job.goal, &slice, day);

@@ -1,4 +1,4 @@
-// A slice that is lent to the writer, the planner or the replanner.
+// A slice that is lent to the writer, the planner or the replanner; the parts of what a record gives.
 use job::Job;
 use jobfile::Written;
 use timeline::Day;
@@ -13,6 +13,20 @@ pub fn rest(bytes: &[u8], from: usize) -> &[u8] {
     } else {
         bytes
     }
+}
+
+// The widest number that stands before something else, in bytes.
+const WIDTH: usize = 4;
+
+// The number in the first bytes, so many, or 0 where there are fewer.
+pub fn leading_number(bytes: &[u8], width: usize) -> u32 {
+    if WIDTH < width {
+        return 0;
+    }
+    if bytes.len() < width {
+        return 0;
+    }
+    (encoding::read_number(bytes, 0, width) % 4_294_967_296) as u32
 }
 
 // The writer with the first bytes of a slice, so many.

@@ -3,6 +3,7 @@
 mod calls; // the calls and their answers
 mod lending; // the slices that are lent
 mod peaks; // the peaks of a day
+mod pools; // two jobs pooled to one
 mod rates; // the rates of a price
 mod replans; // begun days, planned anew
 mod true_days; // days that have run
@@ -13,11 +14,12 @@ use lent::front;
 // The bytes of a record's head, and room for the longest body.
 const HEAD: usize = 16;
 
-const BODY: usize = 4_800;
+const BODY: usize = 13_000;
 
 // The head of a record: the letter of its call, the lengths of its title, its file and its body, and the numbers that
 // the call is given. The body is the title, the file and, behind them, a plan, before which the rates of a price, the
-// minute of a begun day or the true lengths of a day stand.
+// minute of a begun day or the true lengths of a day stand, or two more files, before which the length of the first
+// stands.
 pub struct Record {
     pub call: u8,
     pub title: usize,

@@ -2,6 +2,7 @@
 use crate::Record;
 use crate::calls::print_day;
 use crate::lending;
+use crate::lending::leading_number;
 use crate::lending::rest;
 use job::Job;
 use job::refusal::Verdict;
@@ -15,18 +16,11 @@ use timeline::Plan;
 // The bytes of the minute that stands before the current plan.
 const MINUTE: usize = 4;
 
-fn minute_in(given: &[u8]) -> u32 {
-    if given.len() < MINUTE {
-        return 0;
-    }
-    encoding::read_number(given, 0, MINUTE) as u32
-}
-
 // The replanner is lent a slice of so many bytes.
 pub fn print(job: Job, record: Record, given: &[u8]) {
     let mut slice = [lent::FILL; lending::ROOM];
     let current = rest(given, MINUTE);
-    let minute = minute_in(given);
+    let minute = leading_number(given, MINUTE);
     let day = lending::replan(&mut slice, record.room, job, current, minute, record.set);
     print_day(job, record.set, &slice, day);
     print_kept(current, minute, first_steps(&slice, day.steps), day);

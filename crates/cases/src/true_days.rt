@@ -1,5 +1,6 @@
 // Days that have run, by the true length of each step.
 use crate::calls::print_run;
+use crate::lending::leading_number;
 use crate::lending::rest;
 use job::Job;
 use lent::front;
@@ -7,15 +8,8 @@ use lent::front;
 // The bytes of the number of lengths, which stands before them; the plan stands behind them.
 const COUNT: usize = 1;
 
-fn count_in(given: &[u8]) -> usize {
-    if given.len() < COUNT {
-        return 0;
-    }
-    encoding::read_number(given, 0, COUNT) as usize
-}
-
 pub fn print(job: Job, given: &[u8]) {
-    let count = count_in(given);
+    let count = leading_number(given, COUNT) as usize;
     let behind = rest(given, COUNT);
     let lengths = front(behind, count);
     let plan = rest(behind, count);
