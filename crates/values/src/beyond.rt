@@ -23,7 +23,7 @@ pub fn day() -> Job {
 }
 
 // The day with these numbers in the places beyond its one pool and one store.
-fn day_with(availability: u32, amount: u32) -> Job {
+pub fn day_with(availability: u32, amount: u32) -> Job {
     let mut job = day();
     job.pools = [2, availability, availability, availability];
     job.stores = [3, availability, availability, availability];
@@ -45,7 +45,7 @@ fn day_with_two_pools() -> Job {
 }
 
 // The day with an action beyond its two, which 8, 9 and 10 would refuse.
-fn day_with_action() -> Job {
+pub fn day_with_action() -> Job {
     let three = parts::with_action(day(), parts::action(0, 8, 8, 8));
     parts::with_counts(three, 1, 1, 2)
 }

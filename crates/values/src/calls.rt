@@ -1,10 +1,13 @@
 // What the calls answer to a job value.
 use earliest::EarliestTime;
 use job::Job;
+use job::StoreRule;
 use job::refusal::Verdict;
 use job::refusal::number;
 use jobfile::Written;
+use made_jobs::parts;
 use output::text;
+use pooling::Pooled;
 use price::Priced;
 use price::Rates;
 use timeline::Day;
@@ -20,8 +23,7 @@ fn written(answer: Written) -> u8 {
     }
 }
 
-fn of_day(day: Day) -> u8 {
-    let verdict = day.verdict;
+fn judged(verdict: Verdict) -> u8 {
     match verdict {
         Verdict::Pass => 0,
         Verdict::Refused(why) => number(why),
@@ -91,9 +93,24 @@ fn show(call: &[u8], number: u8) {
 
 // The refusal of a day, beside which the peaks are all zero.
 fn show_day(call: &[u8], day: Day) {
-    show(call, of_day(day));
+    let verdict = day.verdict;
+    show(call, judged(verdict));
     if !no_peaks(day) {
         text(b" with peaks");
+    }
+}
+
+// A job of 64 facts under the rule of the coming season: pooled with another, 32 and 33 hold.
+fn partner() -> Job {
+    parts::with_reserve(parts::empty(64, 0, 0, 0), StoreRule::PerHour, 50)
+}
+
+// The refusal of a pooling, beside which the job is all zero.
+pub fn show_pooled(call: &[u8], answer: Pooled) {
+    let verdict = answer.verdict;
+    show(call, judged(verdict));
+    if !parts::same_everywhere(answer.job, Job::zero()) {
+        text(b" with a job");
     }
 }
 
@@ -106,5 +123,7 @@ pub fn refusals(case: &[u8], job: Job, length: usize, plan: &[u8], set: u64) {
     show(b", price ", priced(price::price(job, rates_over(), plan)));
     show_day(b", true day ", true_day::true_day(job, plan, &[0]));
     show(b", earliest ", timed(earliest::earliest(job, set)));
+    show_pooled(b", pool first ", pooling::pool(job, partner()));
+    show_pooled(b", pool second ", pooling::pool(partner(), job));
     text(b"\n");
 }

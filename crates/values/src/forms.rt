@@ -10,12 +10,12 @@ use job::Job;
 use made_jobs::parts::with_handovers;
 
 // In the places beyond the one pool stands 255.
-fn five(job: Job, handover: u8) -> Job {
+pub fn five(job: Job, handover: u8) -> Job {
     with_handovers(job, Form::Five, [handover, 255, 255, 255])
 }
 
 // In every place stands 255.
-fn four(job: Job) -> Job {
+pub fn four(job: Job) -> Job {
     with_handovers(job, Form::Four, [255; Job::POOLS])
 }
 

@@ -4,10 +4,12 @@
 mod refused; // the cases
 mod beyond;
 mod forms;
+mod pools;
 mod ranges;
 mod season;
 mod trips;
 mod calls; // what they are made with
+mod crews;
 mod filled;
 mod jobs;
 
@@ -30,4 +32,9 @@ fn main() {
     season::refused();
     season::ignored();
     season::trips();
+    pools::refused();
+    pools::beyond_counts();
+    pools::beyond_forms();
+    pools::beyond_actions();
+    pools::beyond_rules();
 }

@@ -19,12 +19,12 @@ fn of_two(first: u8, second: u8) -> [u8; Job::ACTIONS] {
     lengths
 }
 
-fn six(job: Job, first: u8, second: u8) -> Job {
+pub fn six(job: Job, first: u8, second: u8) -> Job {
     with_shortest(job, Form::Six, of_two(first, second))
 }
 
 // The same beyond a form without shortest lengths.
-fn five(job: Job, first: u8, second: u8) -> Job {
+pub fn five(job: Job, first: u8, second: u8) -> Job {
     with_shortest(job, Form::Five, of_two(first, second))
 }
 

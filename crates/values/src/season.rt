@@ -10,12 +10,12 @@ use job::StoreRule;
 use made_jobs::parts::with_reserve;
 
 // Under the rule of the coming season.
-fn hourly(job: Job, reserve: u8) -> Job {
+pub fn hourly(job: Job, reserve: u8) -> Job {
     with_reserve(job, StoreRule::PerHour, reserve)
 }
 
 // Under the old rule.
-fn old(job: Job, reserve: u8) -> Job {
+pub fn old(job: Job, reserve: u8) -> Job {
     with_reserve(job, StoreRule::PerStep, reserve)
 }
 

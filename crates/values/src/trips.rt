@@ -17,7 +17,7 @@ fn write(job: Job, out: &mut [u8]) -> usize {
     }
 }
 
-fn same(is_same: bool) {
+pub fn same(is_same: bool) {
     if is_same {
         text(b"same");
     } else {
