@@ -145,13 +145,18 @@ uint64_t ruhkevois_true_day(const uint8_t *file, size_t file_length, const uint8
     const uint8_t *lengths, size_t lengths_length, uint32_t peaks[RUHKEVOIS_POOLS]);
 
 /*
- * Pools the jobs of two files to one and writes its file to the front of `out`. The second's facts and actions are
- * numbered behind the first's; start and goal sets join, pools and stores add up place by place, the later deadline
- * holds, and the file has the form with more entries of the two. 4,096 bytes are room enough.
- * Done: end is the number of bytes written; the bytes of `out` behind them are kept.
- * Refused: the first file's; the second file's; 32 where the pooled job has over 64 facts or actions, or a pool or
- * store over 1,000,000; 33 where handovers of a pool that both have, head forms or reserves differ; 23 where `out` is
- * shorter than the pooled job's file.
+ * Pools the jobs of two files: writes the file of the one job that they become to the front of `out`. Facts and
+ * actions of the second file are numbered behind those of the first: action k of the second is action n + k, where the
+ * first has n, and so for facts. The start and goal sets join. Pools and stores add up place by place; one that a job
+ * lacks counts 0, and such a pool takes the other job's handover. The later deadline holds, and the file has the form
+ * with more entries of the two; there an action that had no shortest length gets its length.
+ * Done: end is the number of bytes written; the bytes of `out` behind them are kept. The file is accepted by every
+ * call. Where both jobs have plans with together at most 32 steps, the pooled day ends no later than the later of the
+ * two; with the files in the other order it ends at the same minute, or is refused by the same 22.
+ * Refused: the first file's; the second file's; 32 where the two have together over 64 facts or over 64 actions, or a
+ * sum of a pool or store is over 1,000,000; 33 where the handovers of a pool that both have (0 in a file of four
+ * entries), the lengths of the heads or the reserves differ; 23 where `out` is shorter than the pooled file, for which
+ * RUHKEVOIS_FILE_BYTES are always enough; `out` is kept as it was.
  */
 uint64_t ruhkevois_pool(const uint8_t *first, size_t first_length, const uint8_t *second, size_t second_length,
     uint8_t *out, size_t out_length);
