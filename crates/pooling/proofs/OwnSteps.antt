@@ -1,4 +1,5 @@
--- Steps of a job that passes: what their actions are like, and that they keep within pools and stores that the job lacks.
+-- Steps of a job that passes: what their actions are like, and that they keep within every pool and store, also those
+-- that the job lacks, of which they use nothing.
 -- Assumes nothing.
 use Prim.Native.Nat.{ℕ, _-_, _<_, _≤_}
 use mathlib.Core.Path.{_≡_, ap, _∙_}

@@ -1,5 +1,4 @@
--- Two small jobs pooled, computed from the definitions: each has one action of three minutes, which uses the one
--- receiver.
+-- Two small jobs pooled, computed from the definitions: each has one action of three minutes, which uses one receiver.
 -- Assumes nothing.
 use mathlib.Core.Path.{_≡_, refl}
 use mathlib.Core.List.{List, [], _∷_}
