@@ -38,6 +38,14 @@ pub mod exported {
             count: usize,
             peaks: *mut u32,
         ) -> u64;
+        pub fn ruhkevois_pool(
+            first: *const u8,
+            length: usize,
+            second: *const u8,
+            other_length: usize,
+            out: *mut u8,
+            room: usize,
+        ) -> u64;
     }
 }
 
@@ -50,7 +58,7 @@ pub enum Answer {
     /// A plan's or a true day's end, an earliest time or a file's length; the number of steps of a plan that was
     /// written or of a true day, else 0; for each pool the most that either or a checked plan uses together, else 0.
     Done { end: u32, steps: u16, peaks: [u32; POOLS] },
-    /// A refusal by its number, 1 to 27, 29 to 31 or 35.
+    /// A refusal by its number, 1 to 27, 29 to 33 or 35.
     Refused(u8),
     /// A set of facts that no plan ever has together.
     Unreachable,
@@ -141,4 +149,11 @@ pub fn true_day(file: &[u8], plan: &[u8], lengths: &[u8]) -> Answer {
     let (lengths, count) = (lengths.as_ptr(), lengths.len());
     let answer = unsafe { exported::ruhkevois_true_day(file, length, plan, bytes, lengths, count, lent) };
     unpack(answer, peaks)
+}
+
+/// Pools the jobs of two files to one and writes its file to the front of `out`, where 4,096 bytes are room enough.
+pub fn pool(first: &[u8], second: &[u8], out: &mut [u8]) -> Answer {
+    let (first, length, second, other_length) = (first.as_ptr(), first.len(), second.as_ptr(), second.len());
+    let (out, room) = (out.as_mut_ptr(), out.len());
+    unpack(unsafe { exported::ruhkevois_pool(first, length, second, other_length, out, room) }, [0; POOLS])
 }
