@@ -62,7 +62,10 @@ impl Case<'_> {
         if pooled != in_other_order {
             self.differs("pooled day", format!("end {pooled:?}, in the other order {in_other_order:?}"));
         }
-        let bound = alone.filter(|days| days.0.steps + days.1.steps <= 32).map(|days| days.0.end.max(days.1.end));
+        if alone.is_some_and(|days| days.0.steps + days.1.steps > 32) {
+            return; // nothing more is promised
+        }
+        let bound = alone.map(|days| days.0.end.max(days.1.end));
         let kind = match (pooled, bound) {
             (Some(end), Some(bound)) if end < bound => 0,
             (Some(end), Some(bound)) if end == bound => 1,

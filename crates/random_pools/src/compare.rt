@@ -81,8 +81,8 @@ fn together(first: Job, second: Job) -> Outcome {
     }
 }
 
-// Whether the pooled day ends no later than the later of both alone, which is never where one of them has no plan. Where
-// 33 is told there is no pooled day.
+// Whether the pooled day ends no later than the later of both alone, which is never where one of them has no plan.
+// Where 33 is told there is no pooled day.
 fn no_later(pooled: Outcome, alone: u32) -> bool {
     is_unlike(pooled) | (end(pooled) <= alone)
 }

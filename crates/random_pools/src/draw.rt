@@ -43,8 +43,8 @@ fn smaller(a: usize, b: usize) -> usize {
     if a < b { a } else { b }
 }
 
-// The job of a seed with its first actions alone and an early deadline; it has one pool or two, which two of its actions
-// seldom share.
+// The job of a seed with its first actions alone and an early deadline; it has one pool or two, which two of its
+// actions seldom share.
 fn small(seed: u64) -> Job {
     let mut job = random_job(seed);
     let counts = job.counts;
