@@ -42,7 +42,7 @@ pub mod exported {
             first: *const u8,
             length: usize,
             second: *const u8,
-            bytes: usize,
+            other_length: usize,
             out: *mut u8,
             room: usize,
         ) -> u64;
@@ -151,9 +151,9 @@ pub fn true_day(file: &[u8], plan: &[u8], lengths: &[u8]) -> Answer {
     unpack(answer, peaks)
 }
 
-/// Pools the jobs of two files to one and writes its file to the front of `out`.
+/// Pools the jobs of two files to one and writes its file to the front of `out`, where 4,096 bytes are room enough.
 pub fn pool(first: &[u8], second: &[u8], out: &mut [u8]) -> Answer {
-    let (first, length, second, bytes) = (first.as_ptr(), first.len(), second.as_ptr(), second.len());
+    let (first, length, second, other_length) = (first.as_ptr(), first.len(), second.as_ptr(), second.len());
     let (out, room) = (out.as_mut_ptr(), out.len());
-    unpack(unsafe { exported::ruhkevois_pool(first, length, second, bytes, out, room) }, [0; POOLS])
+    unpack(unsafe { exported::ruhkevois_pool(first, length, second, other_length, out, room) }, [0; POOLS])
 }

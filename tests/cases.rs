@@ -206,13 +206,13 @@ pub fn hours(r: &mut Random) -> Job {
 }
 
 /// No action uses more of a pool or store than there is, so that the job is not refused by 26.
-fn within_available(job: &mut Job) {
+pub fn within_available(job: &mut Job) {
     for n in 0..job.actions.len() {
+        let unit = Action { stores: [1; 4], ..job.actions[n] };
         for k in 0..4 {
+            let most = job.allowed(k) / job.charged(&unit, k);
             job.actions[n].pools[k] = job.actions[n].pools[k].min(job.pool[k]);
-            while job.charged(&job.actions[n], k) > job.allowed(k) {
-                job.actions[n].stores[k] -= 1;
-            }
+            job.actions[n].stores[k] = job.actions[n].stores[k].min(most);
         }
     }
 }

@@ -1,27 +1,33 @@
 //! Compares the calls with an independent implementation in plain Rust, on random jobs, files, sets, plans, rates,
-//! begun days and true lengths, through the C interface. Before those it goes through files of each form, true lengths
-//! and the limits of stores one by one, as seed 0.
+//! begun days, true lengths and pairs of files, through the C interface. Before those it goes through files of each
+//! form, true lengths, the limits of stores and those of pooled jobs one by one, as seed 0.
 //! A difference prints the seed of its case and ends with status 1. Arguments: number of cases, first seed.
 mod cases;
 mod forms;
 mod handovers;
+mod pairs;
 #[allow(dead_code)]
 #[path = "../bench/plain.rs"]
 mod plain;
+mod plain_pool;
 mod plain_price;
 mod plain_replan;
 mod plain_true_day;
+mod pooled_days;
+mod pools;
 mod replans;
 #[allow(dead_code)]
 #[path = "../examples/ruhkevois.rs"]
 mod ruhkevois;
 mod season;
 mod simple_planner;
+mod tally;
 mod true_days;
 use cases::Random;
 use plain::Job;
 use plain_price::Rates;
 use ruhkevois::exported::*;
+use tally::Tally;
 
 const UNREACHABLE: u64 = 2;
 
@@ -43,7 +49,7 @@ fn expected(end: Result<u64, u64>) -> u64 {
 
 /// What was seen: refusals by number (0: done), prices by their bits, accepted plans and planned ones by their steps,
 /// days by the number of pools that are in use at some minute, days with a pool of which all is in use, what handovers
-/// and the hourly rule changed, replans, and true days.
+/// and the hourly rule changed, replans, true days, pairs of files, and pooled days.
 struct Seen {
     refusals: [u64; 36],
     prices: [u64; 65],
@@ -55,6 +61,8 @@ struct Seen {
     season: season::Seen,
     replans: replans::Seen,
     true_days: true_days::Seen,
+    pairs: pools::Seen,
+    pooled_days: Tally,
 }
 
 /// A slice lent for a plan, between other bytes, and an array lent for the peaks, between other numbers.
@@ -209,10 +217,22 @@ impl Case<'_> {
         job.map(|_| plan)
     }
 
-    /// Plans into a slice of this length; gives the plan, where there is one.
-    fn plan(&mut self, r: &mut Random, file: &[u8], job: &Result<Job, u64>, room: usize) -> Option<Vec<u8>> {
+    /// Plans into a slice of this length; gives the answer and the plan, where there is one, which ends as told.
+    fn ask_plan(&mut self, r: &mut Random, file: &[u8], job: &Result<Job, u64>, room: usize) -> (u64, Option<Vec<u8>>) {
         let mut lent = Lent::new(r, room);
         let answer = unsafe { ruhkevois_plan(file.as_ptr(), file.len(), lent.out(), room, lent.peaks()) };
+        let plan = self.handed_out("plan", &lent, answer, job);
+        if let (Ok(job), Some(plan)) = (job, &plan) {
+            let checked = plain::check(job, plan);
+            self.same("end of the plan", expected(checked), expected(Ok(answer >> 16 & 0xffff_ffff)));
+            self.seen.planned[plan.len() / 3] += 1;
+        }
+        (answer, plan)
+    }
+
+    /// The same with the end that the simple planner gives; the plan, where there is one.
+    fn plan(&mut self, r: &mut Random, file: &[u8], job: &Result<Job, u64>, room: usize) -> Option<Vec<u8>> {
+        let (answer, plan) = self.ask_plan(r, file, job, room);
         let want = match job {
             Err(number) => refused(*number),
             Ok(_) if room < 96 => refused(21),
@@ -224,11 +244,7 @@ impl Case<'_> {
             }
         };
         self.same("plan", answer, want);
-        let plan = self.handed_out("plan", &lent, answer, job)?;
-        let checked = job.as_ref().map_err(|n| *n).and_then(|job| plain::check(job, &plan));
-        self.same("end of the plan", expected(checked), expected(Ok(answer >> 16 & 0xffff_ffff)));
-        self.seen.planned[plan.len() / 3] += 1;
-        Some(plan)
+        plan
     }
 }
 
@@ -249,7 +265,8 @@ fn some_set(r: &mut Random, facts: u64) -> u64 {
     }
 }
 
-/// Every call on one file, whatever it holds. Plans are asked for where the file is refused, or the job is small.
+/// Every call on one file, whatever it holds. Plans are asked for where the file is refused, or the job is small, and
+/// pooled days where it is small.
 fn every_call(case: &mut Case, r: &mut Random, file: &[u8], is_small: bool) {
     let job = plain::read(file);
     case.read(file, &job);
@@ -272,6 +289,10 @@ fn every_call(case: &mut Case, r: &mut Random, file: &[u8], is_small: bool) {
             case.true_days(r, file, &job, &damaged);
         }
         replans::small_days(case, r, file, &job, planned);
+    }
+    case.pairs(r, file, &job);
+    if let Some(job) = job.as_ref().ok().filter(|_| is_small) {
+        case.pooled_days(r, file, job);
     }
 }
 
@@ -352,7 +373,7 @@ const ALL_SEEN: u64 = 50_000;
 
 /// The numbers of the table that were never told.
 fn never_told(refusals: &[u64]) -> Vec<usize> {
-    (1..=27).chain([29, 30, 31, 35]).filter(|&number| refusals[number] == 0).collect()
+    (1..=27).chain(29..=33).chain([35]).filter(|&number| refusals[number] == 0).collect()
 }
 
 fn main() {
@@ -369,12 +390,15 @@ fn main() {
         season: season::Seen::default(),
         replans: replans::Seen::none(),
         true_days: true_days::Seen::default(),
+        pairs: pools::Seen::none(),
+        pooled_days: pooled_days::none_seen(),
     };
     for (place, file) in forms::every_file().iter().enumerate() {
         every_call(&mut Case { seed: 0, seen: &mut seen }, &mut Random::new(place as u64), file, false);
     }
     true_days::one_by_one(&mut Case { seed: 0, seen: &mut seen });
     season::one_by_one(&mut Case { seed: 0, seen: &mut seen });
+    pools::one_by_one(&mut Case { seed: 0, seen: &mut seen });
     for seed in first..first + count {
         one_case(&mut Case { seed, seen: &mut seen });
     }
@@ -387,7 +411,11 @@ fn main() {
     seen.season.print();
     seen.replans.print();
     seen.true_days.print();
+    let tallies = [&seen.pairs.tallies()[..], &[&seen.pooled_days]].concat();
+    tallies.iter().for_each(|tally| println!("{tally}"));
     let never = never_told(&seen.refusals);
     assert!(count < ALL_SEEN || never.is_empty(), "in {count} cases none was refused by {never:?}");
+    let never: Vec<String> = tallies.iter().flat_map(|tally| tally.never()).collect();
+    assert!(count < ALL_SEEN || never.is_empty(), "in {count} cases there were none of {never:?}");
     println!("{count} cases from seed {first}: {} answers, all the same", seen.refusals.iter().sum::<u64>());
 }

@@ -7,6 +7,7 @@ pub enum Outcome {
     NoPlan,
     UseBeyond, // refused by 26
     ForeignGoal, // refused by 24
+    Unlike, // refused by 33
     TooLarge, // for the second planner
     Differs,
 }
@@ -22,6 +23,7 @@ pub struct Totals {
     pub no_plan: u64,
     pub use_beyond: u64,
     pub foreign_goal: u64,
+    pub unlike: u64,
     pub too_large: u64,
     pub differences: u64,
     pub ends: u64, // the sum of the least ends
@@ -35,6 +37,7 @@ impl Totals {
             no_plan: 0,
             use_beyond: 0,
             foreign_goal: 0,
+            unlike: 0,
             too_large: 0,
             differences: 0,
             ends: 0,
@@ -58,6 +61,9 @@ impl Totals {
             Outcome::ForeignGoal => {
                 self.foreign_goal = wrapping_add_u64(self.foreign_goal, 1);
             }
+            Outcome::Unlike => {
+                self.unlike = wrapping_add_u64(self.unlike, 1);
+            }
             Outcome::TooLarge => {
                 self.too_large = wrapping_add_u64(self.too_large, 1);
             }
@@ -69,7 +75,7 @@ impl Totals {
         self
     }
 
-    // A line for each total but the number of questions and 24.
+    // A line for each total but the number of questions, 24 and 33.
     pub fn print(self) {
         output::total(b"with a plan", self.plans);
         output::total(b"no plan", self.no_plan);

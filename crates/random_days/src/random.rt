@@ -1,7 +1,7 @@
 // Random small jobs: how many have a plan, the sum of their least ends, how many are refused by 26, and how often the
 // planners differ.
-use crate::compare::compare;
 use compared::Totals;
+use two_planners::compare;
 
 // The totals over the first so many seeds.
 fn run(seeds: u64) -> Totals {
