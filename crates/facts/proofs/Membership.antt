@@ -147,13 +147,16 @@ foreign-decides facts set =
     sym (rw place at (has-shifted set facts (n - facts))) ∙ none (n - facts) ∙ has-zero (n - facts))
     (λ within n. has-shifted set facts n ∙ within (facts + n) (omega arith) ∙ sym (has-zero n)))
 
+pub within-unless-foreign : (facts set : ℕ) → foreign facts set ≡ false → Within facts set
+within-unless-foreign facts set h = (foreign-decides facts set) .sound (ap not h)
+
 -- a word has no fact from 64 on
 pub foreign-none : (facts set : ℕ) → 64 ≤ facts → set < 2 ^ 64 → foreign facts set ≡ false
 unfolding foreign
 foreign-none facts set l h = let more = pow-mono l in lt-leb (2 ^ facts) set (omega arith)
 
 pub word-within : (set : ℕ) → set < 2 ^ 64 → Within 64 set
-word-within set h = (foreign-decides 64 set) .sound (ap not (foreign-none 64 set (omega arith) h))
+word-within set h = within-unless-foreign 64 set (foreign-none 64 set (omega arith) h)
 
 pub within-word : (facts set : ℕ) → foreign facts set ≡ false → facts ≤ 64 → set < 2 ^ 64
 unfolding foreign

@@ -30,7 +30,7 @@ use Rattle.regression.specs.Normal.{blocks, blocked, touchesAt}
 -- ---- not blocked
 module _ (J : Job) (goal T : ℕ) {x : Step} {Q P : List Step} (i : Place x Q P) (keeps : Keeps J T goal P)
     (unblocked : blocked J T P x ≡ false) where
-  not-blocked : NotBlocked J T x Q
+  pub not-blocked : NotBlocked J T x Q
   unfolding blocked
   not-blocked =
       let atHorizon = eqb (x .stop) T in

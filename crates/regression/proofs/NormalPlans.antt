@@ -52,7 +52,7 @@ each-new b X P K kept h =
 abbrev NewStep : Job → From → Step → Type 0
 NewStep J b x = OfJob J x × (x .number < length (J .actions)) × IsNew b x
 
-own-later : (J : Job) (x : Step) → OfJob J x → OfJob J (later x)
+pub own-later : (J : Job) (x : Step) → OfJob J x → OfJob J (later x)
 own-later J x own =
     let d = actionOf J (x .number) .duration in
     let e : suc (x .start + d) ≡ suc (x .start) + d = omega arith in
@@ -64,7 +64,7 @@ new-step-later : (J : Job) (b : From) (x : Step) → NewStep J b x → NewStep J
 new-step-later J b x new = (own-later J x (new .0), new .1, new-later b x (new .2))
 
 -- no action of a job that passes its tests adds what it deletes
-own-effects : (J : Job) → Passed J → (x : Step) → OfJob J x → x .number < length (J .actions)
+pub own-effects : (J : Job) → Passed J → (x : Step) → OfJob J x → x .number < length (J .actions)
     → meets (x .action .adds) (x .action .deletes) ≡ false
 own-effects J passed x own known =
     let a = each-at (PassedAction (J .facts)) (J .actions) noAction (passed .actions) (x .number) known in

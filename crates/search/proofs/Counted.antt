@@ -11,14 +11,13 @@ use Rattle.job.specs.Job.{Job}
 use Rattle.timeline.specs.Step.{Step, stepsIn, before, strictlyRising}
 use Rattle.timeline.specs.From.{IsNew, IsKept}
 use Rattle.timeline.specs.Accepted.{Accepted}
-use Rattle.timeline.specs.Places.{Place, here, there, EachStep, Permutation, empty, next-step}
-use Rattle.timeline.specs.Keeps.{OfJob, PlanOf}
+use Rattle.timeline.specs.Places.{Place, EachStep, Permutation}
 use Rattle.timeline.proofs.Tests.{and-both}
 use Rattle.timeline.proofs.Places.{append-cases, place-append, place-after}
 use Rattle.timeline.proofs.AcceptedSteps.{accepted-steps}
 use Rattle.timeline.proofs.JobSteps.{steps-of-accepted}
-use Rattle.timeline.proofs.Permutations.{permutation-sym, permutation-trans}
-use Rattle.timeline.proofs.Permutations.{permutation-append, permutation-each, permutation-keeps, permutation-member}
+use Rattle.timeline.proofs.Permutations.{permutation-sym, permutation-trans, permutation-swap}
+use Rattle.timeline.proofs.Permutations.{permutation-append, permutation-each, permutation-member}
 use Rattle.timeline.proofs.Rising.{rising-same-members}
 use Rattle.timeline.proofs.NewSteps.{not-new-and-kept}
 use Rattle.makespan.specs.Makespan.{begun, Counts}
@@ -32,18 +31,6 @@ use Rattle.leaf.specs.Answer.{FileOf, Finishes, bytesIn}
 use Rattle.search.specs.Search.{stepsBefore, CountsFor, FoundFor}
 use Rattle.states.proofs.Chosen.{chosen-splits, since-new}
 use Rattle.search.proofs.StepsBefore.{rising-splits, before-are-kept, before-minute-begun}
-
-place-behind : (x : Step) (N K : List Step) → Place x (N ++ K) (N ++ (x ∷ K))
-place-behind x [] K = here
-place-behind x (y ∷ N) K = there (place-behind x N K)
-
-append-nothing : (N : List Step) → Permutation N (N ++ [])
-append-nothing [] = empty
-append-nothing (x ∷ N) = next-step here (append-nothing N)
-
-append-swap : (K N : List Step) → Permutation (K ++ N) (N ++ K)
-append-swap [] N = append-nothing N
-append-swap (x ∷ K) N = next-step (place-behind x N K) (append-swap K N)
 
 -- the plan's steps are new ones and the kept ones
 pub record Split (J : Job) (frame : Frame) (P : List Step) : Type 0 where
@@ -64,18 +51,10 @@ split-of-counted J frame bytes accepted counts =
     record {
       new = r .0;
       same = subst (λ (Q : List Step). Permutation Q (r .0 ++ keptOf J frame)) (sym is)
-          (permutation-trans (permutation-append (r .0) o) (append-swap (keptOf J frame) (r .0)));
+          (permutation-trans (permutation-append (r .0) o) (permutation-swap (keptOf J frame) (r .0)));
       after = r .2;
       early = permutation-each (IsKept (fromOf frame)) (permutation-sym o)
           (subst (EachStep (IsKept (fromOf frame))) counts (before-are-kept (fromOf frame) P));
-    }
-
-pub plan-permuted : (J : Job) (T goal : ℕ) {R P : List Step} → Permutation R P → PlanOf J T goal P → PlanOf J T goal R
-plan-permuted J T goal o plan =
-    record {
-      keeps = permutation-keeps J T goal o (plan .keeps);
-      own = permutation-each (OfJob J) o (plan .own);
-      known = permutation-each (λ x. x .number < length (J .actions)) o (plan .known);
     }
 
 -- a plan that the leaf finds has the kept steps, and else new ones

@@ -15,7 +15,7 @@ use Rattle.timeline.specs.Accepted.{Accepted}
 use Rattle.timeline.specs.Places.{EachStep}
 use Rattle.timeline.proofs.Tests.{not-both}
 use Rattle.timeline.proofs.Places.{append-cases, place-after, largest-at-least, largest-at-most}
-use Rattle.timeline.proofs.Permutations.{permutation-sym, permutation-member}
+use Rattle.timeline.proofs.Permutations.{permutation-sym, permutation-member, plan-permuted}
 use Rattle.timeline.proofs.NewSteps.{new-from-minute}
 use Rattle.times.proofs.PlanSteps.{plan-of-accepted}
 use Rattle.earliest.specs.Numbers.{setNumber, SameTime}
@@ -26,7 +26,7 @@ use Rattle.leaf.specs.declared.Answer.{Answer}
 use Rattle.leaf.specs.Answer.{bytesIn}
 use Rattle.search.specs.Search.{TaskOf, CountsFor, FoundFor}
 use Rattle.search.specs.Horizons.{until, Whole, NoneBefore, NoneBy, Solves, Shortest, Raised, FoundBy}
-use Rattle.search.proofs.Counted.{split-of-counted, plan-permuted}
+use Rattle.search.proofs.Counted.{split-of-counted}
 
 -- ---- another horizon
 module _ (file sets numbers times : List ℕ) (frame : Frame) (T : ℕ) (within : T ≤ frame .horizon) where

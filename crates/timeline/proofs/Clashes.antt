@@ -4,9 +4,10 @@ use Prim.Native.Nat.{ℕ, _<_}
 use mathlib.Core.Path.{_≡_, ap₂}
 use mathlib.Core.Bool.{true, false, _&&_, _||_, and-comm, or-comm}
 use mathlib.Core.Logic.{⊎-elim}
-use mathlib.Core.List.{List}
+use mathlib.Core.List.{List, [], _∷_, _++_}
 use lib.Dec.{eqb, ltb}
 use borrow.Author.Tests.{eqb-false, ne-eqb, ltb-true, lt-ltb}
+use Rattle.lists.specs.Lists.{any}
 use Rattle.lists.proofs.Bools.{and-left, and-right, or-left, or-right}
 use Rattle.facts.specs.FactSet.{has, union}
 use Rattle.facts.proofs.SetLaws.{in-union-left, in-union-right, in-union-cases, not-in-both, no-common-member}
@@ -14,9 +15,9 @@ use Rattle.job.specs.Job.{Action}
 use Rattle.timeline.specs.Step.{Step, anyPair}
 use Rattle.timeline.specs.Timeline.{hinders, clash, overlap}
 use Rattle.timeline.specs.Accepted.{clashing}
-use Rattle.timeline.specs.Places.{Place}
+use Rattle.timeline.specs.Places.{Place, here, EachStep}
 use Rattle.timeline.proofs.Tests.{not-both, false-unless, and-both, and-other-false, or-neither, eqb-sym}
-use Rattle.timeline.proofs.Places.{pair-none}
+use Rattle.timeline.proofs.Places.{each-append, each-rest, any-of-none, none-of-any, pair-none}
 
 -- a deletes nothing that b needs, and nothing that b adds
 pub record Spares (a b : Action) : Type 0 where
@@ -91,3 +92,15 @@ not-clashing x y h =
     (λ e.
     let o = overlap-reads x y (and-left (overlap x y) (clash x y) e) in
     not-both (and-right (overlap x y) (clash x y) e) (h (o .0) (o .1)))
+
+-- no two of P and no two of R clash, nor one of P with one of R
+pub no-clash-append : (P R : List Step) → anyPair clashing P ≡ false → anyPair clashing R ≡ false
+    → EachStep (λ x. EachStep (λ y. clashing x y ≡ false) R) P → anyPair clashing (P ++ R) ≡ false
+no-clash-append [] R a b h = b
+no-clash-append (x ∷ P) R a b h =
+    or-neither
+    (any-of-none (clashing x) (P ++ R)
+    (each-append (λ y. clashing x y ≡ false) P R (none-of-any (clashing x) P (or-left (any (clashing x) P) _ a))
+    (h x P here)))
+    (no-clash-append P R (or-right (any (clashing x) P) _ a) b
+    (each-rest (λ y. EachStep (λ z. clashing y z ≡ false) R) x P h))

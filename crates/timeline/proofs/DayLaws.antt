@@ -1,6 +1,6 @@
 -- What is answered of a day, and the reply that it makes.
 -- Assumes nothing.
-use Prim.Native.Nat.{ℕ, _*_, _/_}
+use Prim.Native.Nat.{ℕ, _*_, _/_, _≤_}
 use mathlib.Core.Path.{_≡_, refl, ap, _∙_}
 use mathlib.Core.List.{List}
 use native.Mathlib.Omega.{arith}
@@ -24,6 +24,10 @@ verdict-of-day (Refused why) J P day h = ap (λ (d : Day). d .verdict) h
 -- an answer that refuses tells of no plan
 pub refused-not-passed : (answer : Day) (why : Refusal) → answer ≡ noDay why → answer .verdict ≡ Pass → ⊥
 refused-not-passed answer why told h = let z : _≡_ {A = ℕ} 0 1 = cc in omega arith
+
+-- where there is no day there are no steps
+pub few-without-day : (why : Refusal) (answer : Day) → answer ≡ noDay why → answer .steps ≤ 32
+few-without-day why answer told = let zero = ap (λ (d : Day). d .steps) told in omega arith
 
 pub reply-of-day : (v : Verdict) (J : Job) (P : List Step) → dayReply (dayOf v J P) ≡ replyBy v (toldOf J P)
 reply-of-day Pass J P = refl

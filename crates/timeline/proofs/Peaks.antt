@@ -28,7 +28,7 @@ below-at-most (suc n) most f h =
     let rest = below-at-most n most f (λ t l. h t (omega arith)) in
     omega arith
 
-below-at-least : (n t : ℕ) (f : ℕ → ℕ) → t < n → f t ≤ largestBelow n f
+pub below-at-least : (n t : ℕ) (f : ℕ → ℕ) → t < n → f t ≤ largestBelow n f
 below-at-least zero t f l = absurd (omega arith)
 below-at-least (suc n) t f l =
     ⊎-elim (λ e. let same : t ≡ n = omega arith in rw same (omega arith))
@@ -58,7 +58,7 @@ module _ (J : Job) (pool : ℕ) (P : List Step) where
       (λ h. let nothing = nothing-without-shares J pool t P h in omega arith)
       (decided (any (hasShare J pool t) P))
 
-  use-by-minutes : (t : ℕ) → amount t ≤ peak J pool P
+  pub use-by-minutes : (t : ℕ) → amount t ≤ peak J pool P
   unfolding peak
   use-by-minutes t =
       ⊎-elim (λ none. omega arith)

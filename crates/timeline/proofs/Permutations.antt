@@ -3,7 +3,7 @@
 use Prim.Native.Nat.{ℕ, suc, _+_, _<_, _≤_}
 use mathlib.Core.Path.{_≡_, refl, sym, ap, ap₂, _∙_}
 use mathlib.Core.Bool.{Bool, _||_}
-use mathlib.Core.List.{List, [], _∷_, _++_}
+use mathlib.Core.List.{List, [], _∷_, _++_, append-nil}
 use native.Mathlib.Omega.{arith}
 use lib.ListN.{length}
 use Rattle.lists.specs.Lists.{any}
@@ -12,9 +12,9 @@ use Rattle.timeline.specs.Step.{Step, anyPair, total}
 use Rattle.timeline.specs.Timeline.{held, storeUse}
 use Rattle.timeline.specs.Accepted.{clashing}
 use Rattle.timeline.specs.Places.{Place, here, there, Member, EachStep, Permutation, empty, next-step}
-use Rattle.timeline.specs.Keeps.{Keeps}
+use Rattle.timeline.specs.Keeps.{Keeps, OfJob, PlanOf}
 use Rattle.timeline.proofs.Places.{any-place, total-place}
-use Rattle.timeline.proofs.Places.{length-place, anyPair-place, place-wider, place-append}
+use Rattle.timeline.proofs.Places.{length-place, anyPair-place, place-wider, place-append, place-after}
 use Rattle.timeline.proofs.HeldFacts.{held-same-members}
 use Rattle.timeline.proofs.Clashes.{clashing-sym}
 use Rattle.timeline.proofs.Shares.{useAt}
@@ -33,7 +33,7 @@ permutation-sym empty = empty
 permutation-sym (next-step i k) = permutation-place (permutation-sym k) i
 
 -- x taken from both, where y is put in after
-place-exchange : {x y : Step} {W R P : List Step} → Place y R P → Place x W R
+pub place-exchange : {x y : Step} {W R P : List Step} → Place y R P → Place x W R
     → (Q : List Step) × Place x Q P × Place y W Q
 place-exchange here j = (_, there j, here)
 place-exchange (there i) here = (_, here, i)
@@ -59,6 +59,10 @@ permutation-append K empty = permutation-refl K
 permutation-append K (next-step i k) = next-step (place-append K i) (permutation-append K k)
 
 -- ---- the same members
+pub permutation-swap : (N K : List Step) → Permutation (N ++ K) (K ++ N)
+permutation-swap [] K = rw (append-nil K) (permutation-refl K)
+permutation-swap (x ∷ N) K = next-step (place-after K here) (permutation-swap N K)
+
 pub permutation-member : {x : Step} {Q R P : List Step} → Permutation R P → Place x Q R → Member x P
 permutation-member (next-step i k) here = (_, i)
 permutation-member (next-step i k) (there j) = let r = permutation-member k j in place-wider i (r .1)
@@ -107,4 +111,12 @@ permutation-keeps J T goal {R} {P} k keeps =
           let r = permutation-member k i in
           rw (permutation-held (J .start) k (x .start)) (keeps .needsHold x (r .0) (r .1) n h);
       goalHolds = λ n g. rw (permutation-held (J .start) k T) (keeps .goalHolds n g);
+    }
+
+pub plan-permuted : (J : Job) (T goal : ℕ) {R P : List Step} → Permutation R P → PlanOf J T goal P → PlanOf J T goal R
+plan-permuted J T goal o plan =
+    record {
+      keeps = permutation-keeps J T goal o (plan .keeps);
+      own = permutation-each (OfJob J) o (plan .own);
+      known = permutation-each (λ x. x .number < length (J .actions)) o (plan .known);
     }

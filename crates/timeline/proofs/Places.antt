@@ -4,7 +4,7 @@ use Prim.Native.Nat.{ℕ, suc, _+_, _≤_, max}
 use mathlib.Core.Path.{_≡_, refl, sym, ap, ap₂, _∙_}
 use mathlib.Core.Bool.{Bool, true, false, _||_}
 use mathlib.Core.Logic.{_⊎_, inl, inr, ⊎-elim}
-use mathlib.Core.List.{List, [], _∷_, _++_}
+use mathlib.Core.List.{List, [], _∷_, _++_, map}
 use native.Mathlib.Omega.{arith}
 use lib.ListN.{length}
 use Rattle.lists.specs.Lists.{any, Each}
@@ -58,12 +58,20 @@ pub each-cons : (F : Step → Type 0) (x : Step) (P : List Step) → F x → Eac
 each-cons F x P e h y Q here = e
 each-cons F x P e h y Q (there {Q = R} i) = h y R i
 
+pub each-append : (F : Step → Type 0) (P K : List Step) → EachStep F P → EachStep F K → EachStep F (P ++ K)
+each-append F P K p k x Q i = ⊎-elim (λ w. p x (w .0) (w .1)) (λ w. k x (w .0) (w .1)) (append-cases P K i)
+
 pub each-wider : (F : Step → Type 0) {x : Step} {Q P : List Step} → Place x Q P → EachStep F P → EachStep F Q
 each-wider F i h y R j = let r = place-wider i j in h y (r .0) (r .1)
 
 pub each-step : (F : Step → Type 0) (P : List Step) → Each F P → EachStep F P
 each-step F (y ∷ P) e x Q here = e .0
 each-step F (y ∷ P) e x Q (there {Q = R} i) = each-step F P (e .1) x R i
+
+pub each-map : (F : Step → Type 0) (f : Step → Step) (P : List Step) → EachStep (λ x. F (f x)) P → EachStep F (map f P)
+each-map F f [] h = each-step F [] tt
+each-map F f (x ∷ P) h =
+    each-cons F (f x) (map f P) (h x P here) (each-map F f P (each-rest (λ y. F (f y)) x P h))
 
 pub each-of-steps : (F : Step → Type 0) (P : List Step) → EachStep F P → Each F P
 each-of-steps F [] h = tt

@@ -46,7 +46,7 @@ lacksNeed J P x = not (subset (x .action .needs) (held (J .start) P (x .start)))
 abbrev pub lacksGoal : Job → ℕ → List Step → Bool
 lacksGoal J goal P = not (subset goal (held (J .start) P (end P)))
 
--- tests 13 to 15: what two plans must pass to be joined
+-- tests 13 to 15 of the steps
 abbrev pub orderRows : Job → List Step → List Row
 orderRows J P =
     UnknownAction when any (unknown J) P
@@ -62,6 +62,10 @@ ruleRows J P =
     ∷ StoreExceeded when anyBelow (length (J .stores)) (exceedsStore J P)
     ∷ NeedMissing when any (lacksNeed J P) P
     ∷ []
+
+-- tests 12 to 15: what "any two plans" must pass to be joined
+unfoldable pub shapeRows : Job → List ℕ → List Row
+shapeRows J bytes = PlanSize when wrongSize bytes ∷ orderRows J (stepsIn J bytes)
 
 -- tests 13 to 20 of the steps
 unfoldable pub stepRows : Job → ℕ → List Step → List Row
