@@ -1,18 +1,14 @@
 -- Arrays of amounts place by place.
 -- Assumes nothing.
-use Prim.Native.Nat.{ℕ, _+_, _-_, _<_, _≤_}
+use Prim.Native.Nat.{ℕ, _+_, _<_, _≤_}
 use mathlib.Core.Path.{_≡_, sym, ap, _∙_}
 use mathlib.Core.List.{List}
 use native.Mathlib.Omega.{arith}
 use lib.ListN.{length, getD, List·getD-eq-default}
 use Rattle.lists.specs.Lists.{tabulate, firsts, filled}
-use Rattle.lists.proofs.Tabulate.{length-tabulate, tabulate-same, getD-tabulate, firsts-all, each-at}
-use Rattle.job.specs.Passed.{Amounts}
-use Rattle.timeline.proofs.Tests.{le-or-lt}
-use mathlib.Core.Logic.{⊎-elim}
+use Rattle.lists.proofs.Tabulate.{length-tabulate, tabulate-same, getD-tabulate, firsts-all}
 use Rattle.pooling.specs.Pooled.{plus}
-use Rattle.pooling.proofs.Behind.{plus-at}
-use Rattle.pooling.proofs.Sums.{length-plus, getD-filled, length-filled}
+use Rattle.pooling.proofs.Sums.{length-plus, getD-plus, getD-filled, length-filled}
 
 -- of the first n, one that is there, and 0 behind them
 pub firsts-at : (n : ℕ) (xs : List ℕ) (k : ℕ) → k < n → getD xs k 0 ≡ getD (firsts n 0 xs) k 0
@@ -42,15 +38,7 @@ pub sums-by-place : (n : ℕ) (xs ys : List ℕ) → length xs ≤ n → length 
     → tabulate n (λ k. getD xs k 0 + getD ys k 0) ≡ filled n 0 (plus xs ys)
 sums-by-place n xs ys l m =
     let e = length-plus xs ys in
-    tabulate-same n _ _ (λ k h. sym (plus-at xs ys k)) ∙ filled-by-place n (plus xs ys) (omega arith)
-
--- an amount that passed its test, or 0
-pub amount-small : (xs : List ℕ) → Amounts xs → (k : ℕ) → getD xs k 0 ≤ 1000000
-amount-small xs h k =
-    ⊎-elim
-    (λ (lacks : length xs ≤ k). let z = List·getD-eq-default xs 0 {n = k} lacks in omega arith)
-    (λ (has : k < length xs). each-at (λ x. x ≤ 1000000) xs 0 h k has)
-    (le-or-lt (length xs) k)
+    tabulate-same n _ _ (λ k h. sym (getD-plus xs ys k)) ∙ filled-by-place n (plus xs ys) (omega arith)
 
 pub length-firsts : (n : ℕ) (xs : List ℕ) → length (firsts n 0 xs) ≡ n
 length-firsts n xs = length-tabulate n (λ i. getD xs i 0)

@@ -1,20 +1,18 @@
 -- Sets of facts numbered behind others.
 -- Assumes nothing.
 use Prim.Native.Nat.{ℕ, zero, suc, _+_, _-_, _*_, _^_, _/_, _%_, _<_, _≤_}
-use mathlib.Core.Path.{_≡_, refl, sym, ap, _∙_}
-use mathlib.Core.Bool.{true, false, not}
+use mathlib.Core.Path.{_≡_, sym, ap, _∙_}
+use mathlib.Core.Bool.{true, false}
 use mathlib.Core.Logic.{⊎-elim}
-use mathlib.Core.List.{List, [], _∷_}
 use native.Mathlib.Omega.{arith}
 use native.Mathlib.Nat.{add-mul, mul-one, mul-assoc, mul-comm, pow-succ'}
 use lib.Dec.{eqb}
 use lib.Pow.{pow-mono}
-use lib.ListN.{getD}
 use borrow.Author.Tests.{not-true}
 use Rattle.facts.specs.FactSet.{has, Within, foreign}
 use Rattle.facts.proofs.Membership.{foreign-decides}
 use Rattle.timeline.proofs.Tests.{not-both, le-or-lt}
-use Rattle.pooling.specs.Pooled.{behind, plus}
+use Rattle.pooling.specs.Pooled.{behind}
 
 -- twice a set has each fact one higher
 twice-low : (s : ℕ) → has (2 * s) 0 ≡ false
@@ -48,14 +46,6 @@ behind-high (suc k) s n =
     ap (has (s * 2 ^ suc k)) e
     ∙ ap (λ (x : ℕ). has x (suc (k + n))) (double s k) ∙ twice-high (s * 2 ^ k) (k + n) ∙ behind-high k s n
 
--- ---- amounts place by place
-pub plus-at : (xs ys : List ℕ) (k : ℕ) → getD (plus xs ys) k 0 ≡ getD xs k 0 + getD ys k 0
-unfolding plus
-plus-at [] ys k = omega arith
-plus-at (x ∷ xs) [] k = omega arith
-plus-at (x ∷ xs) (y ∷ ys) zero = refl
-plus-at (x ∷ xs) (y ∷ ys) (suc k) = plus-at xs ys k
-
 -- ---- members of a set behind others
 pub behind-zero : (s : ℕ) → behind 0 s ≡ s
 unfolding behind
@@ -81,9 +71,6 @@ within-more facts more s l within n m = within n (omega arith)
 
 pub not-foreign : (facts s : ℕ) → Within facts s → foreign facts s ≡ false
 not-foreign facts s within = not-true (foreign facts s) ((foreign-decides facts s) .complete within)
-
-pub within-unless-foreign : (facts s : ℕ) → foreign facts s ≡ false → Within facts s
-within-unless-foreign facts s h = (foreign-decides facts s) .sound (ap not h)
 
 -- behind all the bits of a word there is room for no fact
 pub behind-nothing : (k s : ℕ) → 64 ≤ k → behind k s < 2 ^ 64 → 0 ≡ behind k s

@@ -14,8 +14,7 @@ use Rattle.timeline.specs.Timeline.{end}
 use Rattle.timeline.specs.Accepted.{Accepted}
 use Rattle.timeline.proofs.Tests.{not-both}
 use Rattle.timeline.specs.Places.{EachStep}
-use Rattle.timeline.specs.Keeps.{OfJob}
-use Rattle.timeline.specs.Keeps.{Keeps}
+use Rattle.timeline.specs.Keeps.{OfJob, Keeps}
 use Rattle.timeline.proofs.Permutations.{permutation-each, permutation-length}
 use Rattle.timeline.proofs.Sorting.{accepted-when-sorted}
 use Rattle.timeline.proofs.PlanBytes.{accepted-bytes-of-steps}

@@ -9,7 +9,7 @@ use lib.Dec.{ltb}
 use borrow.Author.Tests.{lt-ltb, le-ltb}
 use Rattle.facts.specs.FactSet.{has, Within}
 use Rattle.timeline.proofs.Tests.{le-or-lt}
-use Rattle.pooling.specs.Pooled.{behind, pooled}
+use Rattle.pooling.specs.Pooled.{behind}
 use Rattle.pooling.proofs.Behind.{behind-zero, behind-low, behind-high}
 
 -- ---- the fact of the one pooled job that fact n of the other is: facts first of the first job, then of the second

@@ -11,24 +11,24 @@ use Rattle.lists.specs.Lists.{filled}
 use Rattle.lists.proofs.Tabulate.{each-at}
 use Rattle.facts.specs.FactSet.{has, union, Within}
 use Rattle.facts.proofs.Membership.{has-union}
-use Rattle.job.specs.Job.{Action, Job}
+use Rattle.job.specs.Job.{Action, Job, noAction}
 use Rattle.job.proofs.Passed.{passed}
 use Rattle.job.specs.Passed.{Passed, PassedAction}
 use Rattle.timeline.specs.Step.{Step, stepOf}
-use Rattle.job.specs.Job.{noAction}
-use Rattle.timeline.specs.Timeline.{hasShare, storeUse}
-use Rattle.timeline.proofs.Tests.{same-test, le-or-lt}
-use Rattle.timeline.proofs.Shares.{useAt, share-reads, share-when}
+use Rattle.timeline.specs.Timeline.{storeUse}
+use Rattle.timeline.proofs.Tests.{le-or-lt}
+use Rattle.timeline.proofs.Shares.{useAt}
 use Rattle.job.specs.Resources.{handover}
 use Rattle.timeline.specs.Keeps.{OfJob}
-use Rattle.pooling.specs.Pooled.{behind, renumbered, pooled}
+use Rattle.pooling.specs.Pooled.{behind, pooled}
 use Rattle.pooling.proofs.Behind.{behind-zero}
 use Rattle.pooling.proofs.Sums.{plus-comm, length-plus}
-use Rattle.pooling.proofs.Alike.{alike-of-test}
+use Rattle.pooling.proofs.PoolTests.{alike-of-test}
 use Rattle.pooling.proofs.Renamed.{Renames}
-use Rattle.pooling.proofs.PooledJob.{poolCount, storeCount, count-of-actions, action-of-first, action-of-second}
+use Rattle.pooling.proofs.PooledJob.{poolCount, storeCount, firstAction, secondAction, count-of-actions}
+use Rattle.pooling.proofs.PooledJob.{action-of-first, action-of-second}
 use Rattle.pooling.proofs.PooledForm.{handover-of-first, handover-of-second}
-use Rattle.pooling.proofs.PooledUses.{same-store-amount}
+use Rattle.pooling.proofs.PooledUses.{same-share, same-store-amount}
 use Rattle.pooling.proofs.PassingActions.{within-of}
 use Rattle.pooling.proofs.PooledPasses.{Pooling, pooling-other-order}
 use Rattle.pooling.proofs.Exchanged.{exchanged, first-exchanged, second-exchanged, renumber, renumber-first}
@@ -48,8 +48,8 @@ handover-other-order : (A B : Job) → Pooling A B → (pool : ℕ) → pool < p
     → handover (pooled A B) pool ≡ handover (pooled B A) pool
 handover-other-order A B pooling pool l =
     let n = length-plus (A .pools) (B .pools) in
-    let alike = alike-of-test A B (pooling .alike) in
-    let back = alike-of-test B A (pooling-other-order A B pooling .alike) in
+    let alike = alike-of-test A B (pooling .notUnlike) in
+    let back = alike-of-test B A (pooling-other-order A B pooling .notUnlike) in
     ⊎-elim
     (λ (lacks : length (A .pools) ≤ pool).
     let has : pool < length (B .pools) = omega arith in
@@ -77,8 +77,7 @@ module _ (A B : Job) (pooling : Pooling A B) where
   same-stores a = ap (λ (xs : List ℕ). filled (length xs) 0 (a .stores)) (plus-comm (B .stores) (A .stores))
 
   first-action : (a : Action) → PassedAction (A .facts) a
-      → SameAction of (renumbered 0 (poolCount A B) (storeCount A B) a)
-      (renumbered (B .facts) (poolCount B A) (storeCount B A) a)
+      → SameAction of (firstAction A B a) (secondAction B A a)
   first-action a h =
       record {
         duration = refl;
@@ -90,8 +89,7 @@ module _ (A B : Job) (pooling : Pooling A B) where
       }
 
   second-action : (a : Action) → PassedAction (B .facts) a
-      → SameAction of (renumbered (A .facts) (poolCount A B) (storeCount A B) a)
-      (renumbered 0 (poolCount B A) (storeCount B A) a)
+      → SameAction of (secondAction A B a) (firstAction B A a)
   second-action a h =
       record {
         duration = refl;
@@ -171,31 +169,16 @@ module _ (A B : Job) (pooling : Pooling A B) where
           deletes = action-in-other .deletes;
         }
 
-    share-in-other : (pool t : ℕ) → pool < poolCount A B
-        → hasShare (pooled B A) pool t (inOther x) ≡ hasShare (pooled A B) pool t x
-    share-in-other pool t l =
-        let e = handover-other-order A B pooling pool l in
-        let f = stop-in-other in
-        same-test _ _
-        (λ h.
-        let r = share-reads (pooled B A) pool t (inOther x) h in
-        let a = r .0 in
-        let b = r .1 in
-        share-when (pooled A B) pool t x a (omega arith))
-        (λ h.
-        let r = share-reads (pooled A B) pool t x h in
-        let a = r .0 in
-        let b = r .1 in
-        share-when (pooled B A) pool t (inOther x) a (omega arith))
-
     pub use-in-other : (pool t : ℕ) → pool < poolCount A B
         → useAt (pooled B A) pool t (inOther x) ≡ useAt (pooled A B) pool t x
     use-in-other pool t l =
-        ap₂ (λ (b : Bool) (uses : List ℕ). cond b (getD uses pool 0) 0) (share-in-other pool t l)
+        ap₂ (λ (b : Bool) (uses : List ℕ). cond b (getD uses pool 0) 0)
+        (same-share (pooled B A) (pooled A B) pool t x (inOther x) refl stop-in-other
+        (sym (handover-other-order A B pooling pool l)))
         (action-in-other .pools)
 
     pub store-use-in-other : (store : ℕ) → storeUse (pooled B A) store (inOther x) ≡ storeUse (pooled A B) store x
     store-use-in-other store =
         same-store-amount (pooled B A) (pooled A B) store (inOther x .action) (x .action)
-        (sym (alike-of-test A B (pooling .alike) .rule)) (action-in-other .duration)
+        (sym (alike-of-test A B (pooling .notUnlike) .rule)) (action-in-other .duration)
         (ap (λ (uses : List ℕ). getD uses store 0) (action-in-other .stores))

@@ -49,9 +49,9 @@ module _ (one other : held.Job) (r : Pooled) (h : Pools (jobIn one) (jobIn other
     pub answer-is-pooled : jobIn (r .job) ≡ pooled A B
     answer-is-pooled = ap (λ (x : Pooled). jobIn (x .job)) (h .answers) ∙ answer-holds-pooled one other rows
 
-    -- it passes every test of a job, so every call takes it
-    pub pooled-job-is-taken : first (jobRows (jobIn (r .job))) ≡ Pass
-    pooled-job-is-taken =
+    -- the pooled job passes every test of a job, so every call takes it
+    pub pooled-job-passes : first (jobRows (jobIn (r .job))) ≡ Pass
+    pooled-job-passes =
         ap (λ (x : Pooled). first (jobRows (jobIn (x .job)))) (h .answers) ∙ answer-passes one other rows
 
     -- "If both jobs have accepted plans with together at most 32 steps, the pooled day ends no later than the later of

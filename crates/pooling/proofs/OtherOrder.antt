@@ -1,6 +1,6 @@
 -- Pooling in the other order gives the same makespan.
 -- Assumes nothing.
-use Prim.Native.Nat.{ℕ, _+_, _-_, _<_}
+use Prim.Native.Nat.{ℕ, _+_, _<_}
 use mathlib.Core.Path.{_≡_, refl, sym, ap, _∙_}
 use mathlib.Core.List.{List, map}
 use native.Mathlib.Omega.{arith}
@@ -18,16 +18,17 @@ use Rattle.timeline.specs.Keeps.{OfJob}
 use Rattle.timeline.proofs.PlanBytes.{few-steps-of-accepted}
 use Rattle.makespan.specs.Makespan.{makespan}
 use Rattle.makespan.proofs.LeastEnds.{ends-by-deadline}
+use Rattle.timeline.proofs.Places.{each-map}
 use Rattle.pooling.specs.Pooled.{pooled}
 use Rattle.pooling.proofs.Sums.{plus-comm}
-use Rattle.pooling.proofs.Alike.{alike-of-test}
-use Rattle.pooling.proofs.Renamed.{each-map, total-of-map, renamed-keeps}
+use Rattle.pooling.proofs.PoolTests.{alike-of-test}
+use Rattle.pooling.proofs.MappedSteps.{total-of-map}
+use Rattle.pooling.proofs.Renamed.{renamed-keeps}
 use Rattle.pooling.proofs.PooledJob.{count-of-actions}
 use Rattle.pooling.proofs.PassingActions.{within-of}
 use Rattle.pooling.proofs.PooledPasses.{Pooling, pooling-other-order, pooled-passes}
 use Rattle.pooling.proofs.Carried.{CarriesOver, plan-of-keeps, same-makespan}
-use Rattle.pooling.proofs.Exchanged.{exchanged}
-use Rattle.pooling.proofs.Exchanged.{renumber-apart, renumber-below}
+use Rattle.pooling.proofs.Exchanged.{exchanged, renumber-apart, renumber-below}
 use Rattle.pooling.proofs.InOtherOrder.{inOther, united-exchanged, in-both, renames-in-other, use-in-other}
 use Rattle.pooling.proofs.InOtherOrder.{store-use-in-other}
 
@@ -35,7 +36,7 @@ use Rattle.pooling.proofs.InOtherOrder.{store-use-in-other}
 cap-other-order : (A B : Job) → Pooling A B → (store : ℕ) → storeCap (pooled A B) store ≡ storeCap (pooled B A) store
 unfolding storeCap
 cap-other-order A B pooling store =
-    let alike = alike-of-test A B (pooling .alike) in
+    let alike = alike-of-test A B (pooling .notUnlike) in
     rw (plus-comm (A .stores) (B .stores), alike .rule, alike .reserve)
 
 -- every accepted plan of the pooled job is one of the job pooled in the other order, renamed

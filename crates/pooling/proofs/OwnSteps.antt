@@ -1,7 +1,7 @@
 -- Steps of a job that passes: what their actions are like, and that they keep within every pool and store, also those
 -- that the job lacks, of which they use nothing.
 -- Assumes nothing.
-use Prim.Native.Nat.{ℕ, _-_, _<_, _≤_}
+use Prim.Native.Nat.{ℕ, _<_, _≤_}
 use mathlib.Core.Path.{_≡_, ap, _∙_}
 use mathlib.Core.Logic.{⊎-elim}
 use mathlib.Core.List.{List}
@@ -9,12 +9,11 @@ use native.Mathlib.Omega.{arith}
 use lib.ListN.{length, getD, List·getD-eq-default}
 use Rattle.lists.proofs.Tabulate.{each-at}
 use Rattle.facts.specs.FactSet.{has}
-use Rattle.job.specs.Job.{Action, Job}
+use Rattle.job.specs.Job.{Action, Job, noAction}
 use Rattle.job.specs.Passed.{Passed, PassedAction}
 use Rattle.job.proofs.Passed.{passed}
 use Rattle.job.proofs.Values.{Shape}
 use Rattle.timeline.specs.Step.{Step}
-use Rattle.job.specs.Job.{noAction}
 use Rattle.timeline.specs.Timeline.{inUse, storeUse, usedUp}
 use Rattle.job.specs.Resources.{storeCap}
 use Rattle.timeline.proofs.Tests.{le-or-lt}

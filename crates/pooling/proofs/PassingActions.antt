@@ -1,6 +1,6 @@
 -- A set, an action and a handover that pass in one of two jobs pass in the pooled job.
 -- Assumes nothing.
-use Prim.Native.Nat.{ℕ, _+_, _-_, _^_, _<_, _≤_}
+use Prim.Native.Nat.{ℕ, _+_, _^_, _<_, _≤_}
 use mathlib.Core.Path.{_≡_, sym, ap, _∙_}
 use mathlib.Core.Bool.{false}
 use mathlib.Core.Logic.{⊎-elim}
@@ -12,25 +12,20 @@ use Rattle.lists.specs.Lists.{filled, anyBelow, Each}
 use Rattle.lists.proofs.Any.{any-append}
 use Rattle.lists.proofs.Below.{below-none, none-below}
 use Rattle.lists.proofs.Bools.{or-left, or-right}
-use Rattle.lists.proofs.Tabulate.{each-at}
 use Rattle.facts.specs.FactSet.{has, foreign, Within}
-use Rattle.facts.proofs.Membership.{within-word}
+use Rattle.facts.proofs.Membership.{within-word, within-unless-foreign}
 use Rattle.facts.proofs.SetLaws.{no-common-member, not-in-both}
 use Rattle.job.specs.Job.{Action, Job}
-use Rattle.job.specs.Refusal.{first}
 use Rattle.job.specs.Lengths.{longestOf, shortestOf}
 use Rattle.job.specs.Resources.{handover, storeAmount, storeCap}
-use Rattle.job.specs.Valid.{ActionRule, Duration, Facts, Effects, Uses, over, breaks, hasWrongRange}
-use Rattle.job.specs.Valid.{usesBeyond}
+use Rattle.job.specs.Valid.{ActionRule, Duration, Facts, Effects, Uses, over, breaks, hasWrongRange, usesBeyond}
 use Rattle.job.proofs.Values.{Shaped}
 use Rattle.job.proofs.Passed.{passed}
 use Rattle.job.specs.Passed.{WithinFacts, PassedAction, Passed}
 use Rattle.timeline.proofs.Tests.{or-neither, le-or-lt}
-use Rattle.pooling.specs.Pooled.{behind, renumbered, pooled}
+use Rattle.pooling.specs.Pooled.{behind, renumbered}
 use Rattle.pooling.proofs.Behind.{behind-member, behind-within, within-more, not-foreign}
-use Rattle.pooling.proofs.Behind.{within-unless-foreign}
-use Rattle.pooling.proofs.Sums.{filled-small}
-use Rattle.pooling.proofs.Sums.{getD-filled}
+use Rattle.pooling.proofs.Sums.{getD-at-most, getD-filled, filled-small}
 use Rattle.pooling.proofs.PooledUses.{store-amount-in-pool, no-store-amount}
 
 pub within-of : {facts set : ℕ} → WithinFacts facts set → Within facts set
@@ -78,11 +73,7 @@ each-both f (x ∷ xs) p q = (f x (p .0) (q .0), each-both f xs (p .1) (q .1))
 
 pub small-handover : (J : Job) → Passed J → (pool : ℕ) → handover J pool ≤ 30
 unfolding handover
-small-handover J passed pool =
-    ⊎-elim
-    (λ (lacks : length (J .handovers) ≤ pool). let z = List·getD-eq-default (J .handovers) 0 {n = pool} lacks in omega arith)
-    (λ (has : pool < length (J .handovers)). each-at (λ x. x ≤ 30) (J .handovers) 0 (passed .handovers) pool has)
-    (le-or-lt (length (J .handovers)) pool)
+small-handover J passed pool = getD-at-most 30 (J .handovers) (passed .handovers) pool
 
 -- shortest and longest lengths of an action that passes
 pub right-range : (W J : Job) (k i : ℕ) → (0 < shortestOf J i) × (shortestOf J i ≤ longestOf J i)
@@ -118,7 +109,8 @@ within-larger W J k p s a shape rule pools caps h =
         let more = pools pool in
         let n = shape .pools in
         ⊎-elim
-        (λ (lacks : length (J .pools) ≤ pool). let z = List·getD-eq-default (a .pools) 0 {n = pool} (omega arith) in omega arith)
+        (λ (lacks : length (J .pools) ≤ pool).
+        let z = List·getD-eq-default (a .pools) 0 {n = pool} (omega arith) in omega arith)
         (λ (has : pool < length (J .pools)).
         let l = ltb-false (getD (J .pools) pool 0) (getD (a .pools) pool 0) (tests .0 pool has) in omega arith)
         (le-or-lt (length (J .pools)) pool)

@@ -19,7 +19,7 @@ use Rattle.job.proofs.Values.{job-in-shape}
 use Rattle.pooling.specs.declared.Pooled.{Pooled}
 use Rattle.pooling.specs.Pooled.{pooled, tooLarge, unlike, poolRows, pooledOf, poolJobs, pooledReply, Pools}
 use Rattle.pooling.specs.Inner.{BothPass, Poolable}
-use Rattle.pooling.proofs.Alike.{too-large-other-order, unlike-other-order}
+use Rattle.pooling.proofs.PoolTests.{too-large-other-order, unlike-other-order}
 use Rattle.pooling.proofs.PooledForm.{value-holds-pooled}
 use Rattle.pooling.proofs.PooledPasses.{pooling-of-rows, pooled-passes}
 
@@ -43,10 +43,10 @@ module _ (A B : Job) where
       refused-by-32 h = own-rows ∙ first-here _ _ _ h
 
       pub refused-by-33 : tooLarge A B ≡ false → unlike A B ≡ true → first (poolRows A B) ≡ Refused PoolUnlike
-      refused-by-33 fits h = own-rows ∙ first-next _ _ _ fits ∙ first-here _ _ _ h
+      refused-by-33 small h = own-rows ∙ first-next _ _ _ small ∙ first-here _ _ _ h
 
       pub refused-by-none : tooLarge A B ≡ false → unlike A B ≡ false → first (poolRows A B) ≡ Pass
-      refused-by-none fits alike = own-rows ∙ first-next _ _ _ fits ∙ first-next _ _ _ alike ∙ first-none
+      refused-by-none small alike = own-rows ∙ first-next _ _ _ small ∙ first-next _ _ _ alike ∙ first-none
 
 -- for jobs that pass, the other order is refused by the same number, or not at all
 pub refusals-other-order : (A B : Job) → first (jobRows A) ≡ Pass → first (jobRows B) ≡ Pass
@@ -118,7 +118,7 @@ module _ (one other : held.Job) (a : first (jobRows (jobIn one)) ≡ Pass) (b : 
 
     pub poolable : tooLarge (jobIn one) (jobIn other) ≡ false → unlike (jobIn one) (jobIn other) ≡ false
         → Poolable one other
-    poolable fits alike = record { both = both-pass; fits = fits; alike = alike }
+    poolable small alike = record { both = both-pass; notTooLarge = small; notUnlike = alike }
 
 -- ---- where two values are pooled, the answer's value holds the pooled job, and every call takes it
 module _ (one other : held.Job) (rows : first (poolRows (jobIn one) (jobIn other)) ≡ Pass) where

@@ -6,11 +6,10 @@ use mathlib.Core.List.{List, [], _∷_, _++_, map, map-append, append-nil, appen
 use native.Mathlib.Omega.{arith}
 use lib.ListN.{length, getD, set, length-append, length-map}
 use Rattle.lists.specs.Lists.{tabulate, filled}
-use Rattle.lists.proofs.Tabulate.{length-tabulate, tabulate-snoc, getD-tabulate, map-tabulate}
-use Rattle.lists.proofs.Tabulate.{filled-more, each-at}
+use Rattle.lists.proofs.Tabulate.{length-tabulate, tabulate-snoc, getD-tabulate, map-tabulate, filled-more, each-at}
 use Rattle.job.specs.declared.Action as act
 use Rattle.job.specs.declared.Job as held
-use Rattle.job.specs.Job.{Action, Job, noAction, beyond, actionAt, jobIn, unusedAction, actionValue}
+use Rattle.job.specs.Job.{Action, noAction, beyond, actionAt, jobIn, unusedAction, actionValue}
 use Rattle.job.specs.Passed.{PassedAction, Passed}
 use Rattle.pooling.specs.Inner.{FitsBehind, HasActions}
 use Rattle.pooling.proofs.PassingActions.{behind-word}

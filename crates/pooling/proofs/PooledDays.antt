@@ -2,7 +2,7 @@
 -- Assumes nothing.
 use Prim.Native.Nat.{ℕ, _+_, _<_, _≤_, max}
 use mathlib.Core.Path.{_≡_}
-use mathlib.Core.List.{List, _++_, map}
+use mathlib.Core.List.{List, map}
 use native.Mathlib.Omega.{arith}
 use lib.ListN.{length, length-append, length-map}
 use Rattle.job.specs.Job.{Job}
@@ -17,11 +17,9 @@ use Rattle.timeline.specs.Keeps.{OfJob}
 use Rattle.makespan.specs.Makespan.{endsAt, makespan}
 use Rattle.makespan.proofs.LeastEnds.{ends-by-deadline}
 use Rattle.pooling.specs.Pooled.{pooled}
-use Rattle.pooling.proofs.Steps.{inPool}
-use Rattle.pooling.proofs.Renamed.{each-map}
-use Rattle.pooling.proofs.PooledJob.{poolCount, storeCount, count-of-actions, first-own, second-own}
+use Rattle.pooling.proofs.PooledJob.{firstStep, secondStep, sideBySide, count-of-actions}
+use Rattle.pooling.proofs.PooledJob.{first-own, second-own, each-side-by-side}
 use Rattle.pooling.proofs.PooledPasses.{Pooling, pooled-passes}
-use Rattle.pooling.proofs.ClashesInPool.{each-append}
 use Rattle.pooling.proofs.SideBySide.{side-by-side-keeps}
 use Rattle.pooling.proofs.Carried.{PlanBy, plan-of-keeps, makespan-by}
 
@@ -43,12 +41,6 @@ module _ (A B : Job) (pooling : Pooling A B) (a b : List ℕ)
   knownQ : EachStep (λ x. x .number < length (B .actions)) Q
   knownQ = accepted-steps B (B .goal) Q (steps-of-accepted B (B .goal) b acceptedB) .known
 
-  abbrev inFirst : Step → Step
-  inFirst = inPool 0 0 (poolCount A B) (storeCount A B)
-
-  abbrev inSecond : Step → Step
-  inSecond = inPool (A .facts) (length (A .actions)) (poolCount A B) (storeCount A B)
-
   -- the two plans side by side are an accepted plan
   plan-side-by-side : PlanBy (pooled A B) (pooled A B .goal) T
   plan-side-by-side =
@@ -57,19 +49,17 @@ module _ (A B : Job) (pooling : Pooling A B) (a b : List ℕ)
       let ownP = steps-in-bytes A a in
       let ownQ = steps-in-bytes B b in
       let count = count-of-actions A B in
-      let sum = length-append (map inFirst P) (map inSecond Q) in
-      let n = length-map P inFirst in
-      let m = length-map Q inSecond in
-      plan-of-keeps (pooled A B) (pooled A B .goal) T (map inFirst P ++ map inSecond Q)
+      let sum = length-append (map (firstStep A B) P) (map (secondStep A B) Q) in
+      let n = length-map P (firstStep A B) in
+      let m = length-map Q (secondStep A B) in
+      plan-of-keeps (pooled A B) (pooled A B .goal) T (sideBySide A B P Q)
       (passed (pooled A B) (pooled-passes A B pooling)) (omega arith)
-      (each-append (OfJob (pooled A B)) (map inFirst P) (map inSecond Q)
-      (each-map (OfJob (pooled A B)) inFirst P (λ x R i. first-own A B x (ownP x R i) (knownP x R i)))
-      (each-map (OfJob (pooled A B)) inSecond Q (λ x R i. second-own A B x (ownQ x R i) (knownQ x R i))))
-      (each-append (λ x. x .number < length (pooled A B .actions)) (map inFirst P) (map inSecond Q)
-      (each-map (λ x. x .number < length (pooled A B .actions)) inFirst P
-      (λ x R i. let l = knownP x R i in omega arith))
-      (each-map (λ x. x .number < length (pooled A B .actions)) inSecond Q
-      (λ x R i. let l = knownQ x R i in omega arith)))
+      (each-side-by-side A B (OfJob (pooled A B)) P Q
+      (λ x R i. first-own A B x (ownP x R i) (knownP x R i))
+      (λ x R i. second-own A B x (ownQ x R i) (knownQ x R i)))
+      (each-side-by-side A B (λ x. x .number < length (pooled A B .actions)) P Q
+      (λ x R i. let l = knownP x R i in omega arith)
+      (λ x R i. let l = knownQ x R i in omega arith))
       (omega arith)
       (side-by-side-keeps A B pooling T P Q ownP knownP ownQ knownQ
       (keeps-of-bytes A (A .goal) a T (passed A (pooling .validA)) acceptedA (omega arith))

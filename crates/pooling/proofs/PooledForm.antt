@@ -8,7 +8,7 @@ use mathlib.Core.List.{List, _++_, map}
 use native.Mathlib.Omega.{arith}
 use lib.Dec.{ltb}
 use lib.ListN.{length, getD, length-append, List·getD-append, List·getD-eq-default}
-use borrow.Author.Tests.{lt-ltb, le-ltb}
+use borrow.Author.Tests.{lt-ltb, le-ltb, ltb-true, ltb-false}
 use Rattle.lists.specs.Lists.{tabulate, Each}
 use Rattle.lists.proofs.Tabulate.{length-tabulate, getD-tabulate, each-map}
 use Rattle.job.specs.declared.Form.{Form}
@@ -19,33 +19,19 @@ use Rattle.job.specs.Resources.{handover}
 use Rattle.job.proofs.Values.{Shaped, Shape, value-holds-job}
 use Rattle.timeline.proofs.Tests.{le-or-lt}
 use Rattle.pooling.specs.Pooled.{renumbered, moreEntries, pooledHandover, shortestLengths, shortestIn, pooled}
-use Rattle.pooling.proofs.Sums.{each-of-map, each-of-append, length-plus, getD-behind}
-use Rattle.pooling.proofs.Sums.{length-filled}
-use Rattle.pooling.proofs.Alike.{Alike}
-use Rattle.pooling.proofs.PooledJob.{poolCount, storeCount, count-of-actions, action-of-first, action-of-second}
+use Rattle.pooling.proofs.Sums.{each-of-map, each-of-append, length-plus, getD-behind, length-filled}
+use Rattle.pooling.proofs.PoolTests.{Alike}
+use Rattle.pooling.proofs.PooledJob.{poolCount, storeCount, firstAction, secondAction, count-of-actions}
+use Rattle.pooling.proofs.PooledJob.{action-of-first, action-of-second}
 
 -- ---- forms: the pooled one has no fewer entries than either
-first-entries : (a b : Form) → entries a ≤ entries (moreEntries a b)
-first-entries Four Four = omega arith
-first-entries Four Five = omega arith
-first-entries Four Six = omega arith
-first-entries Five Four = omega arith
-first-entries Five Five = omega arith
-first-entries Five Six = omega arith
-first-entries Six Four = omega arith
-first-entries Six Five = omega arith
-first-entries Six Six = omega arith
-
-second-entries : (a b : Form) → entries b ≤ entries (moreEntries a b)
-second-entries Four Four = omega arith
-second-entries Four Five = omega arith
-second-entries Four Six = omega arith
-second-entries Five Four = omega arith
-second-entries Five Five = omega arith
-second-entries Five Six = omega arith
-second-entries Six Four = omega arith
-second-entries Six Five = omega arith
-second-entries Six Six = omega arith
+entries-of-more : (a b : Form) → (entries a ≤ entries (moreEntries a b)) × (entries b ≤ entries (moreEntries a b))
+entries-of-more a b = go (ltb (entries a) (entries b)) refl
+  where
+    go : (c : Bool) → ltb (entries a) (entries b) ≡ c
+        → (entries a ≤ entries (cond c b a)) × (entries b ≤ entries (cond c b a))
+    go true h = let l = ltb-true (entries a) (entries b) h in (omega arith, omega arith)
+    go false h = let l = ltb-false (entries a) (entries b) h in (omega arith, omega arith)
 
 no-handovers : (form : Form) (n : ℕ) → entries form ≤ 4 → handoverCount form n ≡ 0
 no-handovers Four n l = refl
@@ -94,8 +80,9 @@ module _ (A B : Job) (shapeA : Shape A) (shapeB : Shape B) where
           → getD (tabulate (handoverCount f (poolCount A B)) (pooledHandover A B)) pool 0 ≡ pooledHandover A B pool
       go Four e =
           let few = ap entries e in
-          let a = first-entries (A .form) (B .form) in
-          let b = second-entries (A .form) (B .form) in
+          let both = entries-of-more (A .form) (B .form) in
+          let a = both .0 in
+          let b = both .1 in
           no-places (pooledHandover A B) pool
           ∙ nothing (ltb pool (length (A .pools))) (handover A pool) (handover B pool)
           (handover-zero A shapeA (omega arith) pool)
@@ -142,7 +129,7 @@ module _ (A B : Job) (shapeA : Shape A) (shapeB : Shape B) where
     where
       older : entries form ≤ 5 → longestOf (pooled A B) i ≡ shortestOf A i
       older few =
-          let a = first-entries (A .form) (B .form) in
+          let a = entries-of-more (A .form) (B .form) .0 in
           longest-of-first i l ∙ sym (shortest-is-longest A shapeA (omega arith) i)
 
       go : (f : Form) → form ≡ f → getD (shortestIn f lengths) i (longestOf (pooled A B) i) ≡ shortestOf A i
@@ -160,7 +147,7 @@ module _ (A B : Job) (shapeA : Shape A) (shapeB : Shape B) where
     where
       older : entries form ≤ 5 → longestOf (pooled A B) (length (A .actions) + i) ≡ shortestOf B i
       older few =
-          let b = second-entries (A .form) (B .form) in
+          let b = entries-of-more (A .form) (B .form) .1 in
           longest-of-second i l ∙ sym (shortest-is-longest B shapeB (omega arith) i)
 
       go : (f : Form) → form ≡ f
@@ -204,8 +191,7 @@ module _ (A B : Job) (shapeA : Shape A) (shapeB : Shape B) where
   pooled-shape =
       record {
         actions = each-of-append (Shaped (poolCount A B) (storeCount A B))
-            (map (renumbered 0 (poolCount A B) (storeCount A B)) (A .actions))
-            (map (renumbered (A .facts) (poolCount A B) (storeCount A B)) (B .actions))
+            (map (firstAction A B) (A .actions)) (map (secondAction A B) (B .actions))
             (shape-renumbered 0 (length (A .pools)) (length (A .stores)) (omega arith) (omega arith) (A .actions)
             (shapeA .actions))
             (shape-renumbered (A .facts) (length (B .pools)) (length (B .stores)) (omega arith) (omega arith)

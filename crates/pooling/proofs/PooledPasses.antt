@@ -27,13 +27,14 @@ use Rattle.job.proofs.Values.{Shape}
 use Rattle.job.proofs.Passed.{passed}
 use Rattle.job.specs.Passed.{WithinFacts, Passed}
 use Rattle.timeline.proofs.Tests.{or-neither, le-or-lt}
-use Rattle.pooling.specs.Pooled.{behind, renumbered, pooledHandover, pooled, tooLarge, unlike, poolRows}
-use Rattle.pooling.proofs.Behind.{within-more, not-foreign, plus-at}
-use Rattle.pooling.proofs.Sums.{length-plus, each-of-map, each-of-append}
-use Rattle.pooling.proofs.Alike.{alike-of-test, few-facts, few-actions, small-sums}
-use Rattle.pooling.proofs.Alike.{too-large-other-order, unlike-other-order}
-use Rattle.pooling.proofs.PooledJob.{poolCount, storeCount, count-of-actions}
-use Rattle.pooling.proofs.PooledForm.{longest-of-first, longest-of-second, shortest-of-first, shortest-of-second}
+use Rattle.pooling.specs.Pooled.{behind, pooledHandover, pooled, tooLarge, unlike, poolRows}
+use Rattle.pooling.proofs.Behind.{within-more, not-foreign}
+use Rattle.pooling.proofs.Sums.{length-plus, getD-plus, each-of-map, each-of-append}
+use Rattle.pooling.proofs.PoolTests.{alike-of-test, few-facts, few-actions, small-sums}
+use Rattle.pooling.proofs.PoolTests.{too-large-other-order, unlike-other-order}
+use Rattle.pooling.proofs.PooledJob.{poolCount, storeCount, firstAction, secondAction, count-of-actions}
+use Rattle.pooling.proofs.PooledForm.{longest-of-first, longest-of-second, shortest-of-first}
+use Rattle.pooling.proofs.PooledForm.{shortest-of-second}
 use Rattle.pooling.proofs.PooledUses.{cap-of-pooled}
 use Rattle.pooling.proofs.PassingActions.{within-of, not-foreign-behind, unbroken, each-both, small-handover}
 use Rattle.pooling.proofs.PassingActions.{right-range, within-larger}
@@ -44,8 +45,8 @@ pub record Pooling (A B : Job) : Type 0 where
   pub shapeB : Shape B
   pub validA : first (jobRows A) ≡ Pass
   pub validB : first (jobRows B) ≡ Pass
-  pub fits : tooLarge A B ≡ false
-  pub alike : unlike A B ≡ false
+  pub notTooLarge : tooLarge A B ≡ false
+  pub notUnlike : unlike A B ≡ false
 
 pub pooling-of-rows : (A B : Job) → Shape A → Shape B → first (poolRows A B) ≡ Pass → Pooling A B
 unfolding poolRows
@@ -58,8 +59,8 @@ pooling-of-rows A B shapeA shapeB h =
       shapeB = shapeB;
       validA = mine .0;
       validB = other .0;
-      fits = size .0;
-      alike = first-pass _ _ _ (size .1) .0;
+      notTooLarge = size .0;
+      notUnlike = first-pass _ _ _ (size .1) .0;
     }
 
 -- in the other order too
@@ -70,8 +71,8 @@ pooling-other-order A B h =
       shapeB = h .shapeA;
       validA = h .validB;
       validB = h .validA;
-      fits = sym (too-large-other-order A B) ∙ h .fits;
-      alike = sym (unlike-other-order A B) ∙ h .alike;
+      notTooLarge = sym (too-large-other-order A B) ∙ h .notTooLarge;
+      notUnlike = sym (unlike-other-order A B) ∙ h .notUnlike;
     }
 
 module _ (A B : Job) (pooling : Pooling A B) where
@@ -82,19 +83,13 @@ module _ (A B : Job) (pooling : Pooling A B) where
   passedB = passed B (pooling .validB)
 
   -- ---- each action of the pooled job
-  abbrev inFirst : Action → Action
-  inFirst = renumbered 0 (poolCount A B) (storeCount A B)
-
-  abbrev inSecond : Action → Action
-  inSecond = renumbered (A .facts) (poolCount A B) (storeCount A B)
-
-  none-of-both : (test : Action → Bool) → Each (λ a. test (inFirst a) ≡ false) (A .actions)
-      → Each (λ a. test (inSecond a) ≡ false) (B .actions) → any test (pooled A B .actions) ≡ false
+  none-of-both : (test : Action → Bool) → Each (λ a. test (firstAction A B a) ≡ false) (A .actions)
+      → Each (λ a. test (secondAction A B a) ≡ false) (B .actions) → any test (pooled A B .actions) ≡ false
   none-of-both test a b =
       none-any test (pooled A B .actions)
-      (each-of-append (λ x. test x ≡ false) (map inFirst (A .actions)) (map inSecond (B .actions))
-      (each-of-map (λ x. test x ≡ false) inFirst (A .actions) a)
-      (each-of-map (λ x. test x ≡ false) inSecond (B .actions) b))
+      (each-of-append (λ x. test x ≡ false) (map (firstAction A B) (A .actions)) (map (secondAction A B) (B .actions))
+      (each-of-map (λ x. test x ≡ false) (firstAction A B) (A .actions) a)
+      (each-of-map (λ x. test x ≡ false) (secondAction A B) (B .actions) b))
 
   none-breaks : (rule : ActionRule) → any (breaks rule (pooled A B .facts)) (pooled A B .actions) ≡ false
   none-breaks rule =
@@ -130,20 +125,20 @@ module _ (A B : Job) (pooling : Pooling A B) where
   none-beyond : any (usesBeyond (pooled A B)) (pooled A B .actions) ≡ false
   unfolding jobRows
   none-beyond =
-      let alike = alike-of-test A B (pooling .alike) in
+      let alike = alike-of-test A B (pooling .notUnlike) in
       let beyondA = first-pass _ _ _ (pass-of-append (limitRows A) _ (pooling .validA) .1) .0 in
       let beyondB = first-pass _ _ _ (pass-of-append (limitRows B) _ (pooling .validB) .1) .0 in
       none-of-both (usesBeyond (pooled A B))
       (each-both
       (λ a shape h.
       within-larger (pooled A B) A 0 (poolCount A B) (storeCount A B) a shape refl
-      (λ pool. let e = plus-at (A .pools) (B .pools) pool in omega arith)
+      (λ pool. let e = getD-plus (A .pools) (B .pools) pool in omega arith)
       (λ store. let e = cap-of-pooled A B alike store in omega arith) h)
       (A .actions) (pooling .shapeA .actions) (any-none (usesBeyond A) (A .actions) beyondA))
       (each-both
       (λ a shape h.
       within-larger (pooled A B) B (A .facts) (poolCount A B) (storeCount A B) a shape (alike .rule)
-      (λ pool. let e = plus-at (A .pools) (B .pools) pool in omega arith)
+      (λ pool. let e = getD-plus (A .pools) (B .pools) pool in omega arith)
       (λ store. let e = cap-of-pooled A B alike store in omega arith) h)
       (B .actions) (pooling .shapeB .actions) (any-none (usesBeyond B) (B .actions) beyondB))
 
@@ -176,19 +171,19 @@ module _ (A B : Job) (pooling : Pooling A B) where
       let nb = passedB .fewPools in
       let ma = passedA .fewStores in
       let mb = passedB .fewStores in
-      let f = few-actions A B (pooling .fits) in
+      let f = few-actions A B (pooling .notTooLarge) in
       let da = passedA .deadline in
       let db = passedB .deadline in
       first-next _ _ _
       (or-neither (or-neither (le-ltb 4 (poolCount A B) (omega arith)) (le-ltb 4 (storeCount A B) (omega arith)))
       (le-ltb 64 (length (pooled A B .actions)) (omega arith)))
-      ∙ first-next _ _ _ (le-ltb 64 (A .facts + B .facts) (few-facts A B (pooling .fits)))
+      ∙ first-next _ _ _ (le-ltb 64 (A .facts + B .facts) (few-facts A B (pooling .notTooLarge)))
       ∙ first-next _ _ _ (le-ltb 1440 (max (A .deadline) (B .deadline)) (omega arith))
       ∙ first-next _ _ _ (le-ltb 50 (A .reserve) (passedA .reserve))
       ∙ first-next _ _ _
       (or-neither (united (A .start) (B .start) (passedA .start) (passedB .start))
       (united (A .goal) (B .goal) (passedA .goal) (passedB .goal)))
-      ∙ first-next _ _ _ (small-sums A B (pooling .fits))
+      ∙ first-next _ _ _ (small-sums A B (pooling .notTooLarge))
       ∙ first-next _ _ _ small-handovers
       ∙ first-next _ _ _ (none-breaks Duration)
       ∙ first-next _ _ _ right-ranges

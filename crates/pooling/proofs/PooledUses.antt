@@ -11,26 +11,20 @@ use Rattle.job.specs.declared.StoreRule.the-variants.{PerStep, PerHour}
 use Rattle.job.specs.Job.{Action, Job}
 use Rattle.job.specs.Resources.{handover, chargedBy, allowedBy, storeAmount, storeCap}
 use Rattle.timeline.specs.Step.{Step}
-use Rattle.timeline.specs.Timeline.{hasShare}
-use Rattle.timeline.proofs.Tests.{same-test, le-or-lt}
-use Rattle.timeline.proofs.Shares.{useAt, share-reads, share-when}
+use Rattle.timeline.specs.Timeline.{free, hasShare}
+use Rattle.timeline.proofs.Tests.{le-or-lt}
+use Rattle.timeline.proofs.Shares.{useAt}
 use Rattle.pooling.specs.Pooled.{renumbered, pooled}
 use Rattle.pooling.proofs.Steps.{inPool}
-use Rattle.pooling.proofs.Behind.{plus-at}
-use Rattle.pooling.proofs.Sums.{getD-filled, shares-rounded-down}
-use Rattle.pooling.proofs.Alike.{Alike}
+use Rattle.pooling.proofs.Sums.{getD-plus, getD-filled, shares-rounded-down}
+use Rattle.pooling.proofs.PoolTests.{Alike}
 
 -- ---- pools
-same-share : (W J : Job) (pool t k n p s : ℕ) (x : Step) → handover W pool ≡ handover J pool
-    → hasShare W pool t (inPool k n p s x) ≡ hasShare J pool t x
-same-share W J pool t k n p s x e =
-    same-test _ _
-    (λ h.
-    let r = share-reads W pool t (inPool k n p s x) h in
-    let a = r .0 in let b = r .1 in share-when J pool t x a (omega arith))
-    (λ h.
-    let r = share-reads J pool t x h in
-    let a = r .0 in let b = r .1 in share-when W pool t (inPool k n p s x) a (omega arith))
+-- a step that runs when another does has its share when that has, where the pool's handover is the same
+pub same-share : (W J : Job) (pool t : ℕ) (x y : Step) → y .start ≡ x .start → y .stop ≡ x .stop
+    → handover W pool ≡ handover J pool → hasShare W pool t y ≡ hasShare J pool t x
+unfolding free
+same-share W J pool t x y start stop handovers = rw (start, stop, handovers)
 
 -- a step uses of a pool in the pooled job what it uses in its own; of a pool that its job lacks, nothing
 pub use-in-pool : (W J : Job) (pool t k n p s : ℕ) (x : Step) → length (x .action .pools) ≡ length (J .pools)
@@ -42,7 +36,9 @@ use-in-pool W J pool t k n p s x exact same =
     (λ (lacks : length (J .pools) ≤ pool).
     let none = List·getD-eq-default (x .action .pools) 0 {n = pool} (omega arith) in
     nothing-used (hasShare W pool t (inPool k n p s x)) (hasShare J pool t x) (getD (x .action .pools) pool 0) none)
-    (λ has. ap (λ (b : Bool). cond b (getD (x .action .pools) pool 0) 0) (same-share W J pool t k n p s x (same has)))
+    (λ has.
+    ap (λ (b : Bool). cond b (getD (x .action .pools) pool 0) 0)
+    (same-share W J pool t x (inPool k n p s x) refl refl (same has)))
     (le-or-lt (length (J .pools)) pool)
   where
     nothing-used : (b c : Bool) (m : ℕ) → m ≡ 0 → cond b m 0 ≡ cond c m 0
@@ -82,5 +78,5 @@ pub cap-of-pooled : (A B : Job) → Alike A B → (store : ℕ)
     → storeCap A store + storeCap B store ≤ storeCap (pooled A B) store
 unfolding storeCap
 cap-of-pooled A B alike store =
-    rw (plus-at (A .stores) (B .stores) store, ← (alike .rule), ← (alike .reserve))
+    rw (getD-plus (A .stores) (B .stores) store, ← (alike .rule), ← (alike .reserve))
     (allowed-of-both (A .rule) (A .reserve) (getD (A .stores) store 0) (getD (B .stores) store 0))

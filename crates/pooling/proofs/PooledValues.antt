@@ -12,14 +12,12 @@ use borrow.Author.Tests.{lt-ltb, le-ltb}
 use Rattle.lists.specs.Lists.{tabulate, firsts, filled, any, anyBelow}
 use Rattle.lists.proofs.Any.{any-append}
 use Rattle.lists.proofs.Below.{below-same}
-use Rattle.lists.proofs.Tabulate.{length-tabulate, tabulate-same}
-use Rattle.lists.proofs.Tabulate.{firsts-filled}
+use Rattle.lists.proofs.Tabulate.{length-tabulate, tabulate-same, firsts-filled}
 use Rattle.job.specs.declared.Action as act
 use Rattle.job.specs.declared.Counts.{Counts}
 use Rattle.job.specs.declared.Form.{Form}
 use Rattle.job.specs.declared.Job as held
-use Rattle.job.specs.Job.{Action, Job, handoverCount, actionAt, jobIn}
-use Rattle.job.specs.Job.{Fits, jobValue}
+use Rattle.job.specs.Job.{Job, handoverCount, actionAt, jobIn, Fits, jobValue}
 use Rattle.job.specs.Resources.{handover, HandoversOf}
 use Rattle.job.specs.Valid.{over}
 use Rattle.job.proofs.Values.{Shape, few-handovers, job-in-shape}
@@ -28,7 +26,7 @@ use Rattle.pooling.specs.Pooled.{plus, moreEntries, pooledHandover, pool
 use Rattle.pooling.specs.Inner.{Widens, HasActions, BothPass}
 use Rattle.pooling.proofs.Sums.{length-plus}
 use Rattle.pooling.proofs.Arrays.{filled-by-place}
-use Rattle.pooling.proofs.Alike.{few-actions}
+use Rattle.pooling.proofs.PoolTests.{few-actions}
 use Rattle.pooling.proofs.PooledJob.{poolCount, storeCount, count-of-actions}
 use Rattle.pooling.proofs.PooledForm.{handover-of-pooled, handover-of-first}
 
@@ -92,7 +90,7 @@ module _ (A B : Job) (shapeA : Shape A) (shapeB : Shape B) (xs ys : List ℕ) (m
       ∙ mine k has ∙ sym (handover-of-first A B shapeA shapeB k has))
       (le-or-lt (length (A .pools)) k)
 
-  pub handovers-by-place : length (A .pools) ≤ 4 → length (B .pools) ≤ 4
+  handovers-by-place : length (A .pools) ≤ 4 → length (B .pools) ≤ 4
       → tabulate 4 (handoverBy xs (length (A .pools)) ys (length (B .pools))) ≡ filled 4 0 (pooled A B .handovers)
   handovers-by-place l m =
       let n = length-plus (A .pools) (B .pools) in
@@ -116,10 +114,10 @@ handovers-by-counts first second xs ys mine other l m =
 module _ (first second : held.Job) where
   pub few-actions-of-values : tooLarge (jobIn first) (jobIn second) ≡ false
       → first .counts .actions + second .counts .actions ≤ 64
-  few-actions-of-values fits =
+  few-actions-of-values small =
       let n = length-tabulate (first .counts .actions) (actionAt first) in
       let m = length-tabulate (second .counts .actions) (actionAt second) in
-      let few = few-actions (jobIn first) (jobIn second) fits in
+      let few = few-actions (jobIn first) (jobIn second) small in
       omega arith
 
   pool-count : poolCount (jobIn first) (jobIn second) ≡ max (first .counts .pools) (second .counts .pools)
@@ -134,23 +132,18 @@ module _ (first second : held.Job) where
       let m = length-tabulate (second .counts .stores) (λ k. getD (second .stores) k 0) in
       length-plus (jobIn first .stores) (jobIn second .stores) ∙ ap₂ max n m
 
-  pub first-widens : BothPass first second
+  -- the pooled job has no fewer pools and stores than either
+  pub both-widen : BothPass first second
       → Widens (first .counts) (poolCount (jobIn first) (jobIn second)) (storeCount (jobIn first) (jobIn second))
-  first-widens both =
+      × Widens (second .counts) (poolCount (jobIn first) (jobIn second)) (storeCount (jobIn first) (jobIn second))
+  both-widen both =
       let p = pool-count in
       let s = store-count in
       let a = both .fitsFirst in
-      let b = both .fitsSecond in
-      record { allPools = omega arith; fewPools = omega arith; allStores = omega arith; fewStores = omega arith }
-
-  pub second-widens : BothPass first second
-      → Widens (second .counts) (poolCount (jobIn first) (jobIn second)) (storeCount (jobIn first) (jobIn second))
-  second-widens both =
-      let p = pool-count in
-      let s = store-count in
-      let a = both .fitsFirst in
-      let b = both .fitsSecond in
-      record { allPools = omega arith; fewPools = omega arith; allStores = omega arith; fewStores = omega arith }
+      let b = both .fitsSecond in (
+        record { allPools = omega arith; fewPools = omega arith; allStores = omega arith; fewStores = omega arith },
+        record { allPools = omega arith; fewPools = omega arith; allStores = omega arith; fewStores = omega arith },
+      )
 
 -- ---- a value by its parts
 pub counts-of-pooled : (first second : held.Job) (pools stores : ℕ)

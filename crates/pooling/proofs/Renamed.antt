@@ -1,28 +1,26 @@
 -- A plan with its facts and actions renamed keeps the rules.
 -- Assumes nothing.
-use Prim.Native.Nat.{ℕ, _+_, _<_, _≤_}
-use mathlib.Core.Path.{_≡_, refl, sym, ap, ap₂, _∙_}
-use mathlib.Core.Bool.{Bool, true, false, cond, _||_}
+use Prim.Native.Nat.{ℕ, _<_, _≤_}
+use mathlib.Core.Path.{_≡_, refl, sym, ap, _∙_}
+use mathlib.Core.Bool.{true, false}
 use mathlib.Core.List.{List, [], _∷_, map}
 use native.Mathlib.Omega.{arith}
-use lib.Dec.{eqb}
 use lib.ListN.{length, getD}
 use Rattle.lists.specs.Lists.{any}
 use Rattle.lists.proofs.Bools.{or-left, or-right}
 use Rattle.facts.specs.FactSet.{has, Subset}
-use Rattle.facts.proofs.Membership.{has-zero, has-union}
-use Rattle.job.specs.Job.{Action, Job}
-use Rattle.timeline.specs.Step.{Step, unionOf, anyPair, total}
-use Rattle.timeline.specs.Timeline.{ifStops, held, inUse, usedUp, clash, overlap}
+use Rattle.job.specs.Job.{Job}
+use Rattle.timeline.specs.Step.{Step, anyPair}
+use Rattle.timeline.specs.Timeline.{held, inUse, usedUp, clash, overlap}
 use Rattle.job.specs.Resources.{storeCap}
 use Rattle.timeline.specs.Accepted.{clashing}
 use Rattle.timeline.proofs.Tests.{or-neither, and-other-false}
-use Rattle.timeline.proofs.Places.{each-step, each-cons, each-rest, any-of-none, none-of-any}
+use Rattle.timeline.proofs.Places.{each-map, each-rest, any-of-none, none-of-any}
 use Rattle.timeline.specs.Places.{here, there, EachStep}
 use Rattle.timeline.proofs.Clashes.{Compatible, compatible-unless-clash, compatible-no-clash, not-clashing}
 use Rattle.timeline.proofs.Clashes.{overlap-when}
 use Rattle.timeline.specs.Keeps.{Keeps}
-use Rattle.pooling.proofs.ByFact.{held-by-fact}
+use Rattle.pooling.proofs.ByFact.{held-by-fact, same-at-stop}
 
 -- y is x with its facts renamed: fact n of y is fact (of n) of x
 pub record Renames (of : ℕ → ℕ) (x y : Step) : Type 0 where
@@ -32,60 +30,51 @@ pub record Renames (of : ℕ → ℕ) (x y : Step) : Type 0 where
   pub adds : (n : ℕ) → has (y .action .adds) n ≡ has (x .action .adds) (of n)
   pub deletes : (n : ℕ) → has (y .action .deletes) n ≡ has (x .action .deletes) (of n)
 
-pub each-map : (F : Step → Type 0) (f : Step → Step) (P : List Step) → EachStep (λ x. F (f x)) P → EachStep F (map f P)
-each-map F f [] h = each-step F [] tt
-each-map F f (x ∷ P) h =
-    each-cons F (f x) (map f P) (h x P here) (each-map F f P (each-rest (λ y. F (f y)) x P h))
+-- y runs when x does, and has no facts but those of x, renamed
+pub record HasOnly (of : ℕ → ℕ) (x y : Step) : Type 0 where
+  pub start : y .start ≡ x .start
+  pub stop : y .stop ≡ x .stop
+  pub needs : (n : ℕ) → has (y .action .needs) n ≡ true → has (x .action .needs) (of n) ≡ true
+  pub adds : (n : ℕ) → has (y .action .adds) n ≡ true → has (x .action .adds) (of n) ≡ true
+  pub deletes : (n : ℕ) → has (y .action .deletes) n ≡ true → has (x .action .deletes) (of n) ≡ true
 
-pub total-of-map : (f g : Step → ℕ) (to : Step → Step) (P : List Step) → EachStep (λ x. f (to x) ≡ g x) P
-    → total f (map to P) ≡ total g P
-total-of-map f g to [] h = refl
-total-of-map f g to (x ∷ P) h = ap₂ _+_ (h x P here) (total-of-map f g to P (each-rest (λ y. f (to y) ≡ g y) x P h))
+only-renamed : (of : ℕ → ℕ) (x y : Step) → Renames of x y → HasOnly of x y
+only-renamed of x y r =
+    record {
+      start = r .start;
+      stop = r .stop;
+      needs = λ n h. sym (r .needs n) ∙ h;
+      adds = λ n h. sym (r .adds n) ∙ h;
+      deletes = λ n h. sym (r .deletes n) ∙ h;
+    }
 
 module _ (of : ℕ → ℕ) (f : Step → Step) where
   -- ---- facts
-  has-when : (b : Bool) (s r n m : ℕ) → has s n ≡ has r m → has (cond b s 0) n ≡ has (cond b r 0) m
-  has-when true s r n m e = e
-  has-when false s r n m e = has-zero n ∙ sym (has-zero m)
-
-  touched : (set : Action → ℕ) (t n : ℕ) (P : List Step)
-      → EachStep (λ x. (f x .stop ≡ x .stop) × (has (set (f x .action)) n ≡ has (set (x .action)) (of n))) P
-      → has (unionOf (λ x. ifStops t (set (x .action)) x) (map f P)) n
-      ≡ has (unionOf (λ x. ifStops t (set (x .action)) x) P) (of n)
-  touched set t n [] h = has-zero n ∙ sym (has-zero (of n))
-  touched set t n (x ∷ P) h =
-      let now = h x P here in
-      has-union _ _ n
-      ∙ ap₂ _||_
-      (ap (λ (s : ℕ). has (cond (eqb s t) (set (f x .action)) 0) n) (now .0)
-      ∙ has-when (eqb (x .stop) t) _ _ n (of n) (now .1))
-      (touched set t n P (each-rest _ x P h))
-      ∙ sym (has-union _ _ (of n))
-
-  pub renamed-held : (S R : ℕ) → ((n : ℕ) → has R n ≡ has S (of n)) → (P : List Step)
+  renamed-held : (S R : ℕ) → ((n : ℕ) → has R n ≡ has S (of n)) → (P : List Step)
       → EachStep (λ x. Renames of x (f x)) P → (t n : ℕ) → has (held R (map f P) t) n ≡ has (held S P t) (of n)
   renamed-held S R start P renames t n =
       held-by-fact R S (map f P) P n (of n) (start n)
-      (λ m. touched (λ a. a .deletes) m n P (λ x Q i. (renames x Q i .stop, renames x Q i .deletes n)))
-      (λ m. touched (λ a. a .adds) m n P (λ x Q i. (renames x Q i .stop, renames x Q i .adds n))) t
+      (λ m.
+      same-at-stop (λ a. a .deletes) f m n (of n) P (λ x Q i. (renames x Q i .stop, renames x Q i .deletes n)))
+      (λ m. same-at-stop (λ a. a .adds) f m n (of n) P (λ x Q i. (renames x Q i .stop, renames x Q i .adds n))) t
 
   -- ---- clashes
-  renamed-compatible : (x y : Step) → Renames of x (f x) → Renames of y (f y)
+  renamed-compatible : (x y : Step) → HasOnly of x (f x) → HasOnly of y (f y)
       → (f x .number ≡ f y .number → x .number ≡ y .number) → Compatible x y → Compatible (f x) (f y)
   renamed-compatible x y r s numbers c =
       record {
         different = λ e. c .different (numbers e);
         spares = record {
-          needs = λ n d k. c .spares .needs (of n) (sym (r .deletes n) ∙ d) (sym (s .needs n) ∙ k);
-          adds = λ n d k. c .spares .adds (of n) (sym (r .deletes n) ∙ d) (sym (s .adds n) ∙ k);
+          needs = λ n d k. c .spares .needs (of n) (r .deletes n d) (s .needs n k);
+          adds = λ n d k. c .spares .adds (of n) (r .deletes n d) (s .adds n k);
         };
         spared = record {
-          needs = λ n d k. c .spared .needs (of n) (sym (s .deletes n) ∙ d) (sym (r .needs n) ∙ k);
-          adds = λ n d k. c .spared .adds (of n) (sym (s .deletes n) ∙ d) (sym (r .adds n) ∙ k);
+          needs = λ n d k. c .spared .needs (of n) (s .deletes n d) (r .needs n k);
+          adds = λ n d k. c .spared .adds (of n) (s .deletes n d) (r .adds n k);
         };
       }
 
-  renamed-clashing : (x y : Step) → Renames of x (f x) → Renames of y (f y)
+  renamed-clashing : (x y : Step) → HasOnly of x (f x) → HasOnly of y (f y)
       → (f x .number ≡ f y .number → x .number ≡ y .number) → clashing x y ≡ false → clashing (f x) (f y) ≡ false
   renamed-clashing x y r s numbers h =
       not-clashing (f x) (f y)
@@ -103,8 +92,8 @@ module _ (of : ℕ → ℕ) (f : Step → Step) where
   abbrev pub Apart : List Step → Type 0
   Apart P = EachStep (λ x. EachStep (λ y. f x .number ≡ f y .number → x .number ≡ y .number) P) P
 
-  pub renamed-no-clash : (P : List Step) → EachStep (λ x. Renames of x (f x)) P → Apart P → anyPair clashing P ≡ false
-      → anyPair clashing (map f P) ≡ false
+  pub renamed-no-clash : (P : List Step) → EachStep (λ x. HasOnly of x (f x)) P → Apart P
+      → anyPair clashing P ≡ false → anyPair clashing (map f P) ≡ false
   renamed-no-clash [] r numbers h = refl
   renamed-no-clash (x ∷ P) r numbers h =
       or-neither
@@ -113,7 +102,7 @@ module _ (of : ℕ → ℕ) (f : Step → Step) where
       (λ y Q i.
       renamed-clashing x y (r x P here) (r y (x ∷ Q) (there i)) (numbers x P here y (x ∷ Q) (there i))
       (none-of-any (clashing x) P (or-left (any (clashing x) P) _ h) y Q i))))
-      (renamed-no-clash P (each-rest (λ y. Renames of y (f y)) x P r)
+      (renamed-no-clash P (each-rest (λ y. HasOnly of y (f y)) x P r)
       (λ y Q i z R j. numbers y (x ∷ Q) (there i) z (x ∷ R) (there j))
       (or-right (any (clashing x) P) _ h))
 
@@ -135,7 +124,7 @@ module _ (of : ℕ → ℕ) (f : Step → Step) where
             omega arith);
         inTime = each-map (λ x. x .stop ≤ T) f P
             (λ x Q i. let b = renames x Q i .stop in let l = keeps .inTime x Q i in omega arith);
-        noClash = renamed-no-clash P renames numbers (keeps .noClash);
+        noClash = renamed-no-clash P (λ x Q i. only-renamed of x (f x) (renames x Q i)) numbers (keeps .noClash);
         pools = pools;
         stores = stores;
         needsHold = each-map (λ x. Subset (x .action .needs) (held (W .start) (map f P) (x .start))) f P

@@ -30,6 +30,19 @@ length-plus [] ys = omega arith
 length-plus (x ∷ xs) [] = omega arith
 length-plus (x ∷ xs) (y ∷ ys) = let e = length-plus xs ys in omega arith
 
+pub getD-plus : (xs ys : List ℕ) (k : ℕ) → getD (plus xs ys) k 0 ≡ getD xs k 0 + getD ys k 0
+unfolding plus
+getD-plus [] ys k = omega arith
+getD-plus (x ∷ xs) [] k = omega arith
+getD-plus (x ∷ xs) (y ∷ ys) zero = refl
+getD-plus (x ∷ xs) (y ∷ ys) (suc k) = getD-plus xs ys k
+
+-- an amount of a list of small ones, or 0 behind them
+pub getD-at-most : (most : ℕ) (xs : List ℕ) → Each (λ x. x ≤ most) xs → (k : ℕ) → getD xs k 0 ≤ most
+getD-at-most most [] h k = omega arith
+getD-at-most most (x ∷ xs) h zero = h .0
+getD-at-most most (x ∷ xs) h (suc k) = getD-at-most most xs (h .1) k
+
 -- ---- places of lists one after the other
 pub getD-behind : {A : Type 0} (xs ys : List A) (k : ℕ) (d : A) → getD (xs ++ ys) (length xs + k) d ≡ getD ys k d
 getD-behind [] ys k d = let e : 0 + k ≡ k = omega arith in ap (λ (i : ℕ). getD ys i d) e

@@ -1,6 +1,6 @@
 -- What inner functions ask and promise.
 -- Assumes nothing.
-use Prim.Native.Nat.{ℕ, _+_, _^_, _<_, _≤_}
+use Prim.Native.Nat.{ℕ, _^_, _<_, _≤_}
 use mathlib.Core.Path.{_≡_}
 use mathlib.Core.Bool.{false}
 use mathlib.Core.List.{List, _++_, map}
@@ -9,7 +9,7 @@ use Rattle.lists.specs.Lists.{filled}
 use Rattle.job.specs.declared.Action as act
 use Rattle.job.specs.declared.Counts.{Counts}
 use Rattle.job.specs.declared.Job as held
-use Rattle.job.specs.Job.{Action, Job, unusedAction, actionValue, actionIn, jobIn, Fits}
+use Rattle.job.specs.Job.{Action, unusedAction, actionValue, actionIn, jobIn, Fits}
 use Rattle.job.specs.Passed.{Passed}
 use Rattle.pooling.specs.Pooled.{behind, renumbered, tooLarge, unlike, shortestLengths}
 
@@ -19,14 +19,14 @@ pub record FitsBehind (facts : ℕ) (a : act.Action) : Type 0 where
   pub adds : behind facts (a .adds) < 2 ^ 64
   pub deletes : behind facts (a .deletes) < 2 ^ 64
 
--- so many pools and stores are no fewer than are counted, and have places
+-- so many pools and stores: no fewer than are counted, and at most four
 pub record Widens (counts : Counts) (pools stores : ℕ) : Type 0 where
   pub allPools : counts .pools ≤ pools
   pub fewPools : pools ≤ 4
   pub allStores : counts .stores ≤ stores
   pub fewStores : stores ≤ 4
 
--- the action in a job with so many pools and stores
+-- the value of the action behind so many facts, in every job with no fewer pools and stores
 abbrev pub BehindValue : Counts → ℕ → act.Action → act.Action → Type 0
 BehindValue counts facts a r =
     (pools stores : ℕ) → Widens counts pools stores
@@ -54,8 +54,8 @@ pub record BothPass (first second : held.Job) : Type 0 where
   pub passedFirst : Passed (jobIn first)
   pub passedSecond : Passed (jobIn second)
 
--- and 32 and 33 do not hold
+-- and neither 32 nor 33 holds
 pub record Poolable (first second : held.Job) : Type 0 where
   pub both : BothPass first second
-  pub fits : tooLarge (jobIn first) (jobIn second) ≡ false
-  pub alike : unlike (jobIn first) (jobIn second) ≡ false
+  pub notTooLarge : tooLarge (jobIn first) (jobIn second) ≡ false
+  pub notUnlike : unlike (jobIn first) (jobIn second) ≡ false

@@ -1,6 +1,6 @@
 -- Two jobs pooled to one, sentence by sentence of document 02, i, and tests 32 and 33.
 -- Assumes nothing.
-use Prim.Native.Nat.{ℕ, _+_, _-_, _*_, _^_, max, min}
+use Prim.Native.Nat.{ℕ, _+_, _*_, _^_, max, min}
 use mathlib.Core.Path.{_≡_}
 use mathlib.Core.Bool.{Bool, cond, not, _||_}
 use mathlib.Core.List.{List, [], _∷_, _++_, map}
@@ -21,7 +21,7 @@ use Rattle.job.specs.Resources.{handover}
 use Rattle.job.specs.Valid.{over, jobRows}
 use Rattle.pooling.specs.declared.Pooled.{Pooled}
 
--- "The second's facts are numbered behind the first's": the set with each fact so much higher
+-- "The second's facts and actions are numbered behind the first's": the set with each fact so much higher
 unfoldable pub behind : ℕ → ℕ → ℕ
 behind facts set = set * 2 ^ facts
 
@@ -60,7 +60,7 @@ pooledHandover A B pool = cond (ltb pool (length (A .pools))) (handover A pool) 
 abbrev pub shortestLengths : Job → List ℕ
 shortestLengths J = tabulate (length (J .actions)) (shortestOf J)
 
--- as many of them as a job of the form has
+-- the shortest lengths that a job of the form has
 abbrev pub shortestIn : Form → List ℕ → List ℕ
 shortestIn Four lengths = []
 shortestIn Five lengths = []
@@ -109,11 +109,12 @@ unlike A B =
 unfoldable pub poolRows : Job → Job → List Row
 poolRows A B = jobRows A ++ (jobRows B ++ (PoolTooLarge when tooLarge A B ∷ PoolUnlike when unlike A B ∷ []))
 
--- the pooled job; "a job standing beside a refusal is all zero"
+-- the pooled job, or a refusal: "a job or number standing beside it is all zero"
 abbrev pub pooledOf : Verdict → Job → Pooled
 pooledOf Pass J = record { verdict = Pass; job = jobValue J }
 pooledOf (Refused why) J = record { verdict = Refused why; job = zeroValue }
 
+-- what pooling answers: the first refusal, or the pooled job
 unfoldable pub poolJobs : Job → Job → Pooled
 poolJobs A B = pooledOf (first (poolRows A B)) (pooled A B)
 

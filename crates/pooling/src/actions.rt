@@ -111,7 +111,7 @@ fn all_shortest(first: Job, second: Job) -> [u8; Job::ACTIONS]
     put_shortest(mine, counts.actions, second)
 }
 
-// As many of them as a job of the form has.
+// The shortest lengths that the pooled job of this form has.
 pub fn shortest(form: Form, first: Job, second: Job) -> [u8; Job::ACTIONS]
     requires { ⌜ Poolable first second ⌝ }
     ensures { λ r. ⌜ r ≡

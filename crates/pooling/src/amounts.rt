@@ -84,7 +84,7 @@ pub fn pools(first: Job, second: Job) -> [u32; Job::POOLS]
     sums(mine, a.pools, other, b.pools)
 }
 
-// And of the stores.
+// The availabilities of the stores of both jobs.
 pub fn stores(first: Job, second: Job) -> [u32; Job::STORES]
     requires { ⌜ BothPass first second ⌝ }
     ensures { λ r. ⌜ r ≡ filled 4 0 (plus (jobIn first .stores) (jobIn second .stores)) ⌝ }

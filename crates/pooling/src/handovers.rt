@@ -11,7 +11,7 @@ ghost use Rattle.pooling.specs.Inner.{BothPass};
 use job::Job;
 use job::resources;
 
-// The handover at a place: of the first n the one, of the others up to m the other, 0 behind them.
+// The handover at a place: of the first n places one's own, from there up to m the other's, 0 behind them.
 fn handover_at(
     mine: [u8; Job::POOLS],
     n: usize,

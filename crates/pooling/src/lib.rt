@@ -3,7 +3,7 @@
 mod amounts; // availabilities and uses place by place
 mod actions; // actions one behind the other
 mod handovers; // handovers of the pools of both
-mod tests; // tests 32 and 33
+mod poolable; // whether two jobs can be pooled: tests 32 and 33
 
 ghost use mathlib.Core.Path.{_≡_};
 ghost use Prim.Native.Nat.{max};
@@ -106,10 +106,10 @@ pub fn pool(first: Job, second: Job) -> Pooled
     if let Verdict::Refused(why) = other {
         return Pooled::refused(why);
     }
-    if tests::too_large(first, second) {
+    if poolable::too_large(first, second) {
         return Pooled::refused(Refusal::PoolTooLarge);
     }
-    if tests::unlike(first, second) {
+    if poolable::unlike(first, second) {
         return Pooled::refused(Refusal::PoolUnlike);
     }
     Pooled {

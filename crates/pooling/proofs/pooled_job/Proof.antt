@@ -6,7 +6,7 @@ use mathlib.Core.List.{_++_}
 use Rattle.lists.specs.Lists.{filled}
 use Rattle.job.specs.Job.{jobIn}
 use Rattle.pooling.specs.Pooled.{pooled, shortestIn, shortestLengths}
-use Rattle.pooling.proofs.Alike.{few-facts}
+use Rattle.pooling.proofs.PoolTests.{few-facts}
 use Rattle.pooling.proofs.PassingActions.{behind-word}
 use Rattle.pooling.proofs.PooledValues.{counts-of-pooled, value-by-parts}
 use native.Mathlib.Omega.{arith}
@@ -46,7 +46,7 @@ add-t18 c =
     let at8 = c .before .before .before .before .before .before .before .before in
     let c-args = at8 .before .before .before .before .before .before .args in
     let c-pre = at8 .before .before .before .before .before .before .pre in
-    let few = few-facts (jobIn (c-args .first)) (jobIn (c-args .second)) (c-pre .fits) in
+    let few = few-facts (jobIn (c-args .first)) (jobIn (c-args .second)) (c-pre .notTooLarge) in
     omega arith
 
 later-requires : tie.Need-later-requires
@@ -58,7 +58,7 @@ joined-requires c κs =
     let c-pre = at8 .before .before .before .before .before .before .before .pre in
     let a = at8 .before .before .before .before .before .before .before .args in
     behind-word (a .first .facts) (a .second .facts) (a .second .start)
-    (few-facts (jobIn (a .first)) (jobIn (a .second)) (c-pre .fits)) (c-pre .both .passedSecond .start)
+    (few-facts (jobIn (a .first)) (jobIn (a .second)) (c-pre .notTooLarge)) (c-pre .both .passedSecond .start)
 
 joined-requires-2 : tie.Need-joined-requires-2
 joined-requires-2 c κs =
@@ -67,7 +67,7 @@ joined-requires-2 c κs =
     let c-pre = at16 .pre in
     let a = at16 .args in
     behind-word (a .first .facts) (a .second .facts) (a .second .goal)
-    (few-facts (jobIn (a .first)) (jobIn (a .second)) (c-pre .fits)) (c-pre .both .passedSecond .goal)
+    (few-facts (jobIn (a .first)) (jobIn (a .second)) (c-pre .notTooLarge)) (c-pre .both .passedSecond .goal)
 
 reserve-requires : tie.Need-reserve-requires
 reserve-requires c κs = search needs

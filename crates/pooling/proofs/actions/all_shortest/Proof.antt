@@ -20,7 +20,7 @@ put-shortest-requires-2 : tie.Need-put-shortest-requires-2
 put-shortest-requires-2 c κs =
     let c-pre = c .before .before .pre in
     let a = c .before .before .args in
-    (c-pre .both .fitsSecond, few-actions-of-values (a .first) (a .second) (c-pre .fits))
+    (c-pre .both .fitsSecond, few-actions-of-values (a .first) (a .second) (c-pre .notTooLarge))
 
 returns : tie.Need-returns
 returns c =

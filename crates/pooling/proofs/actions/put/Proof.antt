@@ -1,6 +1,6 @@
 -- `put` meets its contract: the first i actions stand behind those of the array.
 -- Assumes nothing.
-use Prim.Native.Nat.{ℕ, _+_, _-_, _≤_}
+use Prim.Native.Nat.{ℕ, _-_, _≤_}
 use mathlib.Core.Path.{_≡_}
 use mathlib.Core.List.{List, _++_, map}
 use lib.ListN.{length}
@@ -38,8 +38,7 @@ element-copy-out-action c = omega arith
 renumbered-requires : tie.Need-renumbered-requires Inv-loop μ-loop
 renumbered-requires c κs =
     let c-pre = c .before .before .before .before .before .pre in
-    let c-loop = c .before .before .before .loop in
-    let l = c-loop in
+    let l = c .before .before .before .loop in
     (c-pre .0, c-pre .2 (l .i) (omega arith))
 
 add-all : tie.Need-add-all Inv-loop μ-loop
@@ -60,9 +59,8 @@ loop-less c = omega arith
 loop-again : tie.Need-loop-again Inv-loop μ-loop
 loop-again c =
     let c-pre = c .before .before .before .before .before .before .pre in
-    let c-loop = c .before .before .before .before .loop in
     let a = c .before .before .before .before .before .before .args in
-    let l = c-loop in
+    let l = c .before .before .before .before .loop in
     let most = c-pre .1 in (
       omega arith,
       λ xs pools stores e h w.
@@ -73,9 +71,8 @@ loop-again c =
 
 returns : tie.Need-returns Inv-loop μ-loop
 returns c =
-    let c-loop = c .before .before .loop in
     let a = c .before .before .before .before .args in
-    let l = c-loop in
+    let l = c .before .before .loop in
     let e : l .i ≡ a .t3 .counts .actions = omega arith in
     rw e at (l .inv .1)
 

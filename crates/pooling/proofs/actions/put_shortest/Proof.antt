@@ -1,6 +1,6 @@
 -- `put_shortest` meets its contract: the first i lengths stand behind those of the array.
 -- Assumes nothing.
-use Prim.Native.Nat.{ℕ, _+_, _-_, _≤_}
+use Prim.Native.Nat.{ℕ, _-_, _≤_}
 use mathlib.Core.Path.{_≡_, ap, _∙_}
 use mathlib.Core.List.{List, _++_}
 use lib.ListN.{length}
@@ -58,9 +58,8 @@ loop-less c = omega arith
 loop-again : tie.Need-loop-again Inv-loop μ-loop
 loop-again c =
     let c-pre = c .before .before .before .before .before .before .before .pre in
-    let c-loop = c .before .before .before .before .before .loop in
     let a = c .before .before .before .before .before .before .before .args in
-    let l = c-loop in
+    let l = c .before .before .before .before .before .loop in
     let most = c-pre .1 in (
       omega arith,
       λ xs e h.
@@ -70,9 +69,8 @@ loop-again c =
 
 returns : tie.Need-returns Inv-loop μ-loop
 returns c =
-    let c-loop = c .before .before .loop in
     let a = c .before .before .before .before .args in
-    let l = c-loop in
+    let l = c .before .before .loop in
     let n = length-tabulate (a .t3 .counts .actions) (actionAt (a .t3)) in
     let e : l .i ≡ length (jobIn (a .t3) .actions) = omega arith in
     rw e at (l .inv .1)

@@ -1,14 +1,25 @@
 -- `sums` meets its contract: place by place.
 -- Assumes nothing.
 use mathlib.Core.Path.{_≡_, ap₂, _∙_}
-use Prim.Native.Nat.{_+_}
+use Prim.Native.Nat.{ℕ, _+_, _≤_}
+use mathlib.Core.List.{List}
 use lib.ListN.{getD}
 use Rattle.lists.specs.Lists.{tabulate, firsts}
-use Rattle.pooling.proofs.Arrays.{sums-by-place, amount-small, length-firsts}
+use Rattle.job.specs.Passed.{Amounts}
+use Rattle.pooling.proofs.Sums.{getD-at-most}
+use Rattle.pooling.proofs.Arrays.{sums-by-place, length-firsts}
 use native.Mathlib.Omega.{arith}
 use borrow.Author.Needs.{needs}
 use Rattle.pooling.proofs.amounts.sums.Statement.{statement}
 use Rattle.pooling.proofs.amounts.sums.Tie as tie
+
+-- two amounts at a place, each of a list of small ones
+both-small : (xs ys : List ℕ) → Amounts xs → Amounts ys → (k x y : ℕ) → x ≡ getD xs k 0 → y ≡ getD ys k 0
+    → (x ≤ 1000000) × (y ≤ 1000000)
+both-small xs ys h g k x y e f =
+    let a = getD-at-most 1000000 xs h k in
+    let b = getD-at-most 1000000 ys g k in
+    (omega arith, omega arith)
 
 amount-at-requires : tie.Need-amount-at-requires
 amount-at-requires c κs = search needs
@@ -20,11 +31,8 @@ sum-requires : tie.Need-sum-requires
 sum-requires c κs =
     let a = c .before .before .args in
     let pre = c .before .before .pre in
-    let e = c .before .amount-at .ensures in
-    let f = c .amount-at2 .ensures in
-    let x = amount-small (firsts (a .n) 0 (a .a)) (pre .2) 0 in
-    let y = amount-small (firsts (a .m) 0 (a .b)) (pre .3) 0 in
-    (omega arith, omega arith)
+    both-small (firsts (a .n) 0 (a .a)) (firsts (a .m) 0 (a .b)) (pre .2) (pre .3) 0 _ _
+    (c .before .amount-at .ensures) (c .amount-at2 .ensures)
 
 amount-at-requires-3 : tie.Need-amount-at-requires-3
 amount-at-requires-3 c κs = search needs
@@ -36,11 +44,8 @@ sum-requires-2 : tie.Need-sum-requires-2
 sum-requires-2 c κs =
     let a = c .before .before .before .before .before .args in
     let pre = c .before .before .before .before .before .pre in
-    let e = c .before .amount-at3 .ensures in
-    let f = c .amount-at4 .ensures in
-    let x = amount-small (firsts (a .n) 0 (a .a)) (pre .2) 1 in
-    let y = amount-small (firsts (a .m) 0 (a .b)) (pre .3) 1 in
-    (omega arith, omega arith)
+    both-small (firsts (a .n) 0 (a .a)) (firsts (a .m) 0 (a .b)) (pre .2) (pre .3) 1 _ _
+    (c .before .amount-at3 .ensures) (c .amount-at4 .ensures)
 
 amount-at-requires-5 : tie.Need-amount-at-requires-5
 amount-at-requires-5 c κs = search needs
@@ -52,11 +57,8 @@ sum-requires-3 : tie.Need-sum-requires-3
 sum-requires-3 c κs =
     let a = c .before .before .before .before .before .before .before .before .args in
     let pre = c .before .before .before .before .before .before .before .before .pre in
-    let e = c .before .amount-at5 .ensures in
-    let f = c .amount-at6 .ensures in
-    let x = amount-small (firsts (a .n) 0 (a .a)) (pre .2) 2 in
-    let y = amount-small (firsts (a .m) 0 (a .b)) (pre .3) 2 in
-    (omega arith, omega arith)
+    both-small (firsts (a .n) 0 (a .a)) (firsts (a .m) 0 (a .b)) (pre .2) (pre .3) 2 _ _
+    (c .before .amount-at5 .ensures) (c .amount-at6 .ensures)
 
 amount-at-requires-7 : tie.Need-amount-at-requires-7
 amount-at-requires-7 c κs = search needs
@@ -68,11 +70,8 @@ sum-requires-4 : tie.Need-sum-requires-4
 sum-requires-4 c κs =
     let a = c .before .before .before .before .before .before .before .before .before .before .before .args in
     let pre = c .before .before .before .before .before .before .before .before .before .before .before .pre in
-    let e = c .before .amount-at7 .ensures in
-    let f = c .amount-at8 .ensures in
-    let x = amount-small (firsts (a .n) 0 (a .a)) (pre .2) 3 in
-    let y = amount-small (firsts (a .m) 0 (a .b)) (pre .3) 3 in
-    (omega arith, omega arith)
+    both-small (firsts (a .n) 0 (a .a)) (firsts (a .m) 0 (a .b)) (pre .2) (pre .3) 3 _ _
+    (c .before .amount-at7 .ensures) (c .amount-at8 .ensures)
 
 returns : tie.Need-returns
 unfolding tabulate

@@ -51,9 +51,9 @@ alike-of-test A B h =
     }
 
 -- ---- 32 does not hold
-module _ (A B : Job) (fits : tooLarge A B ≡ false) where
+module _ (A B : Job) (small : tooLarge A B ≡ false) where
   counts : (over 64 (A .facts + B .facts) || over 64 (length (A .actions) + length (B .actions))) ≡ false
-  counts = or-left _ (any (over 1000000) (plus (A .pools) (B .pools) ++ plus (A .stores) (B .stores))) fits
+  counts = or-left _ (any (over 1000000) (plus (A .pools) (B .pools) ++ plus (A .stores) (B .stores))) small
 
   pub few-facts : A .facts + B .facts ≤ 64
   few-facts = ltb-false 64 (A .facts + B .facts) (or-left (over 64 (A .facts + B .facts)) _ counts)
@@ -63,7 +63,7 @@ module _ (A B : Job) (fits : tooLarge A B ≡ false) where
 
   pub small-sums : any (over 1000000) (plus (A .pools) (B .pools) ++ plus (A .stores) (B .stores)) ≡ false
   small-sums =
-      or-right (over 64 (A .facts + B .facts) || over 64 (length (A .actions) + length (B .actions))) _ fits
+      or-right (over 64 (A .facts + B .facts) || over 64 (length (A .actions) + length (B .actions))) _ small
 
 -- ---- the other order
 pub too-large-other-order : (A B : Job) → tooLarge A B ≡ tooLarge B A

@@ -1,4 +1,4 @@
-// Tests 32 and 33 of two jobs that pass their own.
+// Whether two jobs that pass their own tests can be pooled: tests 32 and 33.
 ghost use mathlib.Core.Path.{_≡_};
 ghost use Rattle.job.specs.Job.{jobIn};
 ghost use Rattle.pooling.specs.Pooled.{tooLarge, unlike};

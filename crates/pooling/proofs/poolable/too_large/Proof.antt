@@ -10,8 +10,8 @@ use Rattle.job.specs.Valid.{over}
 use Rattle.pooling.proofs.Arrays.{length-firsts}
 use Rattle.pooling.proofs.PooledValues.{any-of-sums, too-large-parts}
 use borrow.Author.Needs.{needs}
-use Rattle.pooling.proofs.tests.too_large.Statement.{statement}
-use Rattle.pooling.proofs.tests.too_large.Tie as tie
+use Rattle.pooling.proofs.poolable.too_large.Statement.{statement}
+use Rattle.pooling.proofs.poolable.too_large.Tie as tie
 
 pools-requires : tie.Need-pools-requires
 pools-requires c κs = search needs

@@ -8,8 +8,8 @@ use Rattle.job.specs.Job.{jobIn}
 use Rattle.pooling.proofs.Arrays.{length-firsts}
 use Rattle.pooling.proofs.PooledValues.{handovers-differ-by}
 use borrow.Author.Needs.{needs}
-use Rattle.pooling.proofs.tests.unlike.Statement.{statement}
-use Rattle.pooling.proofs.tests.unlike.Tie as tie
+use Rattle.pooling.proofs.poolable.unlike.Statement.{statement}
+use Rattle.pooling.proofs.poolable.unlike.Tie as tie
 
 smaller-requires : tie.Need-smaller-requires
 smaller-requires c κs = search needs
