@@ -14,11 +14,13 @@ use Rattle.earliest.specs.declared.EarliestTime.{EarliestTime}
 use Rattle.earliest.specs.Answer.{Answers}
 use Rattle.timeline.specs.declared.Day.{Day}
 use Rattle.planner.specs.Plan.{Plans}
+use Rattle.halving.specs.Halves.{FirstListed, Halves}
+use Rattle.lister.specs.List.{Lists}
 use Rattle.replanner.specs.Replan.{Replans}
 use Rattle.packing.specs.Answer.{done, refusal, timeNumber, plannedNumber, peaksBy}
 use Rattle.calls.specs.Calls.{jobOf, unlessRefused, keptIfRefused, peaksAfter, EarliestBy, DayBy}
 use Rattle.calls.specs.Calls.{readAnswer, leftByRewrite, EarliestAnswers}
-use Rattle.calls.specs.Calls.{PlanAnswers, ReplanAnswers}
+use Rattle.calls.specs.Calls.{PlanAnswers, ListAnswers, HalvesAnswers, ReplanAnswers}
 
 module _ (file : List ℕ) (reading : Reading) (same : reading ≡ readFile file) where
   -- what the reading's verdict says is the file's
@@ -72,6 +74,14 @@ module _ (file : List ℕ) (reading : Reading) (same : reading ≡ readFile file
         ∙ ap (λ (x : Reading). leftByWrite (jobIn (x .job)) slice) same
         ∙ sym (ap (λ (v : Verdict). keptIfRefused v slice (leftByWrite (jobOf file) slice)) accepted)
 
+    -- the bytes of a slice that the job alone fixes
+    pub bytes-accepted : (said : Job → List ℕ) (slice after : List ℕ) → after ≡ said (jobIn (reading .job))
+        → after ≡ keptIfRefused (readFile file .verdict) slice (said (jobOf file))
+    bytes-accepted said slice after told =
+        told
+        ∙ ap (λ (x : Reading). said (jobIn (x .job))) same
+        ∙ sym (ap (λ (v : Verdict). keptIfRefused v slice (said (jobOf file))) accepted)
+
     pub earliest-accepted : (set : ℕ) (answer : EarliestTime) (r : ℕ) → Answers (jobIn (reading .job)) set answer
         → r ≡ timeNumber answer → EarliestAnswers file set r
     earliest-accepted set answer r told number =
@@ -91,6 +101,19 @@ module _ (file : List ℕ) (reading : Reading) (same : reading ≡ readFile file
         → peaksThen ≡ peaksBy (answer .verdict) (answer .peaks) peaks
         → PlanAnswers file slice peaks r after peaksThen
     plan-accepted slice after = day-accepted (λ J answer. Plans J slice answer after) slice after
+
+    pub list-accepted : (place : ℕ) (slice after peaks peaksThen : List ℕ) (answer : Day) (r : ℕ)
+        → Lists (jobIn (reading .job)) place slice answer after → r ≡ plannedNumber answer
+        → peaksThen ≡ peaksBy (answer .verdict) (answer .peaks) peaks
+        → ListAnswers file place slice peaks r after peaksThen
+    list-accepted place slice after = day-accepted (λ J answer. Lists J place slice answer after) slice after
+
+    pub halves-accepted : (halfway : ℕ) (slice after peaks peaksThen : List ℕ) (answer : Day) (r : ℕ)
+        → Halves FirstListed (jobIn (reading .job)) halfway slice answer after → r ≡ plannedNumber answer
+        → peaksThen ≡ peaksBy (answer .verdict) (answer .peaks) peaks
+        → HalvesAnswers file halfway slice peaks r after peaksThen
+    halves-accepted halfway slice after =
+        day-accepted (λ J answer. Halves FirstListed J halfway slice answer after) slice after
 
     pub replan-accepted : (plan : List ℕ) (minute goal : ℕ) (slice after peaks peaksThen : List ℕ) (answer : Day)
         (r : ℕ) → Replans (jobIn (reading .job)) plan minute goal slice answer after → r ≡ plannedNumber answer

@@ -10,7 +10,7 @@ use lib.Dec.{ltb}
 use borrow.Author.Tests.{ltb-false}
 use Rattle.lists.proofs.Bools.{or-right}
 use Rattle.job.specs.Job.{Job, jobIn}
-use Rattle.job.specs.Refusal.{first}
+use Rattle.job.specs.Refusal.{_when_, first}
 use Rattle.job.specs.Valid.{over, jobRows}
 use Rattle.job.specs.declared.Job as held
 use Rattle.job.specs.declared.refusal.Refusal.{Refusal}
@@ -28,8 +28,9 @@ use Rattle.jobfile.proofs.Lengths.{file-fits}
 use Rattle.timeline.specs.declared.Day.{Day}
 use Rattle.timeline.specs.Step.{Step, stepsIn}
 use Rattle.timeline.specs.Accepted.{planRows, runRows}
-use Rattle.timeline.specs.Day.{noDay, dayOf}
+use Rattle.timeline.specs.Day.{dayOf}
 use Rattle.timeline.specs.TrueLengths.{withLengths}
+use Rattle.timeline.proofs.DayLaws.{few-without-day}
 use Rattle.timeline.proofs.PlanBytes.{few-steps-of-accepted}
 use Rattle.timeline.proofs.RunRows.{run-rows}
 use Rattle.checker.specs.Check.{checkRows}
@@ -65,10 +66,6 @@ written-file-is-short job slice answer told n same =
     let fits = file-fits J (job-in-shape job) (passed J (pass-of-append (jobRows J) _ (w .0) .0)) in
     let size = w .1 in
     omega arith
-
--- no plan has no steps
-few-without-day : (why : Refusal) (answer : Day) → answer ≡ noDay why → answer .steps ≤ 32
-few-without-day why answer told = let zero = ap (λ (d : Day). d .steps) told in omega arith
 
 same-count : (P : List Step) (lengths : List ℕ) → length (withLengths P lengths) ≡ length P
 same-count [] lengths = refl

@@ -13,10 +13,13 @@ use Rattle.checker.specs.Check.{checkPlan}
 use Rattle.price.specs.declared.Rates.{Rates}
 use Rattle.price.specs.Price.{pricePlan}
 use Rattle.true_day.specs.TrueDay.{trueDay}
+use Rattle.joining.specs.Answer.{joinAnswer, leftByJoin}
 use Rattle.earliest.specs.declared.EarliestTime.{EarliestTime}
 use Rattle.earliest.specs.Answer.{Answers}
 use Rattle.timeline.specs.declared.Day.{Day}
 use Rattle.planner.specs.Plan.{Plans}
+use Rattle.halving.specs.Halves.{FirstListed, Halves}
+use Rattle.lister.specs.List.{Lists}
 use Rattle.replanner.specs.Replan.{Replans}
 use Rattle.pooling.specs.declared.Pooled.{Pooled}
 use Rattle.pooling.specs.Pooled.{poolJobs}
@@ -75,6 +78,17 @@ abbrev pub keptIfRefused : Verdict → List ℕ → List ℕ → List ℕ
 keptIfRefused Pass slice after = after
 keptIfRefused (Refused why) slice after = slice
 
+-- what joining two plans answers, for the job of the file, and what it leaves in the slice and in the array of peaks
+abbrev pub joinedAnswer : List ℕ → List ℕ → List ℕ → List ℕ → ℕ
+joinedAnswer file a b slice =
+    unlessRefused (readFile file .verdict) (plannedNumber (joinAnswer (jobOf file) a b slice))
+
+abbrev pub leftByJoining : List ℕ → List ℕ → List ℕ → List ℕ → List ℕ
+leftByJoining file a b slice = keptIfRefused (readFile file .verdict) slice (leftByJoin (jobOf file) a b slice)
+
+abbrev pub peaksByJoining : List ℕ → List ℕ → List ℕ → List ℕ → List ℕ → List ℕ
+peaksByJoining file a b slice before = peaksAfter (readFile file .verdict) (joinAnswer (jobOf file) a b slice) before
+
 -- what the writer leaves in the slice
 abbrev pub leftByRewrite : List ℕ → List ℕ → List ℕ
 leftByRewrite file slice = keptIfRefused (readFile file .verdict) slice (leftByWrite (jobOf file) slice)
@@ -99,6 +113,17 @@ DayBy (Refused why) promise slice peaks r after peaksThen = (r ≡ refusal why) 
 abbrev pub PlanAnswers : List ℕ → List ℕ → List ℕ → ℕ → List ℕ → List ℕ → Type 0
 PlanAnswers file slice peaks r after peaksThen =
     DayBy (readFile file .verdict) (λ answer. Plans (jobOf file) slice answer after) slice peaks r after peaksThen
+
+-- the same for the plan at a place of the list
+abbrev pub ListAnswers : List ℕ → ℕ → List ℕ → List ℕ → ℕ → List ℕ → List ℕ → Type 0
+ListAnswers file place slice peaks r after peaksThen =
+    DayBy (readFile file .verdict) (λ answer. Lists (jobOf file) place slice answer after) slice peaks r after peaksThen
+
+-- the same for a day planned in two halves
+abbrev pub HalvesAnswers : List ℕ → ℕ → List ℕ → List ℕ → ℕ → List ℕ → List ℕ → Type 0
+HalvesAnswers file halfway slice peaks r after peaksThen =
+    DayBy (readFile file .verdict) (λ answer. Halves FirstListed (jobOf file) halfway slice answer after) slice peaks r
+    after peaksThen
 
 -- the same for a day that has begun: its current plan, the minute and the new goal
 abbrev pub ReplanAnswers : List ℕ → List ℕ → ℕ → ℕ → List ℕ → List ℕ → ℕ → List ℕ → List ℕ → Type 0

@@ -3,7 +3,9 @@
 ghost use mathlib.Core.Path.{_≡_};
 ghost use Rattle.calls.specs.Calls.{readAnswer, checkAnswer, peaksByCheck, rewriteAnswer, leftByRewrite};
 ghost use Rattle.calls.specs.Calls.{priceAnswer, ratesIn, trueDayAnswer, peaksByTrueDay};
-ghost use Rattle.calls.specs.Calls.{EarliestAnswers, PlanAnswers, ReplanAnswers, poolAnswer, leftByPool};
+ghost use Rattle.calls.specs.Calls.{joinedAnswer, leftByJoining, peaksByJoining};
+ghost use Rattle.calls.specs.Calls.{EarliestAnswers, PlanAnswers, ListAnswers, HalvesAnswers, ReplanAnswers};
+ghost use Rattle.calls.specs.Calls.{poolAnswer, leftByPool};
 use job::Job;
 use job::refusal::Verdict;
 use packing::DONE;
@@ -114,6 +116,33 @@ pub extern "C" fn ruhkevois_true_day(
     day_told(day, day.steps as u16)
 }
 
+// Joins two plans for the job of a file: writes the joined plan to the front of the slice. Its end and number of steps,
+// with the peak of each pool in the array, or the first refusal of the file, of 12 to 15 of the first plan and of the
+// second, of 21 and 34. The bytes behind the plan are kept; a refusal changes nothing.
+#[no_mangle]
+pub extern "C" fn ruhkevois_join(
+    file: &[u8],
+    first: &[u8],
+    second: &[u8],
+    out: &mut [u8],
+    peaks: &mut [u32; Job::POOLS],
+) -> u64
+    ensures { λ r. ⌜ r ≡ joinedAnswer (now (file .entry)) (now (first .entry)) (now (second .entry)) (now (out .entry)) ⌝ }
+    ensures { λ _. ⌜ now (out .exit) ≡
+        leftByJoining (now (file .entry)) (now (first .entry)) (now (second .entry)) (now (out .entry)) ⌝ }
+    ensures { λ _. ⌜ now (peaks .exit) ≡ peaksByJoining (now (file .entry)) (now (first .entry)) (now (second .entry))
+        (now (out .entry)) (now (peaks .entry)) ⌝ }
+{
+    let reading = reader::read(file);
+    let verdict = reading.verdict;
+    if let Verdict::Refused(why) = verdict {
+        return refused(why);
+    }
+    let day = joining::join(reading.job, first, second, out);
+    put_peaks(peaks, day);
+    day_told(day, day.steps as u16)
+}
+
 // The earliest time of a set of facts in the job of a file: the minute, unreachable, or the first refusal of the
 // file and of 24.
 #[no_mangle]
@@ -143,6 +172,50 @@ pub extern "C" fn ruhkevois_plan(file: &[u8], out: &mut [u8], peaks: &mut [u32; 
         return refused(why);
     }
     let day = planner::plan(reading.job, out);
+    put_peaks(peaks, day);
+    day_told(day, day.steps as u16)
+}
+
+// Writes the plan at a place, counted from 0, of the list of all shortest plans for the job of a file to the front of
+// the slice. Answers as the planner does, or the first refusal of the file, of 21, 22 and 28. A refusal changes nothing.
+#[no_mangle]
+pub extern "C" fn ruhkevois_list(
+    file: &[u8],
+    place: u32,
+    out: &mut [u8],
+    peaks: &mut [u32; Job::POOLS],
+) -> u64
+    ensures { λ r. ⌜ ListAnswers (now (file .entry)) place (now (out .entry)) (now (peaks .entry)) r (now (out .exit))
+        (now (peaks .exit)) ⌝ }
+{
+    let reading = reader::read(file);
+    let verdict = reading.verdict;
+    if let Verdict::Refused(why) = verdict {
+        return refused(why);
+    }
+    let day = lister::list(reading.job, place, out);
+    put_peaks(peaks, day);
+    day_told(day, day.steps as u16)
+}
+
+// Plans the day of a file in two halves, the first for the halfway set: writes the joined plan to the front of the slice.
+// Answers as the planner does, or the first refusal of the file, of 24, 21, 22 and 34. A refusal changes nothing.
+#[no_mangle]
+pub extern "C" fn ruhkevois_halves(
+    file: &[u8],
+    halfway: u64,
+    out: &mut [u8],
+    peaks: &mut [u32; Job::POOLS],
+) -> u64
+    ensures { λ r. ⌜ HalvesAnswers (now (file .entry)) halfway (now (out .entry)) (now (peaks .entry)) r (now (out .exit))
+        (now (peaks .exit)) ⌝ }
+{
+    let reading = reader::read(file);
+    let verdict = reading.verdict;
+    if let Verdict::Refused(why) = verdict {
+        return refused(why);
+    }
+    let day = halving::halves(reading.job, halfway, out);
     put_peaks(peaks, day);
     day_told(day, day.steps as u16)
 }

@@ -16,14 +16,14 @@ use Rattle.job.proofs.Table.{first-append-pass, first-append-refused}
 use Rattle.timeline.specs.declared.Day.{Day}
 use Rattle.timeline.specs.declared.Plan.{Plan}
 use Rattle.timeline.specs.Step.{Step, stepsIn}
-use Rattle.timeline.specs.Accepted.{stepRows, planRows}
+use Rattle.timeline.specs.Accepted.{orderRows, shapeRows, stepRows, planRows}
 use Rattle.timeline.specs.Timeline.{peaks}
 use Rattle.timeline.specs.Day.{noDay, dayOf}
 use Rattle.timeline.specs.Value.{stepAt, stepsOf}
 use Rattle.timeline.proofs.DayLaws.{refused-not-passed, reply-of-day}
 use Rattle.checker.specs.declared.Checked.{Checked}
 use Rattle.checker.specs.declared.CheckedPlan.{CheckedPlan}
-use Rattle.checker.specs.Check.{checkRows, checkPlan, Checks, checkedOf, dayBy, Decodes, ChecksPlan}
+use Rattle.checker.specs.Check.{checkRows, checkPlan, Checks, shapeDay, checkedOf, dayBy, Decodes, ChecksPlan}
 
 day-by-checked : (v : Verdict) (J : Job) (P : List Step) → dayBy (checkedOf v P) (length P) (peaks J P) ≡ dayOf v J P
 day-by-checked Pass J P = refl
@@ -58,6 +58,26 @@ module _ (job : held.Job) (goal : ℕ) (bytes : List ℕ) (r : CheckedPlan) wher
             ∙ sym (ap (λ (v : Verdict). dayOf v J (stepsIn J bytes)) rows);
         plan = λ p. rw (same p) decodes;
       }
+
+-- ---- tests 12 to 15 alone
+module _ (J : Job) (bytes : List ℕ) (r : Day) where
+  pub shape-refused : (why : Refusal) → r ≡ noDay why → first (shapeRows J bytes) ≡ Refused why → r ≡ shapeDay J bytes
+  unfolding shapeDay
+  shape-refused why d h = d ∙ sym (ap (λ (v : Verdict). dayOf v J (stepsIn J bytes)) h)
+
+  pub shape-decoded : (plan : Plan) → stepsOf plan ≡ stepsIn J bytes
+      → first (shapeRows J bytes) ≡ first (orderRows J (stepsIn J bytes))
+      → (c : Checked) → c ≡ checkedOf (first (orderRows J (stepsOf plan))) (stepsOf plan)
+      → r ≡ dayBy c (plan .length) (peaks J (stepsOf plan)) → r ≡ shapeDay J bytes
+  unfolding shapeDay
+  shape-decoded plan steps rows c checked day =
+      let count = length-tabulate (plan .length) (stepAt plan) in
+      let most = peaks J (stepsOf plan) in
+      day ∙ ap (λ (n : ℕ). dayBy c n most) (sym count)
+      ∙ ap (λ (x : Checked). dayBy x (length (stepsOf plan)) most) checked
+      ∙ day-by-checked (first (orderRows J (stepsOf plan))) J (stepsOf plan)
+      ∙ ap (λ (P : List Step). dayOf (first (orderRows J P)) J P) steps
+      ∙ sym (ap (λ (v : Verdict). dayOf v J (stepsIn J bytes)) rows)
 
 module _ (J : Job) (bytes : List ℕ) (r : Day) where
   checks-of-answer : r ≡ checkPlan J bytes → Checks J bytes r

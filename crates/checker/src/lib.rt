@@ -13,16 +13,18 @@ ghost use Rattle.lists.specs.Lists.{any, Each};
 ghost use Rattle.job.specs.Job.{jobIn, Fits};
 ghost use Rattle.job.specs.Refusal.{first};
 ghost use Rattle.job.specs.declared.refusal.Verdict.the-variants as verdict;
-ghost use Rattle.timeline.specs.Accepted.{unknown, stepRows};
+ghost use Rattle.timeline.specs.Accepted.{unknown, orderRows, stepRows};
 ghost use Rattle.timeline.specs.Timeline.{peaks};
 ghost use Rattle.timeline.specs.Day.{noDay};
 ghost use Rattle.timeline.specs.Value.{stepsOf};
 ghost use Rattle.checker.specs.declared.Checked.the-variants as answer;
-ghost use Rattle.checker.specs.Check.{Checks, checkFor, Valid, checkedOf, dayBy, SmallPeaks, ChecksPlan};
+ghost use Rattle.checker.specs.Check.{Checks, checkFor, checkWithin, shapeDay, Valid, Limited, checkedOf, dayBy};
+ghost use Rattle.checker.specs.Check.{SmallPeaks, ChecksPlan};
 use job::Job;
 use job::refusal::Refusal;
 use job::refusal::Verdict;
 use job::validate::validate;
+use job::validate::validate_limits;
 use timeline::Day;
 use timeline::Plan;
 use watch::Watched;
@@ -102,9 +104,40 @@ fn with_day(job: Job, plan: Plan, checked: Checked) -> CheckedPlan
     }
 }
 
-// Tests 12 to 20 with a goal, of a job that passes its own tests.
-pub fn checked_plan(job: Job, goal: u64, bytes: &[u8]) -> CheckedPlan
+// Tests 14 and 15, of the steps of a plan whose actions are known.
+fn check_order(plan: Plan, job: Job) -> Checked
+    requires { ⌜ (plan .length ≤ 32) × (any (unknown (jobIn job)) (stepsOf plan) ≡ false) ⌝ }
+    ensures { λ r. ⌜ r ≡ checkedOf (first (orderRows (jobIn job) (stepsOf plan))) (stepsOf plan) ⌝ }
+{
+    let Verdict::Pass = rules::order(plan) else {
+        return Checked::Refused(Refusal::StepOrder);
+    };
+    let Verdict::Pass = rules::deadline(plan, job.deadline) else {
+        return Checked::Refused(Refusal::AfterDeadline);
+    };
+    let last = rules::end(plan);
+    Checked::Ends(last)
+}
+
+// Tests 12 to 15, of a job that passes its own tests: what is told of a plan that may break 16 to 20.
+pub fn check_shape(job: Job, bytes: &[u8]) -> Day
     requires { ⌜ Valid job ⌝ }
+    ensures { λ r. ⌜ r ≡ shapeDay (jobIn job) (now (bytes .entry)) ⌝ }
+{
+    let Verdict::Pass = decode::size(bytes) else {
+        return Day::refused(Refusal::PlanSize);
+    };
+    let Verdict::Pass = decode::known_actions(job, bytes) else {
+        return Day::refused(Refusal::UnknownAction);
+    };
+    let plan = decode::plan(job, bytes);
+    let checked = with_day(job, plan, check_order(plan, job));
+    checked.day
+}
+
+// Tests 12 to 20 with a goal, of a job within its limits.
+pub fn checked_plan(job: Job, goal: u64, bytes: &[u8]) -> CheckedPlan
+    requires { ⌜ Limited job ⌝ }
     ensures { λ r. ⌜ ChecksPlan job goal (now (bytes .entry)) r ⌝ }
 {
     let Verdict::Pass = decode::size(bytes) else {
@@ -130,11 +163,12 @@ pub fn check(job: Job, plan: &[u8]) -> Day
     checked.day
 }
 
-// Whether the plan is accepted for another goal: as above, with 24 for a foreign fact after the job's tests.
-pub fn check_for(job: Job, goal: u64, plan: &[u8]) -> Day
-    ensures { λ r. ⌜ r ≡ checkFor (jobIn job) goal (now (plan .entry)) ⌝ }
+// Whether the plan is accepted for another goal by what may be left of a day: the job's limits, 24 for a foreign fact,
+// then 12 to 20. Test 26 looks only at a job as it is handed in.
+pub fn check_within(job: Job, goal: u64, plan: &[u8]) -> Day
+    ensures { λ r. ⌜ r ≡ checkWithin (jobIn job) goal (now (plan .entry)) ⌝ }
 {
-    let verdict = validate(job);
+    let verdict = validate_limits(job);
     if let Verdict::Refused(why) = verdict {
         return Day::refused(why);
     }
@@ -143,4 +177,15 @@ pub fn check_for(job: Job, goal: u64, plan: &[u8]) -> Day
     }
     let checked = checked_plan(job, goal, plan);
     checked.day
+}
+
+// Whether the plan is accepted for another goal: all tests of the job, then as above.
+pub fn check_for(job: Job, goal: u64, plan: &[u8]) -> Day
+    ensures { λ r. ⌜ r ≡ checkFor (jobIn job) goal (now (plan .entry)) ⌝ }
+{
+    let verdict = validate(job);
+    if let Verdict::Refused(why) = verdict {
+        return Day::refused(why);
+    }
+    check_within(job, goal, plan)
 }

@@ -105,7 +105,7 @@ pub fn clashes(plan: Plan) -> Verdict
 }
 
 // How much of the store all steps use up.
-fn used_up(plan: Plan, job: Job, store: usize) -> u64
+pub fn used_up(plan: Plan, job: Job, store: usize) -> u64
     requires { ⌜ (plan .length ≤ 32) × (plan .counts ≡ job .counts)
         × (job .counts .stores ≤ 4) × (store < job .counts .stores) ⌝ }
     ensures { λ r. ⌜ r ≡ usedUp (jobIn job) store (stepsOf plan) ⌝ }

@@ -38,11 +38,13 @@ number why.ForeignAskedFact = 24
 number why.RateOver = 25
 number why.UseBeyond = 26
 number why.HandoverOver = 27
+number why.ListEnded = 28
 number why.ShortestLength = 29
 number why.TrueLengths = 30
 number why.ReserveOver = 31
 number why.PoolTooLarge = 32
 number why.PoolUnlike = 33
+number why.JoinedTooLong = 34
 number why.NoPlanWithKept = 35
 
 -- a row of the table: the refusal, and whether it holds

@@ -43,3 +43,40 @@ resumedValue job start stores =
       shortest = job .shortest;
       actions = job .actions;
     }
+
+-- the job with no part of its stores kept back
+abbrev pub withoutReserve : Job → Job
+withoutReserve J =
+    record {
+      facts = J .facts;
+      deadline = J .deadline;
+      start = J .start;
+      goal = J .goal;
+      form = J .form;
+      rule = J .rule;
+      reserve = 0;
+      pools = J .pools;
+      handovers = J .handovers;
+      stores = J .stores;
+      shortest = J .shortest;
+      actions = J .actions;
+    }
+
+-- the same of a value
+abbrev pub unreservedValue : held.Job → held.Job
+unreservedValue job =
+    record {
+      facts = job .facts;
+      deadline = job .deadline;
+      start = job .start;
+      goal = job .goal;
+      form = job .form;
+      rule = job .rule;
+      reserve = 0;
+      counts = job .counts;
+      pools = job .pools;
+      handovers = job .handovers;
+      stores = job .stores;
+      shortest = job .shortest;
+      actions = job .actions;
+    }

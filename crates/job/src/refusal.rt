@@ -41,6 +41,8 @@ pub enum Refusal {
     UseBeyond,
     // the handovers of its pools
     HandoverOver,
+    // the list of the shortest days
+    ListEnded,
     // the shortest lengths of its actions
     ShortestLength,
     // the true lengths of a plan's steps
@@ -50,6 +52,8 @@ pub enum Refusal {
     // two jobs pooled to one
     PoolTooLarge,
     PoolUnlike,
+    // a join
+    JoinedTooLong,
     // the replanner
     NoPlanWithKept,
 }
@@ -92,11 +96,13 @@ pub fn number(refusal: Refusal) -> u8
         Refusal::RateOver => 25,
         Refusal::UseBeyond => 26,
         Refusal::HandoverOver => 27,
+        Refusal::ListEnded => 28,
         Refusal::ShortestLength => 29,
         Refusal::TrueLengths => 30,
         Refusal::ReserveOver => 31,
         Refusal::PoolTooLarge => 32,
         Refusal::PoolUnlike => 33,
+        Refusal::JoinedTooLong => 34,
         Refusal::NoPlanWithKept => 35,
     }
 }

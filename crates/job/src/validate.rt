@@ -123,8 +123,8 @@ fn validate_actions(job: Job) -> Verdict
     Verdict::Pass
 }
 
-// The first of its limits, tests 3 to 11, 27, 29 and 31, that the job fails.
-fn validate_limits(job: Job) -> Verdict
+// The first of its limits, tests 3 to 11, 27, 29 and 31, that the job fails. Of what is left of a day no more is asked.
+pub fn validate_limits(job: Job) -> Verdict
     ensures { λ r. ⌜ r ≡ first (limitRows (jobIn job)) ⌝ }
 {
     let counts = job.counts;

@@ -18,7 +18,7 @@ use Rattle.job.specs.declared.refusal.Verdict.{Verdict}
 use Rattle.job.specs.declared.refusal.Verdict.the-variants.{Pass, Refused}
 use Rattle.job.specs.Job.{Job}
 use Rattle.job.specs.Refusal.{first}
-use Rattle.job.specs.Valid.{jobRows}
+use Rattle.job.specs.Valid.{limitRows}
 use Rattle.job.proofs.Table.{first-next, first-pass, first-append-pass, pass-of-append}
 use Rattle.timeline.specs.Step.{Step, stepsIn, planBytes}
 use Rattle.timeline.specs.Timeline.{end, peaks}
@@ -27,7 +27,7 @@ use Rattle.timeline.proofs.Tests.{not-both}
 use Rattle.timeline.proofs.PlanBytes.{length-plan-bytes}
 use Rattle.timeline.specs.declared.Day.{Day}
 use Rattle.timeline.specs.Day.{toldOf, tells, dayOf}
-use Rattle.checker.specs.Check.{checkFor}
+use Rattle.checker.specs.Check.{checkWithin}
 use Rattle.tables.specs.declared.Steps.{Steps}
 use Rattle.leaf.specs.declared.Answer.{Answer}
 use Rattle.leaf.specs.Order.{placed, inOrder, WritesPlan}
@@ -62,31 +62,31 @@ day-passed : (v : Verdict) (J : Job) (P : List Step) → dayOf v J P .verdict �
 day-passed Pass J P h = (refl, refl, refl)
 day-passed (Refused why) J P h = (h, cc, cc)
 
-pub passed-accepted : (J : Job) (goal : ℕ) (bytes : List ℕ) → checkFor J goal bytes .verdict ≡ Pass
-    → Accepted J goal bytes × (end (stepsIn J bytes) ≡ checkFor J goal bytes .end)
-    × (peaks J (stepsIn J bytes) ≡ checkFor J goal bytes .peaks)
-unfolding checkFor
+pub passed-accepted : (J : Job) (goal : ℕ) (bytes : List ℕ) → checkWithin J goal bytes .verdict ≡ Pass
+    → Accepted J goal bytes × (end (stepsIn J bytes) ≡ checkWithin J goal bytes .end)
+    × (peaks J (stepsIn J bytes) ≡ checkWithin J goal bytes .peaks)
+unfolding checkWithin
 passed-accepted J goal bytes h =
     let r = day-passed _ J (stepsIn J bytes) h in
-    (first-pass _ _ _ (pass-of-append (jobRows J) _ (r .0) .1) .1, r .1, r .2)
+    (first-pass _ _ _ (pass-of-append (limitRows J) _ (r .0) .1) .1, r .1, r .2)
 
-pub accepted-passes : (J : Job) (goal : ℕ) (bytes : List ℕ) → first (jobRows J) ≡ Pass → foreign (J .facts) goal ≡ false
-    → Accepted J goal bytes → checkFor J goal bytes ≡ tells (toldOf J (stepsIn J bytes))
-unfolding checkFor
+pub accepted-passes : (J : Job) (goal : ℕ) (bytes : List ℕ) → first (limitRows J) ≡ Pass → foreign (J .facts) goal ≡ false
+    → Accepted J goal bytes → checkWithin J goal bytes ≡ tells (toldOf J (stepsIn J bytes))
+unfolding checkWithin
 accepted-passes J goal bytes job own accepted =
     ap (λ (v : Verdict). dayOf v J (stepsIn J bytes))
-    (first-append-pass (jobRows J) _ job ∙ first-next ForeignAskedFact _ _ own ∙ accepted)
+    (first-append-pass (limitRows J) _ job ∙ first-next ForeignAskedFact _ _ own ∙ accepted)
 
 -- ---- the answer that is made of it
 module _ (J : Job) (goal T : ℕ) (steps : Steps) where
   abbrev checks : Day
-  checks = checkFor J goal (planBytes (inOrder J steps))
+  checks = checkWithin J goal (planBytes (inOrder J steps))
 
   same-checked : (o : List ℕ) (day : Day) → WritesPlan steps (replicate 96 0) o
-      → day ≡ checkFor J goal (take (steps .count * 3) o) → checks ≡ day
+      → day ≡ checkWithin J goal (take (steps .count * 3) o) → checks ≡ day
   same-checked o day w e =
-      sym (e ∙ ap (λ (bytes : List ℕ). checkFor J goal (take (steps .count * 3) bytes)) (w J)
-      ∙ ap (checkFor J goal) (plan-in-front J steps (steps .count * 3) (omega arith)))
+      sym (e ∙ ap (λ (bytes : List ℕ). checkWithin J goal (take (steps .count * 3) bytes)) (w J)
+      ∙ ap (checkWithin J goal) (plan-in-front J steps (steps .count * 3) (omega arith)))
 
   -- the answer by a verdict to what the checker says, and the steps as a plan of that day
   abbrev answerTo : Verdict → Day → Answer
@@ -103,7 +103,7 @@ module _ (J : Job) (goal T : ℕ) (steps : Steps) where
 
   -- o is the bytes that were written, and day what the checker says of them
   module _ (o : List ℕ) (day : Day) (w : WritesPlan steps (replicate 96 0) o)
-      (e : day ≡ checkFor J goal (take (steps .count * 3) o)) where
+      (e : day ≡ checkWithin J goal (take (steps .count * 3) o)) where
     by-verdict : (v : Verdict) → day .verdict ≡ v → answerTo (checks .verdict) checks ≡ answerTo v day
     by-verdict v h =
         ap (λ (d : Day). answerTo (d .verdict) d) (same-checked o day w e) ∙ ap (λ (x : Verdict). answerTo x day) h

@@ -14,8 +14,8 @@ use Rattle.job.specs.declared.refusal.Verdict.the-variants.{Pass, Refused}
 use Rattle.job.specs.Job.{Job, jobIn}
 use Rattle.job.specs.Refusal.{first}
 use Rattle.job.specs.Resumed.{resumed, resumedValue}
-use Rattle.job.specs.Valid.{jobRows}
-use Rattle.job.proofs.Passed.{passed}
+use Rattle.job.specs.Valid.{limitRows}
+use Rattle.job.proofs.Passed.{within-limits}
 use Rattle.job.proofs.Resuming.{job-in-resumed}
 use Rattle.jobfile.specs.declared.Reading.{Reading}
 use Rattle.jobfile.specs.Answers.{readFile}
@@ -50,6 +50,7 @@ finishes-unread file frame steps reading why r e h =
     record {
       found = λ f J have. unread (ap (λ (x : Reading). x .verdict) (e ∙ have .read));
       same = λ f J have known starts. unread (ap (λ (x : Reading). x .verdict) (e ∙ have .read));
+      bytes = λ f J have known starts. unread (ap (λ (x : Reading). x .verdict) (e ∙ have .read));
       dead = λ f J have asked b t l. unread (ap (λ (x : Reading). x .verdict) (e ∙ have .read));
     }
   where
@@ -61,21 +62,27 @@ module _ (J : Job) (frame : Frame) (steps s : Steps) (same : Reordered steps s) 
   order : Permutation (inOrder J s) (chosen J steps)
   order = permutation-trans (in-order-permutes J s) (same .order J)
 
-  found-steps : first (jobRows J) ≡ Pass → Known (length (J .actions)) steps
-      → ((k : ℕ) → k < steps .count → getD (steps .starts) k 0 < 65536) → (r : Answer)
-      → Answers J (frame .goal) (frame .horizon) s r → r .found ≡ true
-      → Permutation (stepsIn J (bytesIn r)) (chosen J steps)
-  found-steps pass known starts r a h =
-      let few = passed J pass .fewActions in
-      let number = permutation-each (λ x. x .number < 256) order
-      (each-chosen (λ x. x .number < 256) J steps (steps .count) (λ k l. let m = known .known k l in omega arith)) in
-      let start = permutation-each (λ x. x .start < 65536) order
-      (each-chosen (λ x. x .start < 65536) J steps (steps .count) starts) in
-      let e = ap (stepsIn J) (answer-bytes J (frame .goal) (frame .horizon) s r a h)
-      ∙ bytes-of-steps J (inOrder J s) (in-order-own J s) number start in
-      subst (λ (P : List Step). Permutation P (chosen J steps)) (sym e) order
+  -- the plan that is found has them in order, and its bytes are theirs
+  module _ (pass : first (limitRows J) ≡ Pass) (known : Known (length (J .actions)) steps)
+      (starts : (k : ℕ) → k < steps .count → getD (steps .starts) k 0 < 65536) (r : Answer)
+      (a : Answers J (frame .goal) (frame .horizon) s r) (h : r .found ≡ true) where
+    steps-in-order : stepsIn J (bytesIn r) ≡ inOrder J s
+    steps-in-order =
+        let few = within-limits J pass .fewActions in
+        let number = permutation-each (λ x. x .number < 256) order
+        (each-chosen (λ x. x .number < 256) J steps (steps .count) (λ k l. let m = known .known k l in omega arith)) in
+        let start = permutation-each (λ x. x .start < 65536) order
+        (each-chosen (λ x. x .start < 65536) J steps (steps .count) starts) in
+        ap (stepsIn J) (answer-bytes J (frame .goal) (frame .horizon) s r a h)
+        ∙ bytes-of-steps J (inOrder J s) (in-order-own J s) number start
 
-  dead : first (jobRows J) ≡ Pass → Asked J frame steps → (r : Answer)
+    found-steps : Permutation (stepsIn J (bytesIn r)) (chosen J steps)
+    found-steps = subst (λ (P : List Step). Permutation P (chosen J steps)) (sym steps-in-order) order
+
+    found-bytes : bytesIn r ≡ planBytes (stepsIn J (bytesIn r))
+    found-bytes = answer-bytes J (frame .goal) (frame .horizon) s r a h ∙ ap planBytes (sym steps-in-order)
+
+  dead : first (limitRows J) ≡ Pass → Asked J frame steps → (r : Answer)
       → Answers J (frame .goal) (frame .horizon) s r → r .found ≡ false → (b : From) (t : ℕ)
       → t ≤ b .minute
       → Dead J b (frame .goal) (frame .horizon) (Until b t) (chosen J steps)
@@ -84,7 +91,7 @@ module _ (J : Job) (frame : Frame) (steps s : Steps) (same : Reordered steps s) 
       (λ apart. in-order-rising J s ordered small (permutation-apart order apart)) refused
     where
       fewActions : length (J .actions) ≤ 64
-      fewActions = passed J pass .fewActions
+      fewActions = within-limits J pass .fewActions
 
       small : EachStep (λ x. x .number < 256) (inOrder J s)
       small =
@@ -101,7 +108,7 @@ module _ (J : Job) (frame : Frame) (steps s : Steps) (same : Reordered steps s) 
 
       refused : first (stepRows J (frame .goal) (inOrder J s)) ≡ Pass → end (inOrder J s) ≤ frame .horizon → ⊥
       refused p inTime =
-          let plan = accepted-bytes-of-steps J (frame .goal) (inOrder J s) (passed J pass) (in-order-own J s) few p in
+          let plan = accepted-bytes-of-steps J (frame .goal) (inOrder J s) (within-limits J pass) (in-order-own J s) few p in
           let bytes = planBytes (inOrder J s) in
           let passes = accepted-passes J (frame .goal) bytes pass (asked .goal) (plan .0) in
           let same-end = ap end (plan .1) in
@@ -120,6 +127,8 @@ finishes-read file frame steps s reading r e job begun few same ordered a =
           answer-found J (frame .goal) (frame .horizon) s (omega arith) r (answers J have) f;
       same = λ f J have known starts.
           found-steps J frame steps s same ordered (have .passes) known starts r (answers J have) f;
+      bytes = λ f J have known starts.
+          found-bytes J frame steps s same ordered (have .passes) known starts r (answers J have) f;
       dead = λ f J have asked b t l.
           dead J frame steps s same ordered (have .passes) asked r (answers J have) f b t l;
     }

@@ -14,7 +14,7 @@ use Rattle.job.specs.declared.refusal.Verdict.the-variants.{Pass, Refused}
 use Rattle.job.specs.Job.{Job, jobIn}
 use Rattle.job.specs.Refusal.{first}
 use Rattle.job.specs.Resumed.{resumed}
-use Rattle.job.specs.Valid.{jobRows}
+use Rattle.job.specs.Valid.{limitRows}
 use Rattle.jobfile.specs.Answers.{readFile}
 use Rattle.timeline.specs.Step.{stepsIn, planBytes}
 use Rattle.timeline.specs.From.{From}
@@ -22,7 +22,7 @@ use Rattle.timeline.specs.Timeline.{end, peaks}
 use Rattle.timeline.specs.Accepted.{Accepted}
 use Rattle.timeline.specs.Places.{Permutation}
 use Rattle.timeline.specs.declared.Day.{Day}
-use Rattle.checker.specs.Check.{checkFor}
+use Rattle.checker.specs.Check.{checkWithin}
 use Rattle.regression.specs.DeadEnd.{Until, Dead}
 use Rattle.tables.specs.Tables.{chosen, Known}
 use Rattle.tables.specs.declared.Frame.{Frame}
@@ -50,14 +50,14 @@ planOf J steps = overwrite (replicate 96 0) 0 (planBytes (inOrder J steps))
 -- what the checker says of the steps as they stand
 abbrev pub Answers : Job → ℕ → ℕ → Steps → Answer → Type 0
 Answers J goal T steps r =
-    r ≡ answerOf (checkFor J goal (planBytes (inOrder J steps))) T (steps .count) (planOf J steps)
+    r ≡ answerOf (checkWithin J goal (planBytes (inOrder J steps))) T (steps .count) (planOf J steps)
 
--- J is the job of the file with these facts at its start and so much in its stores, and passes its tests
+-- J is the job of the file with these facts at its start and so much in its stores, and is within its limits
 pub record FileOf (J : Job) (file : List ℕ) (start : ℕ) (supplies : List ℕ) : Type 0 where
   pub value : held.Job
   pub read : readFile file ≡ record { verdict = Pass; job = value }
   pub same : resumed (jobIn value) start supplies ≡ J
-  pub passes : first (jobRows J) ≡ Pass
+  pub passes : first (limitRows J) ≡ Pass
 
 -- the bytes of the answer's plan
 abbrev pub bytesIn : Answer → List ℕ
@@ -85,6 +85,9 @@ pub record Finishes (file : List ℕ) (frame : Frame) (steps : Steps) (r : Answe
   pub same : r .found ≡ true → (J : Job) → FileOf J file (frame .start) (frame .supplies)
       → Known (length (J .actions)) steps → ((k : ℕ) → k < steps .count → getD (steps .starts) k 0 < 65536)
       → Permutation (stepsIn J (bytesIn r)) (chosen J steps)
+  pub bytes : r .found ≡ true → (J : Job) → FileOf J file (frame .start) (frame .supplies)
+      → Known (length (J .actions)) steps → ((k : ℕ) → k < steps .count → getD (steps .starts) k 0 < 65536)
+      → bytesIn r ≡ planBytes (stepsIn J (bytesIn r))
   pub dead : r .found ≡ false → (J : Job) → FileOf J file (frame .start) (frame .supplies) → Asked J frame steps
       → (b : From) (t : ℕ) → t ≤ b .minute
       → Dead J b (frame .goal) (frame .horizon) (Until b t) (chosen J steps)

@@ -44,7 +44,7 @@ pub fn as_plan(job: Job, goal: u64, horizon: u16, steps: Steps) -> Answer
     bytes::write_plan(&mut plan, steps);
     let count = steps.count;
     let size = count * Plan::STEP;
-    let day = checker::check_for(job, goal, &plan[..size]);
+    let day = checker::check_within(job, goal, &plan[..size]);
     let verdict = day.verdict;
     let Verdict::Pass = verdict else {
         return nothing();

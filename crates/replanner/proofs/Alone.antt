@@ -16,6 +16,7 @@ use Rattle.job.specs.Refusal.{first}
 use Rattle.job.specs.Valid.{jobRows}
 use Rattle.job.specs.Passed.{Passed}
 use Rattle.job.proofs.Passed.{passed}
+use Rattle.job.proofs.Rows.{limits-of-pass}
 use Rattle.timeline.specs.Step.{Step, stepsIn, planBytes}
 use Rattle.timeline.specs.Accepted.{Accepted}
 use Rattle.timeline.specs.Day.{toldOf, tells}
@@ -83,7 +84,7 @@ module _ (J : Job) (goal minute : ℕ) (kept : Steps) (valid : first (jobRows J)
             let accepted = accepted-alone J goal minute K within begun-steps h .0 in
             let day = tells (toldOf J (stepsIn J (planBytes K))) in
             answer-not-found J goal (J .deadline) kept r checked e day
-            (accepted-passes J goal (planBytes K) valid own accepted) refl
+            (accepted-passes J goal (planBytes K) (limits-of-pass J valid) own accepted) refl
             (ends-by-deadline J goal (planBytes K) accepted)
 
     -- they are accepted

@@ -17,7 +17,7 @@ use Rattle.job.specs.declared.refusal.Verdict.the-variants.{Pass}
 use Rattle.job.specs.Job.{Job, jobIn, jobValue}
 use Rattle.job.specs.Refusal.{first}
 use Rattle.job.specs.Resumed.{resumed}
-use Rattle.job.specs.Valid.{jobRows}
+use Rattle.job.specs.Valid.{limitRows, jobRows}
 use Rattle.job.proofs.Passed.{passed}
 use Rattle.job.proofs.Table.{first-next, first-append-pass, first-none}
 use Rattle.job.proofs.Values.{job-in-shape, value-holds-job}
@@ -78,7 +78,7 @@ module _ (job : held.Job) (passes : first (jobRows (jobIn job)) ≡ Pass) (slice
 -- what the writer leaves in the slice, up to the file's length, is a file of which J is resumed
 pub file-of-job : (job : held.Job) (slice : List ℕ) (answer : Written) (after : List ℕ)
     → Wrote (jobIn job) slice answer after → ByteDurations job → (n : ℕ) → answer ≡ written.Length n
-    → (start : ℕ) (stocks : List ℕ) (J : Job) → resumed (jobIn job) start stocks ≡ J → first (jobRows J) ≡ Pass
+    → (start : ℕ) (stocks : List ℕ) (J : Job) → resumed (jobIn job) start stocks ≡ J → first (limitRows J) ≡ Pass
     → FileOf J (take n after) start stocks
 file-of-job job slice answer after wrote durations n h start stocks J same passes =
     record {

@@ -1,5 +1,5 @@
-mod FileLaws
+pub mod FileLaws
 pub mod Solving
-mod RestLaws
-mod TaskLaws
+pub mod RestLaws
+pub mod TaskLaws
 pub mod TaskDays

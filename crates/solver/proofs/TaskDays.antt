@@ -11,6 +11,7 @@ use Rattle.job.specs.Job.{Job, jobIn}
 use Rattle.job.specs.Refusal.{first}
 use Rattle.job.specs.Valid.{jobRows}
 use Rattle.job.proofs.Passed.{passed}
+use Rattle.job.proofs.Rows.{limits-of-pass}
 use Rattle.job.proofs.Resuming.{resumed-as-it-is}
 use Rattle.tables.specs.declared.Steps.{Steps}
 use Rattle.tables.specs.Tables.{noSteps}
@@ -38,7 +39,7 @@ module _ (job : held.Job) (task : Task) (is : task ≡ wholeDay job) where
   whole-day-fits passes =
       begun-day-fits job (job .goal) 0 noSteps task is
       (record {
-        passes = passes;
+        passes = limits-of-pass (jobIn job) passes;
         goal = passed (jobIn job) passes .goal .within;
         known = record { few = omega arith; numbers = refl; starts = refl; known = λ k l. absurd (omega arith) };
         early = λ k l. absurd (omega arith);

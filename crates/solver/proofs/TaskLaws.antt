@@ -12,10 +12,10 @@ use Rattle.job.specs.declared.refusal.Verdict.the-variants.{Pass}
 use Rattle.job.specs.Job.{Job, Fits, actionAt, jobIn}
 use Rattle.job.specs.Refusal.{first}
 use Rattle.job.specs.Resumed.{resumed, resumedValue}
-use Rattle.job.specs.Valid.{jobRows}
-use Rattle.job.proofs.Passed.{passed}
+use Rattle.job.specs.Valid.{limitRows}
+use Rattle.job.proofs.Passed.{within-limits}
 use Rattle.job.proofs.Resuming.{job-in-resumed}
-use Rattle.job.proofs.Rows.{fits-of-pass}
+use Rattle.job.proofs.Rows.{fits-of-limits}
 use Rattle.timeline.specs.Step.{Step}
 use Rattle.tables.specs.declared.Frame.{Frame}
 use Rattle.tables.specs.Filled.{Filled, frameOf, FramedAs}
@@ -41,12 +41,12 @@ use Rattle.solver.specs.Task.{dayOf, TaskFits, RestTimes, Solved}
 use Rattle.solver.proofs.Solving.{solved}
 
 -- the numbers of the actions, with durations of one byte
-pub numbers-of-job : (job : held.Job) (sets numbers : List ℕ) → first (jobRows (jobIn job)) ≡ Pass
+pub numbers-of-job : (job : held.Job) (sets numbers : List ℕ) → first (limitRows (jobIn job)) ≡ Pass
     → Filled job sets numbers → Numbers numbers (job .counts .actions)
 numbers-of-job job sets numbers passes filled =
     record {
       numberCount = filled .numberCount;
-      few = fits-of-pass job passes .2;
+      few = fits-of-limits job passes .2;
       short = λ i l.
           let n = filled .eachNumbers i l in
           let d = n .duration in
@@ -55,12 +55,12 @@ numbers-of-job job sets numbers passes filled =
     }
 
 -- the tables of the actions stay while those of the facts are filled
-pub filled-still : (job : held.Job) (sets numbers sets′ numbers′ : List ℕ) → first (jobRows (jobIn job)) ≡ Pass
+pub filled-still : (job : held.Job) (sets numbers sets′ numbers′ : List ℕ) → first (limitRows (jobIn job)) ≡ Pass
     → Filled job sets numbers → KeptBefore 256 384 sets sets′ → KeptBefore 576 1220 numbers numbers′
     → Filled job sets′ numbers′
 filled-still job sets numbers sets′ numbers′ passes filled keptSets keptNumbers =
-    let fits = fits-of-pass job passes in
-    let limits = passed (jobIn job) passes in
+    let fits = fits-of-limits job passes in
+    let limits = within-limits (jobIn job) passes in
     record {
       setCount = keptSets .size;
       numberCount = keptNumbers .size;
@@ -120,11 +120,11 @@ module _ (day : held.Job) (task : Task) (fits : TaskFits (jobIn day) task) (fram
   same : frame ≡ whole
   same = framed .same
 
-  passes : first (jobRows J) ≡ Pass
+  passes : first (limitRows J) ≡ Pass
   passes = fits .passes
 
   counts : Fits (day .counts)
-  counts = fits-of-pass day passes
+  counts = fits-of-limits day passes
 
   module _ (sets numbers : List ℕ) (filled : Filled day sets numbers) where
     described : Describes J sets numbers whole
@@ -143,7 +143,7 @@ module _ (day : held.Job) (task : Task) (fits : TaskFits (jobIn day) task) (fram
           subst (WithinLimits times) (sym same)
           (record {
             timeCount = rest .whole;
-            facts = passed J passes .facts;
+            facts = within-limits J passes .facts;
             actions = counts .2;
             pools = counts .0;
           })
@@ -151,7 +151,7 @@ module _ (day : held.Job) (task : Task) (fits : TaskFits (jobIn day) task) (fram
       -- what the search requires of the tables and the frame
       pub whole-of-task : Whole sets numbers times frame
       whole-of-task =
-          let within = passed J passes in
+          let within = within-limits J passes in
           let minute = fits .minute in
           subst (Whole sets numbers times) (sym same)
           (record {
@@ -211,6 +211,6 @@ module _ (day : held.Job) (task : Task) (fits : TaskFits (jobIn day) task) (fram
   pub solved-task : (r : Answer) → (r .found ≡ true → FoundFor J frame r × NoneBefore J frame (r .end))
       → (r .found ≡ false → NoneBy J frame) → Solved J (task .goal) (task .first) (inOrder J (task .kept)) r
   solved-task r found none =
-      solved J whole refl (passed J passes) (fits .known) (fits .early) (fits .rising) r refl
+      solved J whole refl (within-limits J passes) (fits .known) (fits .early) (fits .rising) r refl
       (subst (λ (f : Frame). r .found ≡ true → FoundFor J f r × NoneBefore J f (r .end)) same found)
       (subst (λ (f : Frame). r .found ≡ false → NoneBy J f) same none)

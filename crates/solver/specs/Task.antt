@@ -11,7 +11,7 @@ use Rattle.job.specs.declared.refusal.Verdict.the-variants.{Pass}
 use Rattle.job.specs.Job.{Job, jobIn}
 use Rattle.job.specs.Refusal.{first}
 use Rattle.job.specs.Resumed.{resumed}
-use Rattle.job.specs.Valid.{jobRows}
+use Rattle.job.specs.Valid.{limitRows}
 use Rattle.timeline.specs.Step.{Step, strictlyRising}
 use Rattle.makespan.specs.Makespan.{Counts, endsAt, noPlan, makespanFrom}
 use Rattle.tables.specs.Tables.{Known, chosen, noSteps}
@@ -40,10 +40,10 @@ dayOf job task = resumed (jobIn job) (task .start) (task .stocks)
 abbrev pub StartBefore : ℕ → Steps → Type 0
 StartBefore minute steps = (k : ℕ) → k < steps .count → getD (steps .starts) k 0 < minute
 
--- what may be asked of the job J: it passes its tests, the goal has its facts only, and the kept steps are its own,
--- start before the first free minute and stand in rising order
+-- what may be asked of the job J: it is within its limits ("26 looks only at the job as given"), the goal has its facts
+-- only, and the kept steps are its own, start before the first free minute and stand in rising order
 pub record TaskFits (J : Job) (task : Task) : Type 0 where
-  pub passes : first (jobRows J) ≡ Pass
+  pub passes : first (limitRows J) ≡ Pass
   pub goal : foreign (J .facts) (task .goal) ≡ false
   pub known : Known (length (J .actions)) (task .kept)
   pub early : StartBefore (task .first) (task .kept)

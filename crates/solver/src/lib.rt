@@ -57,7 +57,7 @@ impl Task {
 }
 
 // Fills the earliest times of what is left of the day from the minute on. Returns what is at hand then.
-fn fill_times(times: &mut [u32], day: Job, kept: Steps, minute: u16) -> u64
+pub fn fill_times(times: &mut [u32], day: Job, kept: Steps, minute: u16) -> u64
     requires { ⌜ (now times ≡ replicate 2080 none) × (day .facts ≤ 64) × Fits (day .counts)
         × Known (day .counts .actions) kept × StartBefore minute kept ⌝ }
     ensures { λ r. ⌜ RestTimes day kept minute (now (times .exit)) r ⌝ }

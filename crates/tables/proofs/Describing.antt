@@ -1,4 +1,4 @@
--- The filled tables of a job that passes its tests, and its frame, describe it.
+-- The filled tables of a job within its limits, and its frame, describe it.
 -- Assumes nothing.
 use Prim.Native.Nat.{ℕ, _<_, _≤_}
 use mathlib.Core.Path.{_≡_, refl, sym, ap}
@@ -8,16 +8,16 @@ use native.Mathlib.Decide.{decLt}
 use lib.ListN.{length, getD, List·getD-eq-default}
 use Rattle.lists.proofs.Tabulate.{length-tabulate, getD-tabulate, each-at}
 use Rattle.job.proofs.ResourceLaws.{small-charge, allowed-is}
-use Rattle.job.proofs.Rows.{fits-of-pass}
+use Rattle.job.proofs.Rows.{fits-of-limits}
 use Rattle.times.specs.Earliest.{actionOf}
 use Rattle.job.specs.declared.Job as held
 use Rattle.job.specs.declared.refusal.Verdict.the-variants.{Pass}
 use Rattle.job.specs.Job.{Action, jobIn, actionAt, beyond, noAction}
 use Rattle.job.specs.Resources.{storeAmount, HandoversOf}
 use Rattle.job.specs.Refusal.{first}
-use Rattle.job.specs.Valid.{jobRows}
+use Rattle.job.specs.Valid.{limitRows}
 use Rattle.job.specs.Passed.{Amounts, PassedAction}
-use Rattle.job.proofs.Passed.{passed}
+use Rattle.job.proofs.Passed.{within-limits}
 use Rattle.tables.specs.Tables.{Describes, DescribesAction}
 use Rattle.tables.specs.declared.Steps.{Steps}
 use Rattle.tables.specs.Filled.{Filled, frameOf}
@@ -34,7 +34,7 @@ module _ (job : held.Job) (sets numbers : List ℕ) (filled : Filled job sets nu
       let same = ap (λ (x : Action). x .duration) (action-of-value job i l) in
       omega arith
 
-  module _ (passes : first (jobRows (jobIn job)) ≡ Pass) where
+  module _ (passes : first (limitRows (jobIn job)) ≡ Pass) where
     -- what an action that passes its tests uses up of a store
     small-amount : (store : ℕ) (a : Action) → a .duration ≤ 255 → PassedAction (job .facts) a
         → storeAmount (jobIn job) store a < 4294967296
@@ -56,7 +56,7 @@ module _ (job : held.Job) (sets numbers : List ℕ) (filled : Filled job sets nu
         let s = filled .eachSets i l in
         let n = filled .eachNumbers i l in
         let known = length-tabulate (job .counts .actions) (actionAt job) in
-        let all = passed (jobIn job) passes .actions in
+        let all = within-limits (jobIn job) passes .actions in
         let tested = each-at (PassedAction (job .facts)) (jobIn job .actions) noAction all i (omega arith) in
         record {
           needs = s .needs;
@@ -80,7 +80,7 @@ module _ (job : held.Job) (sets numbers : List ℕ) (filled : Filled job sets nu
           pools = length-tabulate (job .counts .pools) (λ k. getD (job .pools) k 0);
           stores = length-tabulate (job .counts .stores) (λ k. getD (job .stores) k 0);
           available = λ k l. sym (getD-tabulate (job .counts .pools) (λ m. getD (job .pools) m 0) k 0 l);
-          stocks = λ k l. let few = fits-of-pass job passes .1 in allowed-is job k l (omega arith);
+          stocks = λ k l. let few = fits-of-limits job passes .1 in allowed-is job k l (omega arith);
           handovers = same;
           inTime = omega arith;
           each = describes-action;

@@ -3,6 +3,7 @@
 use mathlib.Core.Path.{sym, _∙_}
 use Rattle.job.specs.Job.{jobIn}
 use Rattle.checker.proofs.PlanLaws.{checks-refused-job, checks-valid-job}
+use Rattle.job.proofs.Rows.{limits-of-pass}
 use borrow.Author.Needs.{needs}
 use Rattle.checker.proofs.check.Statement.{statement}
 use Rattle.checker.proofs.check.Tie as tie
@@ -27,7 +28,7 @@ enum-told : tie.Need-enum-told
 enum-told c = search needs
 
 checked-plan-requires : tie.Need-checked-plan-requires
-checked-plan-requires c κs = sym (c .before .before .validate .ensures) ∙ c .enum-told .given .1
+checked-plan-requires c κs = limits-of-pass _ (sym (c .before .before .validate .ensures) ∙ c .enum-told .given .1)
 
 returns-2 : tie.Need-returns-2
 returns-2 c =

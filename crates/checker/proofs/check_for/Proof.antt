@@ -1,14 +1,14 @@
--- `check_for` meets its contract: the tests of the job, of the goal, then of the plan.
+-- `check_for` meets its contract: the tests of the job, then as within its limits.
 -- Assumes nothing.
 use mathlib.Core.Path.{sym, ap, _∙_}
-use Rattle.job.specs.declared.refusal.Refusal.the-variants.{ForeignAskedFact}
 use Rattle.job.specs.declared.refusal.Verdict.{Verdict}
 use Rattle.job.specs.Job.{jobIn}
-use Rattle.job.specs.Valid.{jobRows}
-use Rattle.job.proofs.Table.{first-here, first-next, first-append-pass, first-append-refused}
+use Rattle.job.specs.Valid.{jobRows, limitRows}
+use Rattle.job.proofs.Rows.{limits-of-pass}
+use Rattle.job.proofs.Table.{first-append-pass, first-append-refused}
 use Rattle.timeline.specs.Day.{dayOf}
 use Rattle.timeline.specs.Step.{stepsIn}
-use Rattle.checker.specs.Check.{checkFor}
+use Rattle.checker.specs.Check.{checkFor, checkWithin}
 use borrow.Author.Needs.{needs}
 use Rattle.checker.proofs.check_for.Statement.{statement}
 use Rattle.checker.proofs.check_for.Tie as tie
@@ -35,41 +35,18 @@ returns c =
 enum-told : tie.Need-enum-told
 enum-told c = search needs
 
-foreign-requires : tie.Need-foreign-requires
-foreign-requires c κs = search needs
-
-refused-requires-2 : tie.Need-refused-requires-2
-refused-requires-2 c κs = search needs
+check-within-requires : tie.Need-check-within-requires
+check-within-requires c κs = search needs
 
 returns-2 : tie.Need-returns-2
-unfolding checkFor
+unfolding checkFor checkWithin
 returns-2 c =
-    let c-args = c .before .before .before .before .before .before .before .args in
-    let c-validate = c .before .before .before .before .before .validate in
-    let c-enum-told = c .before .before .before .enum-told in
+    let c-args = c .before .before .before .before .before .args in
     let J = jobIn (c-args .job) in
-    c .refused2 .ensures
-    ∙ sym (ap (λ (v : Verdict). dayOf v J (stepsIn J (c-args .plan .now)))
-    (first-append-pass (jobRows J) _ (sym (c-validate .ensures) ∙ c-enum-told .given .1)
-    ∙ first-here ForeignAskedFact _ _ (sym (c .before .before .foreign .ensures .0) ∙ c .before .if1 .taken)))
-
-checked-plan-requires : tie.Need-checked-plan-requires
-checked-plan-requires c κs =
-    let c-validate = c .before .before .before .before .validate in
-    sym (c-validate .ensures) ∙ c .before .before .enum-told .given .1
-
-returns-3 : tie.Need-returns-3
-unfolding checkFor
-returns-3 c =
-    let c-args = c .before .before .before .before .before .before .before .before .args in
-    let c-validate = c .before .before .before .before .before .before .validate in
-    let c-enum-told = c .before .before .before .before .enum-told in
-    let c-foreign = c .before .before .before .foreign in
-    let J = jobIn (c-args .job) in
-    c .before .checked-plan .ensures .day
-    ∙ sym (ap (λ (v : Verdict). dayOf v J (stepsIn J (c-args .plan .now)))
-    (first-append-pass (jobRows J) _ (sym (c-validate .ensures) ∙ c-enum-told .given .1)
-    ∙ first-next ForeignAskedFact _ _ (sym (c-foreign .ensures .0) ∙ c .before .before .if1 .left)))
+    let valid = sym (c .before .before .before .validate .ensures) ∙ c .before .enum-told .given .1 in
+    c .check-within .ensures
+    ∙ ap (λ (v : Verdict). dayOf v J (stepsIn J (c-args .plan .now)))
+    (first-append-pass (limitRows J) _ (limits-of-pass J valid) ∙ sym (first-append-pass (jobRows J) _ valid))
 
 pub check-for-spec : {M : Type 1} → statement M
 check-for-spec =
@@ -80,8 +57,5 @@ check-for-spec =
     refused-requires
     returns
     enum-told
-    foreign-requires
-    refused-requires-2
-    returns-2
-    checked-plan-requires
-    returns-3)
+    check-within-requires
+    returns-2)

@@ -3,8 +3,8 @@
 use mathlib.Core.Path.{sym, _∙_}
 use Rattle.job.specs.declared.refusal.Refusal.the-variants.{PlanSize, UnknownAction}
 use Rattle.job.specs.Job.{jobIn}
-use Rattle.job.proofs.Passed.{passed}
-use Rattle.job.proofs.Rows.{fits-of-pass}
+use Rattle.job.proofs.Passed.{within-limits}
+use Rattle.job.proofs.Rows.{fits-of-limits}
 use Rattle.timeline.specs.Accepted.{stepRows, planRows}
 use Rattle.checker.proofs.ChainLaws.{check-passes, check-fails, passed-test}
 use Rattle.checker.proofs.PeakLaws.{small-peaks}
@@ -63,7 +63,7 @@ plan-requires c κs =
     let c-pre = c .before .before .before .before .before .before .before .pre in
     let c-size = c .before .before .before .before .before .size in
     let c-enum-told = c .before .before .before .enum-told in (
-      (fits-of-pass (c-args .job) (c-pre), passed-test PlanSize _ (sym (c-size .ensures) ∙ c-enum-told .given .1)),
+      (fits-of-limits (c-args .job) (c-pre), passed-test PlanSize _ (sym (c-size .ensures) ∙ c-enum-told .given .1)),
       passed-test UnknownAction _ (sym (c .before .before .known-actions .ensures) ∙ c .enum-told3 .given .1),
     )
 
@@ -75,8 +75,8 @@ check-steps-requires c κs =
     let j = c-args .job in
     let e = c .plan .ensures in
     let known = passed-test UnknownAction _ (sym (c-known-actions .ensures) ∙ c .before .enum-told3 .given .1) in
-    let lasting = known-steps-last (jobIn j) (c-args .bytes .now) (passed (jobIn j) (c-pre)) known in
-    ((e .0, e .1, fits-of-pass j (c-pre)), (rw (e .2) known, rw (e .2) lasting))
+    let lasting = known-steps-last (jobIn j) (c-args .bytes .now) (within-limits (jobIn j) (c-pre)) known in
+    ((e .0, e .1, fits-of-limits j (c-pre)), (rw (e .2) known, rw (e .2) lasting))
 
 with-day-requires : tie.Need-with-day-requires
 with-day-requires c κs =
@@ -86,8 +86,8 @@ with-day-requires c κs =
     let c-plan = c .before .plan in
     let j = c-args .job in
     let e = c-plan .ensures in
-    let small = small-peaks j (c-plan .result) (c-args .goal) (passed (jobIn j) (c-pre)) _ (c .check-steps .ensures) in
-    (e .0, e .1, fits-of-pass j (c-pre), small)
+    let small = small-peaks j (c-plan .result) (c-args .goal) (within-limits (jobIn j) (c-pre)) _ (c .check-steps .ensures) in
+    (e .0, e .1, fits-of-limits j (c-pre), small)
 
 returns-3 : tie.Need-returns-3
 unfolding planRows

@@ -21,13 +21,13 @@ mul-size c = search needs
 array-share-prefix-plan : tie.Need-array-share-prefix-plan
 array-share-prefix-plan c = search needs
 
-slice-aggregate-check-for : tie.Need-slice-aggregate-check-for
-slice-aggregate-check-for c =
+slice-aggregate-check-within : tie.Need-slice-aggregate-check-within
+slice-aggregate-check-within c =
     let c-args = c .before .before .before .before .args in
     front-whole (jobIn (c-args .job)) (c-args .steps) _ (c .before .before .write-plan .ensures)
 
-check-for-requires : tie.Need-check-for-requires
-check-for-requires c κs = search needs
+check-within-requires : tie.Need-check-within-requires
+check-within-requires c κs = search needs
 
 enum-told : tie.Need-enum-told
 enum-told c = search needs
@@ -42,11 +42,11 @@ returns : tie.Need-returns
 returns c =
     let c-args = c .before .before .before .before .before .before .before .before .args in
     let c-write-plan = c .before .before .before .before .before .before .write-plan in
-    let c-check-for = c .before .before .before .check-for in
+    let c-check-within = c .before .before .before .check-within in
     let J = jobIn (c-args .job) in
     subst (λ (r : Answer). Answers J (c-args .goal) (c-args .horizon) (c-args .steps) r) (sym (c .nothing .ensures))
     (answers-refused J (c-args .goal) (c-args .horizon) (c-args .steps) _ _ (c-write-plan .ensures)
-    (c-check-for .ensures) _ (c .before .enum-told2 .given .1))
+    (c-check-within .ensures) _ (c .before .enum-told2 .given .1))
 
 nothing-requires-2 : tie.Need-nothing-requires-2
 nothing-requires-2 c κs = search needs
@@ -56,20 +56,20 @@ returns-2 c =
     let at8 = c .before .before .before .before .before .before .before .before in
     let c-args = at8 .before .args in
     let c-write-plan = c .before .before .before .before .before .before .before .write-plan in
-    let c-check-for = c .before .before .before .before .check-for in
+    let c-check-within = c .before .before .before .before .check-within in
     let J = jobIn (c-args .job) in
     subst (λ (r : Answer). Answers J (c-args .goal) (c-args .horizon) (c-args .steps) r) (sym (c .nothing2 .ensures))
     (answers-late J (c-args .goal) (c-args .horizon) (c-args .steps) _ _ (c-write-plan .ensures)
-    (c-check-for .ensures) (c .before .before .enum-told .given .1) (c .before .if1 .taken))
+    (c-check-within .ensures) (c .before .before .enum-told .given .1) (c .before .if1 .taken))
 
 returns-3 : tie.Need-returns-3
 returns-3 c =
     let at8 = c .before .before .before .before .before .before .before .before in
     let c-args = at8 .before .args in
     let c-write-plan = c .before .before .before .before .before .before .before .write-plan in
-    let c-check-for = c .before .before .before .before .check-for in
+    let c-check-within = c .before .before .before .before .check-within in
     answers-plan (jobIn (c-args .job)) (c-args .goal) (c-args .horizon) (c-args .steps) _ _ (c-write-plan .ensures)
-    (c-check-for .ensures) (c .before .before .enum-told .given .1) (c .before .if1 .left)
+    (c-check-within .ensures) (c .before .before .enum-told .given .1) (c .before .if1 .left)
 
 pub as-plan-spec : {M : Type 1} → statement M
 as-plan-spec =
@@ -79,8 +79,8 @@ as-plan-spec =
     write-plan-requires
     mul-size
     array-share-prefix-plan
-    slice-aggregate-check-for
-    check-for-requires
+    slice-aggregate-check-within
+    check-within-requires
     enum-told
     enum-told-2
     nothing-requires

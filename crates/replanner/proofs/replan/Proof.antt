@@ -6,6 +6,7 @@ use Rattle.timeline.proofs.DayLaws.{verdict-of-day}
 use Rattle.replanner.proofs.KeptSteps.{small-starts, kept-fit, kept-in-order}
 use Rattle.replanner.proofs.Replanning.{replans-refused, replans-foreign, replans-plan-refused}
 use Rattle.replanner.proofs.Replanning.{replans-short, replans-answered, replanned-with, whole-when-replanned}
+use Rattle.job.proofs.Rows.{limits-of-pass}
 use borrow.Author.Needs.{needs}
 use Rattle.replanner.proofs.replan.Statement.{statement}
 use Rattle.replanner.proofs.replan.Tie as tie
@@ -44,7 +45,7 @@ returns-2 c =
 checked-plan-requires : tie.Need-checked-plan-requires
 checked-plan-requires c κs =
     let c-validate = c .before .before .before .before .validate in
-    sym (c-validate .ensures) ∙ c .before .before .enum-told .given .1
+    limits-of-pass _ (sym (c-validate .ensures) ∙ c .before .before .enum-told .given .1)
 
 enum-known-runs : tie.Need-enum-known-runs
 enum-known-runs c = search needs

@@ -6,6 +6,7 @@ use Rattle.job.specs.Job.{jobIn}
 use Rattle.job.proofs.Passed.{passed}
 use Rattle.solver.proofs.TaskDays.{begun-day-fits, begun-day-solved}
 use Rattle.replanner.proofs.Alone.{replanned-alone, replanned-late, replanned-solved}
+use Rattle.job.proofs.Rows.{limits-of-pass}
 use borrow.Author.Needs.{needs}
 use Rattle.replanner.proofs.with_kept.Statement.{statement}
 use Rattle.replanner.proofs.with_kept.Tie as tie
@@ -49,7 +50,7 @@ solve-requires c κs =
     let fit = c-pre .2 in (
       c-pre .0,
       begun-day-fits (c-args .job) (c-args .goal) (c-args .minute) (c-args .kept) _ (c .begun .ensures)
-          (record { passes = c-pre .0; goal = c-pre .1; known = fit .known; early = fit .early; rising = fit .rising; minute = omega arith }),
+          (record { passes = limits-of-pass _ (c-pre .0); goal = c-pre .1; known = fit .known; early = fit .early; rising = fit .rising; minute = omega arith }),
     )
 
 returns-3 : tie.Need-returns-3

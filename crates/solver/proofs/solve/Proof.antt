@@ -2,8 +2,8 @@
 -- Assumes nothing.
 use mathlib.Core.Path.{refl, subst}
 use Rattle.job.specs.Job.{Job, jobIn}
-use Rattle.job.proofs.Passed.{passed}
-use Rattle.job.proofs.Rows.{fits-of-pass}
+use Rattle.job.proofs.Passed.{within-limits}
+use Rattle.job.proofs.Rows.{fits-of-limits}
 use Rattle.lists.proofs.Bools.{absurd}
 use Rattle.tables.proofs.Describing.{byte-durations}
 use Rattle.leaf.specs.Order.{inOrder}
@@ -31,7 +31,7 @@ fill-requires c κs =
     let c-resumed = c .before .before .resumed in
     let day = c-resumed .result in
     let fits = day-fits (c-args .job) day (c-args .task) (c-resumed .ensures) (c-pre .1) in
-    (refl, refl, fits-of-pass day (fits .passes))
+    (refl, refl, fits-of-limits day (fits .passes))
 
 slice-aggregate-fill-times : tie.Need-slice-aggregate-fill-times
 slice-aggregate-fill-times c = search needs
@@ -46,8 +46,8 @@ fill-times-requires c κs =
     let task = c-args .task in
     let fits = day-fits (c-args .job) day task (c-resumed .ensures) (c-pre .1) in (
       refl,
-      passed (jobIn day) (fits .passes) .facts,
-      fits-of-pass day (fits .passes),
+      within-limits (jobIn day) (fits .passes) .facts,
+      fits-of-limits day (fits .passes),
       known-actions day task fits,
       fits .early,
     )
@@ -176,7 +176,7 @@ returns-2 c =
     let day = c-resumed .result in
     let is = c-resumed .ensures in
     let fits = day-fits job day task is (c-pre .1) in
-    let within = passed (jobIn day) (fits .passes) in
+    let within = within-limits (jobIn day) (fits .passes) in
     let put = c-fill2 .ensures in
     let filled = filled-still day _ _ _ _ (fits .passes) (c-fill .ensures) (put .0) (put .1) in
     let durations = job-durations job day task is (byte-durations day _ _ (c-fill .ensures)) in

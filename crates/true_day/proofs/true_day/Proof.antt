@@ -6,7 +6,7 @@ use mathlib.Core.Bool.{Bool}
 use mathlib.Core.List.{List}
 use Rattle.lists.proofs.Tabulate.{length-tabulate}
 use Rattle.job.specs.Job.{jobIn}
-use Rattle.job.proofs.Rows.{fits-of-pass}
+use Rattle.job.proofs.Rows.{limits-of-pass, fits-of-pass}
 use Rattle.timeline.specs.Step.{Step}
 use Rattle.timeline.specs.TrueLengths.{withLengths, wrongLengths}
 use Rattle.timeline.specs.Value.{stepAt, stepsOf}
@@ -40,7 +40,7 @@ enum-told : tie.Need-enum-told
 enum-told c = search needs
 
 checked-plan-requires : tie.Need-checked-plan-requires
-checked-plan-requires c κs = sym (c .before .before .validate .ensures) ∙ c .enum-told .given .1
+checked-plan-requires c κs = limits-of-pass _ (sym (c .before .before .validate .ensures) ∙ c .enum-told .given .1)
 
 enum-known-accepted : tie.Need-enum-known-accepted
 enum-known-accepted c = search needs

@@ -103,6 +103,12 @@ enum-told-32 c = search needs
 enum-told-33 : tie.Need-enum-told-33
 enum-told-33 c = search needs
 
+enum-told-34 : tie.Need-enum-told-34
+enum-told-34 c = search needs
+
+enum-told-35 : tie.Need-enum-told-35
+enum-told-35 c = search needs
+
 returns : tie.Need-returns
 returns c = rw (c .enum-told .given .1)
 
@@ -202,6 +208,12 @@ returns-32 c = rw (c .enum-told32 .given .1)
 returns-33 : tie.Need-returns-33
 returns-33 c = rw (c .enum-told33 .given .1)
 
+returns-34 : tie.Need-returns-34
+returns-34 c = rw (c .enum-told34 .given .1)
+
+returns-35 : tie.Need-returns-35
+returns-35 c = rw (c .enum-told35 .given .1)
+
 pub number-spec : {M : Type 1} → statement M
 number-spec =
     tie.close
@@ -239,6 +251,8 @@ number-spec =
     enum-told-31
     enum-told-32
     enum-told-33
+    enum-told-34
+    enum-told-35
     returns
     returns-2
     returns-3
@@ -271,4 +285,6 @@ number-spec =
     returns-30
     returns-31
     returns-32
-    returns-33)
+    returns-33
+    returns-34
+    returns-35)

@@ -1,0 +1,3 @@
+pub mod Afternoon
+pub mod Halves
+pub mod Inner

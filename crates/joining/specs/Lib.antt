@@ -1,0 +1,4 @@
+pub mod Join
+pub mod Answer
+pub mod Parts
+pub mod Inner

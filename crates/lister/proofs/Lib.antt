@@ -1,0 +1,3 @@
+mod Handing
+pub mod Meaning
+pub mod FewSteps

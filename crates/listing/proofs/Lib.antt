@@ -1,0 +1,15 @@
+pub mod CriticalExactly
+pub mod ListedPlans
+pub mod InOrder
+pub mod Order
+pub mod Lists
+pub mod Places
+pub mod RisingParts
+pub mod NextStep
+pub mod Prefixes
+pub mod Walk
+pub mod Exists
+pub mod Found
+pub mod Ranks
+pub mod Tails
+pub mod Cases

@@ -1,0 +1,5 @@
+pub mod Listed
+pub mod Place
+pub mod Shortest
+pub mod Begins
+pub mod Tails
