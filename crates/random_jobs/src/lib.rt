@@ -207,3 +207,22 @@ pub fn random_job(seed: u64) -> Job {
     let job = with_reserve(job, rule_of(seed), draw::number(seed, 19, 51));
     with_handovers(job, form_of(seed, kind), handovers(draw::part(seed, 16)))
 }
+
+// The same job with more plans: action 0 needs nothing, the goal is what the first two or three actions add, and there is
+// so much of each pool and store that no action uses more (a reserve leaves at least half of a store).
+pub fn roomy_job(seed: u64) -> Job {
+    let mut job = random_job(seed);
+    let counts = job.counts;
+    let mut first = job.actions[0];
+    let second = job.actions[1];
+    let third = job.actions[2];
+    first.needs = 0;
+    job.actions[0] = first;
+    job.goal = first.adds | second.adds;
+    if 2 < counts.actions {
+        job.goal = job.goal | third.adds;
+    }
+    job.pools = [MOST_USED + draw::number(seed, 50, 3) as u32; Job::POOLS];
+    job.stores = [2 * MOST_USED + draw::number(seed, 51, 6) as u32; Job::STORES];
+    job
+}

@@ -18,7 +18,7 @@ impl Day {
     pub const ACTIONS: usize = 8;
 
     // The most steps of a plan.
-    pub const STEPS: u32 = 32;
+    pub const STEPS: usize = 32;
 }
 
 // The state of a day in a minute. An action clashes with itself, so at most one step of each action runs, and at most
@@ -41,9 +41,9 @@ fn hinders(x: Action, y: Action) -> bool {
     (x.deletes & (y.needs | y.adds)) != 0
 }
 
-// What is left of an amount after a use. It is 0 where the amount doesn't suffice: that is so only beyond the counts,
-// where nothing is looked at.
-fn less(amount: u32, used: u32) -> u32 {
+// What is left of an amount after a use. It is 0 where the amount doesn't suffice: for uses that is so only beyond the
+// counts, where nothing is looked at.
+pub fn less(amount: u32, used: u32) -> u32 {
     if amount < used {
         return 0;
     }

@@ -31,7 +31,7 @@ fn is_step(action: u8, low: u8, high: u8, number: usize, minute: u32) -> bool {
 // Whether the plan has a step of the action that starts at this minute.
 fn starts(plan: &[u8], number: usize, minute: u32) -> bool {
     let mut k = 0;
-    while k < Day::STEPS as usize {
+    while k < Day::STEPS {
         let at = k * STEP;
         if at + 2 < plan.len() {
             if is_step(plan[at], plan[at + 1], plan[at + 2], number, minute) {

@@ -1,13 +1,17 @@
 // A plain second planner, for comparison in tests: the least end of the accepted plans of a small job, by trying every
-// plan forward from minute 0, or from the minute to which a begun day has come. It shares no code with the planner, and
-// knows no earliest times and no normal form.
+// plan forward from minute 0, or from the minute to which a begun day has come; and the list of all the shortest days. It
+// shares no code with the planner and the lister, and knows no earliest times and no normal form.
 mod day; // the rules, minute by minute
 mod kept; // the steps that a begun day keeps
+pub mod list; // the list of all the shortest days
+mod steps; // the steps of a plan
+mod walk; // the walk over all plans
 
 ghost use Prim.Native.Nat.{_≤_};
 use day::Day;
 use day::State;
 use job::Action;
+use job::Counts;
 use job::Job;
 use kept::Kept;
 
@@ -126,7 +130,39 @@ fn before(job: Job) -> State {
         minutes: [0u32; Day::ACTIONS],
         ended: [0u32; Day::ACTIONS],
         stores,
-        steps: Day::STEPS,
+        steps: Day::STEPS as u32,
+    }
+}
+
+// Whether the job has over 8 actions or a deadline over 60.
+fn too_large(job: Job) -> bool {
+    let counts = job.counts;
+    (Day::ACTIONS < counts.actions) | (DEADLINE < job.deadline)
+}
+
+// The job's counts, with at most 8 actions.
+fn counts_of(job: Job) -> Counts
+    ensures { λ r. ⌜ r .actions ≤ 8 ⌝ }
+{
+    let mut counts = job.counts;
+    if Day::ACTIONS < counts.actions {
+        counts.actions = Day::ACTIONS;
+        return counts;
+    }
+    counts
+}
+
+// What is the same in every minute of the job's day, with this goal.
+fn day_of(job: Job, goal: u64) -> Day
+    ensures { λ r. ⌜ r .counts .actions ≤ 8 ⌝ }
+{
+    let pools = job.pools;
+    Day {
+        goal,
+        counts: counts_of(job),
+        pools,
+        handovers: job::resources::handovers(job),
+        actions: actions(job),
     }
 }
 
@@ -134,22 +170,10 @@ fn before(job: Job) -> State {
 // plan. The job passes tests 3 to 11, the plan 12 to 19. A job with over 8 actions, a deadline over 60 or too many plans
 // is too large.
 pub fn shortest_from(job: Job, plan: &[u8], minute: u16, goal: u64) -> Makespan {
-    let counts = job.counts;
-    let pools = job.pools;
-    let handovers = job::resources::handovers(job);
-    if Day::ACTIONS < counts.actions {
+    if too_large(job) {
         return Makespan::TooLarge;
     }
-    if DEADLINE < job.deadline {
-        return Makespan::TooLarge;
-    }
-    let day = Day {
-        goal,
-        counts,
-        pools,
-        handovers,
-        actions: actions(job),
-    };
+    let day = day_of(job, goal);
     let state = before(job);
     if day::any_beyond(day, state) {
         return Makespan::UseBeyond;

@@ -14,9 +14,6 @@ abbrev μ-loop : tie.MeasureT-loop
 loop-holds : tie.Need-loop-holds Inv-loop μ-loop
 loop-holds c = search needs
 
-cast-loop : tie.Need-cast-loop Inv-loop μ-loop
-cast-loop c = search needs
-
 mul-at : tie.Need-mul-at Inv-loop μ-loop
 mul-at c = search needs
 
@@ -63,7 +60,6 @@ starts-spec =
     Inv-loop
     μ-loop
     loop-holds
-    cast-loop
     mul-at
     add-if1
     shared-slice-read-is-step
