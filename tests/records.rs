@@ -420,6 +420,35 @@ fn pooled_day(record: &mut Record, second: &str, names: &Names) -> Result<(), Fa
     Ok(())
 }
 
+// Two plans to be joined: the first behind its length, then the second.
+fn joined(record: &mut Record, first: &str, second: &str) -> Result<(), Fault> {
+    let second = beside_slice(record, PLAN, second)?;
+    plan(record, first)?;
+    let first = std::mem::take(&mut record.input);
+    plan(record, &second)?;
+    if record.call != b'j' {
+        return fault("a goal set", &second);
+    }
+    record.input = [bytes_of(first.len() as u64, 1), first, record.input.clone()].concat();
+    Ok(())
+}
+
+// A day in two halves: the halfway set and the slice.
+fn halved(record: &mut Record, text: &str) -> Result<(), Fault> {
+    let halfway = beside_slice(record, PLAN, text)?;
+    record.set = set(&halfway, 0)?;
+    record.call = b'a';
+    Ok(())
+}
+
+// A question to the list: the place and the slice.
+fn listed(record: &mut Record, text: &str) -> Result<(), Fault> {
+    let place = beside_slice(record, PLAN, text)?;
+    let place = count(place.strip_prefix("place ").ok_or(format!("no place: '{text}'"))?, 0)?;
+    record.input = bytes_of(place, 4);
+    Ok(())
+}
+
 // What a call is given beside the job of its row.
 fn given(record: &mut Record, call: &str, inputs: &[&str], names: &Names) -> Result<(), Fault> {
     record.call = call.bytes().next().unwrap_or(0);
@@ -438,12 +467,25 @@ fn given(record: &mut Record, call: &str, inputs: &[&str], names: &Names) -> Res
         ("pool", [second]) => pooled(record, second, "", names)?,
         ("pool", [second, expected]) => pooled(record, second, expected, names)?,
         ("pool_day", [second]) => pooled_day(record, second, names)?,
+        ("join", [first, second]) => joined(record, first, second)?,
+        ("halves", [input]) => halved(record, input)?,
+        ("list", [input]) => listed(record, input)?,
         _ => return fault("not what a row of a table has", call),
     }
     if call == "rewrite" {
         record.call = b'w';
     }
     Ok(())
+}
+
+// The answer as it is printed: each step of a plan that is told behind a colon.
+fn printed(answer: &str) -> Result<String, Fault> {
+    let Some((told, plan)) = answer.split_once(": ").filter(|(_, plan)| *plan != "no steps") else {
+        return Ok(answer.to_string());
+    };
+    let plan = steps(plan)?;
+    let step = |bytes: &[u8]| format!(" {}@{}", bytes[0], u16::from_le_bytes([bytes[1], bytes[2]]));
+    Ok(format!("{told}:{}", plan.chunks_exact(3).map(step).collect::<String>()))
 }
 
 // A row of a table: its call and title, the job, what else the call is given, and the answer.
@@ -453,7 +495,7 @@ fn row(line: &str, names: &Names) -> Result<(Record, String), Fault> {
     let (call, title) = first.split_once(' ').unwrap_or((first, ""));
     let mut record = Record { title: title.trim().to_string(), file: job_file(job, names)?, ..Record::default() };
     given(&mut record, call, inputs, names)?;
-    Ok((record, answer.to_string()))
+    Ok((record, printed(answer)?))
 }
 
 // A record as the program reads it: the head, then the title, the file and the input.

@@ -1,5 +1,6 @@
 // The calls, and what is printed of their answers.
 use crate::Record;
+use crate::days;
 use crate::lending;
 use crate::peaks;
 use crate::pools;
@@ -50,19 +51,29 @@ pub fn print_no_job(why: Refusal, job: Job) {
     choose(same_everywhere(job, Job::zero()), b"", b", job not zero");
 }
 
-// The answer to a record whose file holds this job: of the reader, the writer, the planner, the replanner, the true day
-// and the pooling.
+// The answer to a record whose file holds this job: of the reader, the writer and the pooling.
 fn answer_for(job: Job, record: Record, file: &[u8], plan: &[u8]) {
     let call = record.call;
     match call {
         b'r' => text(b"accepted"),
         b'w' => print_rewritten(job, file, record.room),
         b'b' => print_bytes(job, record.set as usize, record.room),
-        b'p' => print_plan(job, record.room),
-        b'm' => replans::print(job, record, plan),
-        b't' => true_days::print(job, plan),
         b'i' => pools::print(job, record, plan),
         b'd' => pools::print(job, record, plan),
+        _ => answer_day(job, record, plan),
+    }
+}
+
+// Of the planner, the replanner, the join, the halves, the list and the true day.
+fn answer_day(job: Job, record: Record, plan: &[u8]) {
+    let call = record.call;
+    match call {
+        b'p' => print_plan(job, record.room),
+        b'm' => replans::print(job, record, plan),
+        b'j' => days::print_joined(job, record, plan),
+        b'a' => days::print_halves(job, record),
+        b'l' => days::print_listed(job, record, plan),
+        b't' => true_days::print(job, plan),
         _ => answer_asked(job, call, record.set, plan),
     }
 }

@@ -1,4 +1,4 @@
-// A slice that is lent to the writer, the planner or the replanner; the parts of what a record gives.
+// A slice that is lent to a call, so many bytes of it; the parts of what a record gives.
 use job::Job;
 use jobfile::Written;
 use timeline::Day;
@@ -60,5 +60,32 @@ pub fn replan(
         replanner::replan(job, current, minute, goal, &mut slice[0..length])
     } else {
         replanner::replan(job, current, minute, goal, slice)
+    }
+}
+
+// The join with the first bytes of a slice, so many.
+pub fn join(slice: &mut [u8], length: usize, job: Job, first: &[u8], second: &[u8]) -> Day {
+    if length <= slice.len() {
+        joining::join(job, first, second, &mut slice[0..length])
+    } else {
+        joining::join(job, first, second, slice)
+    }
+}
+
+// The planner of two halves with the first bytes of a slice, so many.
+pub fn halves(slice: &mut [u8], length: usize, job: Job, halfway: u64) -> Day {
+    if length <= slice.len() {
+        halving::halves(job, halfway, &mut slice[0..length])
+    } else {
+        halving::halves(job, halfway, slice)
+    }
+}
+
+// The list with the first bytes of a slice, so many.
+pub fn list(slice: &mut [u8], length: usize, job: Job, place: u32) -> Day {
+    if length <= slice.len() {
+        lister::list(job, place, &mut slice[0..length])
+    } else {
+        lister::list(job, place, slice)
     }
 }

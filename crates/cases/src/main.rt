@@ -1,6 +1,7 @@
 // Runs the records in the file `records`, which tests/records makes from the tables in tests/tables: one call a record.
 // Prints a line for each, its title and the answer, under headings with the document's sentence.
 mod calls; // the calls and their answers
+mod days; // days whose every step is told
 mod lending; // the slices that are lent
 mod peaks; // the peaks of a day
 mod pools; // two jobs pooled to one
@@ -18,8 +19,8 @@ const BODY: usize = 13_000;
 
 // The head of a record: the letter of its call, the lengths of its title, its file and its body, and the numbers that
 // the call is given. The body is the title, the file and, behind them, a plan, before which the rates of a price, the
-// minute of a begun day or the true lengths of a day stand, or two more files, before which the length of the first
-// stands.
+// minute of a begun day, the true lengths of a day or the first plan of a join stand; a place of the list; or two more
+// files. The length of the first of two plans or files stands before it.
 pub struct Record {
     pub call: u8,
     pub title: usize,

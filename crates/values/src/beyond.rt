@@ -11,6 +11,7 @@ use output::text;
 use price::Priced;
 use price::Rates;
 use timeline::Day;
+use timeline::Plan;
 
 // The shortest day of this job is action 0 at 0 and 1 at 3.
 pub fn day() -> Job {
@@ -68,7 +69,7 @@ fn show_peaks(day: Day) {
     show_peak(b" ", peaks[3]);
 }
 
-// What the checker or the planner answers.
+// What a call that returns a day answers.
 pub fn show_day(call: &[u8], day: Day) {
     text(call);
     let verdict = day.verdict;
@@ -82,6 +83,25 @@ pub fn show_day(call: &[u8], day: Day) {
 fn planned(job: Job) -> Day {
     let mut slice = [0u8; ROOM];
     planner::plan(job, &mut slice)
+}
+
+// The plan's first step joined with the others.
+fn joined(job: Job, plan: &[u8]) -> Day {
+    let mut slice = [0u8; ROOM];
+    if plan.len() < Plan::STEP {
+        return joining::join(job, plan, &[], &mut slice);
+    }
+    joining::join(job, &plan[0..Plan::STEP], &plan[Plan::STEP..], &mut slice)
+}
+
+fn halved(job: Job, halfway: u64) -> Day {
+    let mut slice = [0u8; ROOM];
+    halving::halves(job, halfway, &mut slice)
+}
+
+fn listed(job: Job, place: u32) -> Day {
+    let mut slice = [0u8; ROOM];
+    lister::list(job, place, &mut slice)
 }
 
 // 5 cents for a unit and quarter hour of the pool, 3 for a unit of the store, and rates that 25 refuses beyond.
@@ -108,11 +128,21 @@ fn timed(answer: EarliestTime) {
     }
 }
 
-// What is answered to the job, with this plan for the checker and the price, and the goal for the earliest time.
+// The days that the planner hands out: the shortest, the first two of the list, and one by way of fact 1.
+fn days(job: Job) {
+    show_day(b", plan", planned(job));
+    show_day(b", list", listed(job, 0));
+    show_day(b", next", listed(job, 1));
+    show_day(b", halves", halved(job, 0b010));
+}
+
+// What is answered to the job, with this plan for the checker, the join and the price, and the goal for the earliest
+// time.
 pub fn answers(case: &[u8], job: Job, plan: &[u8]) {
     output::name(case);
     show_day(b"check", checker::check(job, plan));
-    show_day(b", plan", planned(job));
+    show_day(b", join", joined(job, plan));
+    days(job);
     priced(price::price(job, rates(), plan));
     timed(earliest::earliest(job, job.goal));
     text(b"\n");

@@ -60,25 +60,43 @@ fn rates_over() -> Rates {
     }
 }
 
-// The writer and the planner, lent the same slice.
-fn lend(job: Job, slice: &mut [u8]) {
-    show(b"write ", written(writer::write(job, slice)));
+// The planner and the list, lent the same slice.
+fn lend_planners(job: Job, slice: &mut [u8]) {
     show_day(b", plan ", planner::plan(job, slice));
+    show_day(b", list ", lister::list(job, u32::MAX, slice));
+}
+
+// The writer too.
+fn lend_alone(job: Job, slice: &mut [u8]) {
+    show(b"write ", written(writer::write(job, slice)));
+    lend_planners(job, slice);
+}
+
+// The join of this plan with itself, and the halves by way of this set, lent the same slice.
+fn lend_halves(job: Job, slice: &mut [u8], plan: &[u8], set: u64) {
+    show_day(b", join ", joining::join(job, plan, plan, slice));
+    show_day(b", halves ", halving::halves(job, set, slice));
+}
+
+// All of these calls, lent the same slice.
+fn lend(job: Job, slice: &mut [u8], plan: &[u8], set: u64) {
+    lend_alone(job, slice);
+    lend_halves(job, slice, plan, set);
 }
 
 // The same with the first bytes of a slice, so many.
-fn lend_front(job: Job, slice: &mut [u8], length: usize) {
+fn lend_front(job: Job, slice: &mut [u8], length: usize, plan: &[u8], set: u64) {
     if length <= slice.len() {
-        lend(job, &mut slice[0..length]);
+        lend(job, &mut slice[0..length], plan, set);
     } else {
-        lend(job, slice);
+        lend(job, slice, plan, set);
     }
 }
 
 // The same, and whether the slice is as before.
-fn lend_filled(job: Job, length: usize) {
+fn lend_filled(job: Job, length: usize, plan: &[u8], set: u64) {
     let mut slice = [lent::FILL; ROOM];
-    lend_front(job, &mut slice, length);
+    lend_front(job, &mut slice, length, plan, set);
     if lent::kept(&slice, 0) {
         text(b", slice kept");
     } else {
@@ -117,7 +135,7 @@ pub fn show_pooled(call: &[u8], answer: Pooled) {
 // The refusal of each call: with a slice of so many bytes, this plan and this set.
 pub fn refusals(case: &[u8], job: Job, length: usize, plan: &[u8], set: u64) {
     output::name(case);
-    lend_filled(job, length);
+    lend_filled(job, length, plan, set);
     show_day(b", check ", checker::check(job, plan));
     show_day(b", check for ", checker::check_for(job, set, plan));
     show(b", price ", priced(price::price(job, rates_over(), plan)));
