@@ -205,6 +205,27 @@ pub fn hours(r: &mut Random) -> Job {
     job
 }
 
+/// A small day of trips: moves between two places, of which one holds at the start and perhaps at the end, and works
+/// that may need a place or another's fact, with more than one way to some of them.
+pub fn trips(r: &mut Random) -> Job {
+    let mut job = job(r, &SMALL);
+    let works = 1 + r.below(2);
+    job.facts = 2 + works as u8;
+    (job.start, job.goal, job.actions) = (1, ((1 << works) - 1) << 2 | r.below(2), Vec::new());
+    for n in 0..2 + works + r.below(3) {
+        let (pools, stores) = (r.amounts(job.pools, 2), r.amounts(job.stores, 2));
+        let (needs, adds, deletes, longest) = match n {
+            0 | 1 => (1 << n, 2 >> n, 1 << n, 2),
+            _ => (if r.one_in(2) { 1 << r.below(2 + works) } else { 0 }, 4 << (n % works), 0, 4),
+        };
+        let duration = 1 + r.below(longest) as u8;
+        job.actions.push(Action { duration, needs: needs & !adds, adds, deletes, pools, stores });
+    }
+    shortest_lengths(r, &mut job);
+    within_available(&mut job);
+    job
+}
+
 /// No action uses more of a pool or store than there is, so that the job is not refused by 26.
 pub fn within_available(job: &mut Job) {
     for n in 0..job.actions.len() {
@@ -373,7 +394,7 @@ pub fn with_bodies_behind(r: &mut Random, job: &Job) -> Vec<u8> {
     [contents(&sizes), bytes].concat()
 }
 
-fn bytes_of(steps: &[(u16, u8)]) -> Vec<u8> {
+pub fn bytes_of(steps: &[(u16, u8)]) -> Vec<u8> {
     steps.iter().flat_map(|s| [s.1, s.0 as u8, (s.0 >> 8) as u8]).collect()
 }
 

@@ -1,14 +1,21 @@
 //! Compares the calls with an independent implementation in plain Rust, on random jobs, files, sets, plans, rates,
-//! begun days, true lengths and pairs of files, through the C interface. Before those it goes through files of each
-//! form, true lengths, the limits of stores and those of pooled jobs one by one, as seed 0.
+//! begun days, true lengths, pairs of files, joined plans, places of lists and halfway sets, through the C interface.
+//! Before those it goes through files of each form, true lengths, the limits of stores, of pooled jobs and of days in
+//! two halves one by one, as seed 0.
 //! A difference prints the seed of its case and ends with status 1. Arguments: number of cases, first seed.
 mod cases;
 mod forms;
+mod halves;
 mod handovers;
+mod joins;
+mod lists;
 mod pairs;
 #[allow(dead_code)]
 #[path = "../bench/plain.rs"]
 mod plain;
+mod plain_halves;
+mod plain_join;
+mod plain_list;
 mod plain_pool;
 mod plain_price;
 mod plain_replan;
@@ -22,6 +29,7 @@ mod ruhkevois;
 mod season;
 mod simple_planner;
 mod tally;
+mod triples;
 mod true_days;
 use cases::Random;
 use plain::Job;
@@ -49,7 +57,8 @@ fn expected(end: Result<u64, u64>) -> u64 {
 
 /// What was seen: refusals by number (0: done), prices by their bits, accepted plans and planned ones by their steps,
 /// days by the number of pools that are in use at some minute, days with a pool of which all is in use, what handovers
-/// and the hourly rule changed, replans, true days, pairs of files, and pooled days.
+/// and the hourly rule changed, replans, true days, pairs of files, pooled days, joined plans, lists, and days in two
+/// halves.
 struct Seen {
     refusals: [u64; 36],
     prices: [u64; 65],
@@ -63,9 +72,14 @@ struct Seen {
     true_days: true_days::Seen,
     pairs: pools::Seen,
     pooled_days: Tally,
+    joins: joins::Seen,
+    triples: Tally,
+    lists: lists::Seen,
+    halves: halves::Seen,
 }
 
 /// A slice lent for a plan, between other bytes, and an array lent for the peaks, between other numbers.
+#[derive(Clone)]
 struct Lent {
     around: Vec<u8>,
     before: Vec<u8>,
@@ -76,6 +90,10 @@ impl Lent {
     fn new(r: &mut Random, room: usize) -> Lent {
         let around = r.bytes(room + 32);
         Lent { before: around.clone(), around, peaks: BEFORE }
+    }
+
+    fn room(&self) -> usize {
+        self.around.len() - 32
     }
 
     fn out(&mut self) -> *mut u8 {
@@ -217,6 +235,18 @@ impl Case<'_> {
         job.map(|_| plan)
     }
 
+    /// The answer, every byte around and the peaks are those of this plan, or of the refusal.
+    fn same_plan(&mut self, call: &str, answer: u64, lent: &Lent, job: &Result<Job, u64>, want: &Result<Vec<u8>, u64>) {
+        let day = job.as_ref().ok().zip(want.as_ref().ok());
+        let told = |(job, plan): (&Job, &Vec<u8>)| done(plain_join::end(job, plan), plan.len() as u64 / 3);
+        self.same(call, answer, want.as_ref().err().map_or_else(|| day.map_or(0, told), |number| refused(*number)));
+        let plan = day.map_or(&[][..], |day| day.1);
+        let mut around = lent.before.clone();
+        around[16..16 + plan.len()].copy_from_slice(plan);
+        self.same_bytes(&format!("slice of {call}"), &lent.around, &around);
+        self.same_peaks(&format!("peaks of {call}"), lent.peaks, day.map(|day| day.0), plan);
+    }
+
     /// Plans into a slice of this length; gives the answer and the plan, where there is one, which ends as told.
     fn ask_plan(&mut self, r: &mut Random, file: &[u8], job: &Result<Job, u64>, room: usize) -> (u64, Option<Vec<u8>>) {
         let mut lent = Lent::new(r, room);
@@ -294,6 +324,10 @@ fn every_call(case: &mut Case, r: &mut Random, file: &[u8], is_small: bool) {
     if let Some(job) = job.as_ref().ok().filter(|_| is_small) {
         case.pooled_days(r, file, job);
     }
+    case.joins(r, file, &job);
+    case.triples(r, file, &job);
+    case.lists(r, file, &job, is_small);
+    case.halves(r, file, &job, is_small);
 }
 
 /// A plan made step by step, with the facts at its end as the goal: accepted, priced, run with true lengths, and
@@ -373,7 +407,7 @@ const ALL_SEEN: u64 = 50_000;
 
 /// The numbers of the table that were never told.
 fn never_told(refusals: &[u64]) -> Vec<usize> {
-    (1..=27).chain(29..=33).chain([35]).filter(|&number| refusals[number] == 0).collect()
+    (1..=35).filter(|&number| refusals[number] == 0).collect()
 }
 
 fn main() {
@@ -392,6 +426,10 @@ fn main() {
         true_days: true_days::Seen::default(),
         pairs: pools::Seen::none(),
         pooled_days: pooled_days::none_seen(),
+        joins: joins::Seen::none(),
+        triples: triples::none_seen(),
+        lists: lists::Seen::none(),
+        halves: halves::Seen::none(),
     };
     for (place, file) in forms::every_file().iter().enumerate() {
         every_call(&mut Case { seed: 0, seen: &mut seen }, &mut Random::new(place as u64), file, false);
@@ -399,6 +437,7 @@ fn main() {
     true_days::one_by_one(&mut Case { seed: 0, seen: &mut seen });
     season::one_by_one(&mut Case { seed: 0, seen: &mut seen });
     pools::one_by_one(&mut Case { seed: 0, seen: &mut seen });
+    halves::one_by_one(&mut Case { seed: 0, seen: &mut seen });
     for seed in first..first + count {
         one_case(&mut Case { seed, seen: &mut seen });
     }
@@ -411,7 +450,9 @@ fn main() {
     seen.season.print();
     seen.replans.print();
     seen.true_days.print();
-    let tallies = [&seen.pairs.tallies()[..], &[&seen.pooled_days]].concat();
+    let (joins, lists, halves) = (seen.joins.tallies(), seen.lists.tallies(), seen.halves.tallies());
+    let pooled = [&seen.pairs.tallies()[..], &[&seen.pooled_days]].concat();
+    let tallies = [&pooled[..], &joins, &[&seen.triples], &lists, &halves].concat();
     tallies.iter().for_each(|tally| println!("{tally}"));
     let never = never_told(&seen.refusals);
     assert!(count < ALL_SEEN || never.is_empty(), "in {count} cases none was refused by {never:?}");

@@ -1,5 +1,5 @@
 //! A simple planner: the least end of a plan, also of a day that has begun, by going through every state that plans
-//! reach, minute by minute. For small jobs only. Written from the documents alone.
+//! reach, minute by minute. For small jobs only. Written from the documents alone. The plain list goes by its states.
 use crate::plain::{Action, Job};
 use std::collections::HashSet;
 
@@ -13,9 +13,9 @@ const SHORT: u16 = 40;
 /// amounts of pools that are handed over (those that are free in a minute, in two, and so on), the amounts of stores
 /// used up, the number of steps, and whether steps start now.
 #[derive(Clone, PartialEq, Eq, Hash)]
-struct State {
-    facts: u64,
-    running: Vec<(usize, u8)>,
+pub struct State {
+    pub facts: u64,
+    pub running: Vec<(usize, u8)>,
     handed_over: Vec<[u32; 4]>,
     used: [u32; 4],
     steps: u8,
@@ -28,8 +28,15 @@ fn clash(job: &Job, i: usize, k: usize) -> bool {
     i == k || hinders(a, b) || hinders(b, a)
 }
 
+/// Nothing has been started.
+pub fn at_start(job: &Job) -> State {
+    let longest = (0..job.pools).map(|k| job.handover(k)).max().unwrap_or(0);
+    let handed_over = vec![[0; 4]; longest as usize];
+    State { facts: job.start, running: Vec::new(), handed_over, used: [0; 4], steps: 0, starts: true }
+}
+
 /// Whether action i may start in this state, with this many minutes left of the day.
-fn may_start(job: &Job, state: &State, i: usize, left: u16) -> bool {
+pub fn may_start(job: &Job, state: &State, i: usize, left: u16) -> bool {
     let a = &job.actions[i];
     let running = |k: usize| state.running.iter().map(|r| job.actions[r.0].pools[k]).sum::<u32>();
     let in_use = |k: usize| running(k) + state.handed_over.iter().map(|amounts| amounts[k]).sum::<u32>();
@@ -41,7 +48,7 @@ fn may_start(job: &Job, state: &State, i: usize, left: u16) -> bool {
         && (0..job.stores).all(|k| state.used[k] + job.charged(a, k) <= job.allowed(k))
 }
 
-fn started(job: &Job, state: &State, i: usize) -> State {
+pub fn started(job: &Job, state: &State, i: usize) -> State {
     let mut next = state.clone();
     next.running.push((i, job.actions[i].duration));
     for k in 0..job.stores {
@@ -61,7 +68,7 @@ fn handed_over_later(job: &Job, handed_over: &[[u32; 4]], ending: &[&Action]) ->
 }
 
 /// The state a minute later: what the steps ending then delete goes, and what they add comes.
-fn a_minute_later(job: &Job, state: &State) -> State {
+pub fn a_minute_later(job: &Job, state: &State) -> State {
     let mut next = state.clone();
     next.running.iter_mut().for_each(|r| r.1 -= 1);
     let ending: Vec<&Action> = next.running.iter().filter(|r| r.1 == 0).map(|r| &job.actions[r.0]).collect();
@@ -102,10 +109,7 @@ pub fn least_end(job: &Job) -> Option<u16> {
 /// free minute. The steps keep every rule. Waiting changes nothing, so the first minute at which the goal holds, all of
 /// them have been started and nothing runs is a plan's end; what is still handed over then doesn't matter.
 pub fn least_end_begun(job: &Job, kept: &[(u32, usize)], first_free: u32) -> Option<u16> {
-    let longest = (0..job.pools).map(|k| job.handover(k)).max().unwrap_or(0);
-    let handed_over = vec![[0; 4]; longest as usize];
-    let begin = State { facts: job.start, running: Vec::new(), handed_over, used: [0; 4], steps: 0, starts: true };
-    let mut states = HashSet::from([begin]);
+    let mut states = HashSet::from([at_start(job)]);
     for minute in 0..=job.deadline {
         let all_started = kept.iter().all(|step| step.0 < minute as u32);
         if all_started && states.iter().any(|s| s.running.is_empty() && job.goal & !s.facts == 0) {
