@@ -1,7 +1,9 @@
 //! Plans each job file of a folder with the proved day program and with the plain search beside it, a process each, and
 //! prints a line for each day. A time is that of the whole process.
 mod known;
+mod median;
 use known::Known;
+use median::median;
 use std::fs::File;
 use std::path::Path;
 use std::process::Command;
@@ -70,17 +72,6 @@ fn print(name: &str, day: &Day, known: &Known) {
         day.seconds,
         day.plain_seconds,
     );
-}
-
-/// The middle number, or the mean of the two in the middle; 0 for none.
-fn median(mut numbers: Vec<f64>) -> f64 {
-    numbers.sort_by(f64::total_cmp);
-    let half = numbers.len() / 2;
-    match numbers.len() % 2 {
-        _ if numbers.is_empty() => 0.0,
-        0 => (numbers[half - 1] + numbers[half]) / 2.0,
-        _ => numbers[half],
-    }
 }
 
 fn main() {

@@ -1,6 +1,6 @@
 //! A plain Rust version of the planner: the proved search's rules in the same order, so that it visits the same nodes,
-//! one for each call of `regress`. A day may have begun: its steps that start before the first free minute are kept,
-//! and the search is for the others. It reads the whole day's tables. It can go without some of the rules.
+//! one for each call of `regress`. A day may have begun: its steps that stand before the first free place are kept, and
+//! the search is for the others. It reads the whole day's tables. It can go without some of the rules.
 use crate::landmarks::{Landmarks, SCALE};
 use crate::plain::{self, members, Job, Times};
 use crate::rows::{self, exceeds, Row};
@@ -18,12 +18,13 @@ pub struct Way {
 }
 
 /// The limit passed before the search ended.
-struct Late;
+#[derive(Debug)]
+pub struct Late;
 
 #[derive(Clone, Copy, Default)]
 pub struct Step {
-    action: u8,
-    start: u16,
+    pub action: u8,
+    pub start: u16,
 }
 
 /// The steps of a plan's bytes.
@@ -31,18 +32,31 @@ fn steps_of(plan: &[u8]) -> impl Iterator<Item = Step> + '_ {
     plan.chunks_exact(3).map(|x| Step { action: x[0], start: u16::from_le_bytes([x[1], x[2]]) })
 }
 
-/// What has begun of a day: the kept steps, and the first free minute, before which they start.
-#[derive(Default)]
+/// The bytes of a plan of these steps.
+pub fn bytes_of(steps: &[Step]) -> Vec<u8> {
+    steps.iter().flat_map(|step| [step.action, step.start as u8, (step.start >> 8) as u8]).collect()
+}
+
+/// What has begun of a day: the kept steps, and the first free place, before which they stand: a minute, and the least
+/// action that may start at it.
+#[derive(Clone, Default)]
 pub struct Begun {
     kept: Vec<Step>,
     first: u32,
+    least: usize,
 }
 
 impl Begun {
     /// What has begun of the current plan at a minute.
     pub fn at(plan: &[u8], minute: u32) -> Begun {
         let kept = steps_of(plan).filter(|step| (step.start as u32) < minute).collect();
-        Begun { kept, first: minute }
+        Begun { kept, first: minute, least: 0 }
+    }
+
+    /// These steps, which stand in order, and the place behind the last one.
+    pub fn with(steps: &[Step]) -> Begun {
+        let last = steps[steps.len() - 1];
+        Begun { kept: steps.to_vec(), first: last.start as u32, least: last.action as usize + 1 }
     }
 }
 
@@ -96,29 +110,35 @@ fn plus(sums: &mut [u64; 4], amounts: &[u64; 4], handovers: &[i32; 4], longer: i
 /// The search for plans of a job: its handovers, pool by pool, and how long before a start there are events; how much
 /// of its stores may be used up; its tables; what has begun and what the kept steps add; the rules left out, the
 /// horizon, the nodes so far, and the number of nodes and the instant at which it gives up.
-struct Search<'a> {
-    job: &'a Job,
+pub struct Search<'a> {
+    pub job: &'a Job,
     handovers: [i32; 4],
     waits: Vec<u32>,
     allowed: [u32; 4],
-    rows: Vec<Row>,
+    pub rows: Vec<Row>,
     landmarks: Landmarks,
     times: Times,
-    begun: &'a Begun,
+    begun: Begun,
     given: u64,
     without: Without,
     horizon: u32,
-    nodes: u64,
+    pub nodes: u64,
     most: u64,
     until: Option<Instant>,
 }
 
 impl Search<'_> {
-    fn row(&self, step: &Step) -> &Row {
+    /// Searches from now on for plans that keep what has begun.
+    pub fn begin(&mut self, begun: Begun) {
+        self.given = self.adds(begun.kept.iter());
+        self.begun = begun;
+    }
+
+    pub fn row(&self, step: &Step) -> &Row {
         &self.rows[step.action as usize]
     }
 
-    fn stop(&self, step: &Step) -> u32 {
+    pub fn stop(&self, step: &Step) -> u32 {
         step.start as u32 + self.row(step).duration
     }
 
@@ -222,11 +242,18 @@ impl Search<'_> {
         kept.all(|step| self.runs_beside(st, row, start, step))
     }
 
-    /// Whether an action may stop at the state's minute.
-    fn may_stop(&self, st: &State, row: &Row) -> bool {
+    /// Whether the step of action i that stops at the state's minute stands at the first free place or behind it.
+    fn new_step(&self, st: &State, i: usize) -> bool {
+        let stop = self.begun.first + self.rows[i].duration;
+        stop < st.minute || stop == st.minute && self.begun.least <= i
+    }
+
+    /// Whether action i may stop at the state's minute.
+    fn may_stop(&self, st: &State, i: usize) -> bool {
+        let row = &self.rows[i];
         self.sets_allow(st, row)
             && st.count < STEPS
-            && self.begun.first + row.duration <= st.minute
+            && self.new_step(st, i)
             && (self.without.shift || !self.movable(st, row))
             && self.affordable(st, row)
             && self.beside_kept(st, row)
@@ -235,7 +262,7 @@ impl Search<'_> {
     /// Those of the undecided actions that may stop at the state's minute.
     fn candidates(&self, st: &State, undecided: u64) -> u64 {
         let actions = members(undecided).take_while(|&i| i < self.rows.len());
-        actions.filter(|&i| self.may_stop(st, &self.rows[i])).fold(0, |set, i| set | 1 << i)
+        actions.filter(|&i| self.may_stop(st, i)).fold(0, |set, i| set | 1 << i)
     }
 
     /// The state with the step, which stops at its minute.
@@ -353,13 +380,16 @@ impl Search<'_> {
         before
     }
 
-    /// The end of the plan that the steps are, where the checker accepts it and it ends by the horizon.
-    fn finish(&self, steps: &[Step]) -> Option<u32> {
+    /// What the checker says of the plan that the steps are, brought into order: its end, or the refusal.
+    pub fn check(&self, steps: &[Step]) -> Result<u64, u64> {
         let mut steps = steps.to_vec();
         steps.sort_by_key(|step| (step.start, step.action));
-        let bytes = |step: &Step| [step.action, step.start as u8, (step.start >> 8) as u8];
-        let plan: Vec<u8> = steps.iter().flat_map(bytes).collect();
-        let end = plain::check(self.job, &plan).ok()? as u32;
+        plain::check(self.job, &bytes_of(&steps))
+    }
+
+    /// The end of the plan that the steps are, where the checker accepts it and it ends by the horizon.
+    fn finish(&self, steps: &[Step]) -> Option<u32> {
+        let end = self.check(steps).ok()? as u32;
         (end <= self.horizon).then_some(end)
     }
 
@@ -469,8 +499,14 @@ impl Search<'_> {
         Ok(end)
     }
 
+    /// The end of a plan that begins with these steps and ends by the horizon; new ones stand behind them.
+    pub fn solve_behind(&mut self, steps: &[Step], horizon: u32) -> Result<Option<u32>, Late> {
+        self.begin(Begun::with(steps));
+        self.solve(horizon)
+    }
+
     /// The least end of a plan: by the first free minute that of the kept steps, then of longer ones.
-    fn shortest(&mut self) -> Result<Option<u32>, Late> {
+    pub fn shortest(&mut self) -> Result<Option<u32>, Late> {
         let deadline = self.job.deadline as u32;
         let kept = self.solve(self.begun.first.min(deadline))?;
         if kept.is_some() || deadline <= self.begun.first {
@@ -493,13 +529,13 @@ fn waits(job: &Job) -> Vec<u32> {
     waits
 }
 
-/// The least end of a plan of the job that keeps what has begun, none where there is no plan, or Late; and the nodes.
-fn search(job: &Job, begun: &Begun, way: &Way) -> (Result<Option<u32>, Late>, u64) {
+/// The search for plans of the job, of which nothing has begun.
+pub fn search<'a>(job: &'a Job, way: &Way) -> Search<'a> {
     let until = way.nodes.is_none().then(|| Instant::now() + LIMIT);
     let rows = rows::rows(job);
     let times = plain::times(job);
     let landmarks = Landmarks::new(job, &rows, &times);
-    let mut search = Search {
+    Search {
         job,
         handovers: [0, 1, 2, 3].map(|k| job.handover(k) as i32),
         waits: waits(job),
@@ -507,16 +543,14 @@ fn search(job: &Job, begun: &Begun, way: &Way) -> (Result<Option<u32>, Late>, u6
         rows,
         landmarks,
         times,
-        begun,
+        begun: Begun::default(),
         given: 0,
         without: way.without,
         horizon: 0,
         nodes: 0,
         most: way.nodes.unwrap_or(u64::MAX),
         until,
-    };
-    search.given = search.adds(begun.kept.iter());
-    (search.shortest(), search.nodes)
+    }
 }
 
 /// An end as printed: the number where there is no plan; - where none was found in time.
@@ -530,12 +564,13 @@ pub fn plan(file: &[u8], way: &Way) -> (String, u64) {
         Ok(job) => job,
         Err(number) => return (number.to_string(), 0),
     };
-    let (end, nodes) = search(&job, &Begun::default(), way);
-    (printed(end, 22), nodes)
+    let mut search = search(&job, way);
+    (printed(search.shortest(), 22), search.nodes)
 }
 
 /// What came of a begun day and a new goal: its end as printed (35: no plan; -: not planned in time), and the nodes.
-pub fn replan(job: &Job, begun: &Begun) -> (String, u64) {
-    let (end, nodes) = search(job, begun, &Way::default());
-    (printed(end, 35), nodes)
+pub fn replan(job: &Job, begun: Begun) -> (String, u64) {
+    let mut search = search(job, &Way::default());
+    search.begin(begun);
+    (printed(search.shortest(), 35), search.nodes)
 }

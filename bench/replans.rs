@@ -61,7 +61,7 @@ impl Question<'_> {
         job.goal = self.goal;
         let current = std::fs::read(folder.join(self.plan)).expect("a plan");
         let begin = Instant::now();
-        let (end, nodes) = replan(&job, &Begun::at(&current, self.minute));
+        let (end, nodes) = replan(&job, Begun::at(&current, self.minute));
         (Answer { end, seconds: begin.elapsed().as_secs_f64() }, nodes)
     }
 
