@@ -18,6 +18,14 @@ pub mod exported {
         ) -> u64;
         pub fn ruhkevois_earliest(file: *const u8, length: usize, set: u64) -> u64;
         pub fn ruhkevois_plan(file: *const u8, length: usize, out: *mut u8, room: usize, peaks: *mut u32) -> u64;
+        pub fn ruhkevois_list(
+            file: *const u8,
+            length: usize,
+            place: u32,
+            out: *mut u8,
+            room: usize,
+            peaks: *mut u32,
+        ) -> u64;
         pub fn ruhkevois_replan(
             file: *const u8,
             length: usize,
@@ -36,6 +44,25 @@ pub mod exported {
             bytes: usize,
             lengths: *const u8,
             count: usize,
+            peaks: *mut u32,
+        ) -> u64;
+        pub fn ruhkevois_join(
+            file: *const u8,
+            length: usize,
+            first: *const u8,
+            first_bytes: usize,
+            second: *const u8,
+            second_bytes: usize,
+            out: *mut u8,
+            room: usize,
+            peaks: *mut u32,
+        ) -> u64;
+        pub fn ruhkevois_halves(
+            file: *const u8,
+            length: usize,
+            halfway: u64,
+            out: *mut u8,
+            room: usize,
             peaks: *mut u32,
         ) -> u64;
         pub fn ruhkevois_pool(
@@ -58,7 +85,7 @@ pub enum Answer {
     /// A plan's or a true day's end, an earliest time or a file's length; the number of steps of a plan that was
     /// written or of a true day, else 0; for each pool the most that either or a checked plan uses together, else 0.
     Done { end: u32, steps: u16, peaks: [u32; POOLS] },
-    /// A refusal by its number, 1 to 27, 29 to 33 or 35.
+    /// A refusal by its number, 1 to 35.
     Refused(u8),
     /// A set of facts that no plan ever has together.
     Unreachable,
@@ -130,6 +157,16 @@ pub fn plan(file: &[u8], out: &mut [u8]) -> Answer {
     unpack(answer, peaks)
 }
 
+/// Writes the plan at a place, counted from 0, of the list of all shortest plans for the job of a file to the front of
+/// `out`, which has room for 96 bytes. Behind the last plan it is refused by 28.
+pub fn list(file: &[u8], place: u32, out: &mut [u8]) -> Answer {
+    let mut peaks = [0; POOLS];
+    let lent = peaks.as_mut_ptr();
+    let (file, length, out, room) = (file.as_ptr(), file.len(), out.as_mut_ptr(), out.len());
+    let answer = unsafe { exported::ruhkevois_list(file, length, place, out, room, lent) };
+    unpack(answer, peaks)
+}
+
 /// Writes a shortest plan for a new goal to the front of `out`, which has room for 96 bytes: it keeps the steps of the
 /// current plan that start before the minute, and its others start at the minute or later.
 pub fn replan(file: &[u8], current: &[u8], minute: u32, goal: u64, out: &mut [u8]) -> Answer {
@@ -148,6 +185,28 @@ pub fn true_day(file: &[u8], plan: &[u8], lengths: &[u8]) -> Answer {
     let (file, length, plan, bytes) = (file.as_ptr(), file.len(), plan.as_ptr(), plan.len());
     let (lengths, count) = (lengths.as_ptr(), lengths.len());
     let answer = unsafe { exported::ruhkevois_true_day(file, length, plan, bytes, lengths, count, lent) };
+    unpack(answer, peaks)
+}
+
+/// Joins two plans for the job of a file and writes the joined plan to the front of `out`, which has room for 96 bytes.
+/// It may break 16 to 20, as both plans may: `check` tells.
+pub fn join(file: &[u8], first: &[u8], second: &[u8], out: &mut [u8]) -> Answer {
+    let mut peaks = [0; POOLS];
+    let lent = peaks.as_mut_ptr();
+    let (file, length, a, b) = (file.as_ptr(), file.len(), first.as_ptr(), second.as_ptr());
+    let (out, room) = (out.as_mut_ptr(), out.len());
+    let answer =
+        unsafe { exported::ruhkevois_join(file, length, a, first.len(), b, second.len(), out, room, lent) };
+    unpack(answer, peaks)
+}
+
+/// Plans the day of a file in two halves, the first for the halfway set, the second for the goal from what the first
+/// leaves, and writes the joined plan to the front of `out`, which has room for 96 bytes.
+pub fn halves(file: &[u8], halfway: u64, out: &mut [u8]) -> Answer {
+    let mut peaks = [0; POOLS];
+    let lent = peaks.as_mut_ptr();
+    let (file, length, out, room) = (file.as_ptr(), file.len(), out.as_mut_ptr(), out.len());
+    let answer = unsafe { exported::ruhkevois_halves(file, length, halfway, out, room, lent) };
     unpack(answer, peaks)
 }
 

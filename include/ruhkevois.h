@@ -15,7 +15,7 @@
  * Answers. Every call answers one number, packed the same way (but for a price that is done, see ruhkevois_price):
  *
  *   bits  0 to  7   kind: RUHKEVOIS_DONE, RUHKEVOIS_REFUSED or RUHKEVOIS_UNREACHABLE
- *   bits  8 to 15   number of the refusal, 1 to 27, 29 to 33 or 35 (README.md has the table); 0 unless refused
+ *   bits  8 to 15   number of the refusal, 1 to 35 (README.md has the table); 0 unless refused
  *   bits 16 to 47   end: a plan's or a true day's end, an earliest time, or a file's length; 0 unless done
  *   bits 48 to 63   number of steps of a plan that was written or of a true day; 0 otherwise
  *
@@ -117,6 +117,22 @@ uint64_t ruhkevois_plan(const uint8_t *file, size_t file_length, uint8_t *out, s
     uint32_t peaks[RUHKEVOIS_POOLS]);
 
 /*
+ * Writes the plan at a place of the list of all the shortest plans for the job of a file to the front of `out`, which
+ * has room for 96 bytes. The list has every accepted plan that ends at the least minute and from which no single step
+ * can be dropped with the rest still accepted: all of them and only those, each once. Plans are compared step by step,
+ * by start, then by action; a plan that begins another comes first. Places count from 0: to leaf through the list, ask
+ * for 0, 1, 2 and so on until the answer is 28.
+ * Done: end, steps, `out` and `peaks` as from ruhkevois_plan, of the plan at that place. The end is the same at every
+ * place, and the one that ruhkevois_plan gives.
+ * Refused: the file's; 21 where `out` has under 96 bytes; 22 where the job has no plan, at every place; 28 where the
+ * list has no plan at the place, which never happens at place 0; `out` and `peaks` are kept as they were.
+ * Each call walks the list from its beginning and searches on the way, as long as the job and the place demand:
+ * README.md says how to bound it.
+ */
+uint64_t ruhkevois_list(const uint8_t *file, size_t file_length, uint32_t place, uint8_t *out, size_t out_length,
+    uint32_t peaks[RUHKEVOIS_POOLS]);
+
+/*
  * Replans a day that has begun: writes a shortest plan for a new goal to the front of `out`, which has room for 96
  * bytes. The steps of the current plan `plan` that start before `minute` are kept as they are; all others may be
  * replaced by steps that start at `minute` or later. At minute 0 nothing is kept, past the deadline every step is. The
@@ -143,6 +159,34 @@ uint64_t ruhkevois_replan(const uint8_t *file, size_t file_length, const uint8_t
  */
 uint64_t ruhkevois_true_day(const uint8_t *file, size_t file_length, const uint8_t *plan, size_t plan_length,
     const uint8_t *lengths, size_t lengths_length, uint32_t peaks[RUHKEVOIS_POOLS]);
+
+/*
+ * Joins two plans for the job of a file: writes the joined plan to the front of `out`, which has room for 96 bytes and
+ * overlaps neither plan. An empty plan gives the other one. Otherwise the steps of the second stand behind those of the
+ * first, and start later by the first's end plus the largest handover of all the job's pools. Both plans and the joined
+ * one may break 16 to 20, which ruhkevois_check tells. Three plans joined from the left or from the right give the same
+ * bytes and the same answer, or the same 34.
+ * Done: end is the end of the joined plan; steps is its number of steps, three bytes each; the bytes of `out` behind
+ * them are kept. `peaks` has the peak of each pool, which is more than the pool has where the plan breaks 17.
+ * Refused: the file's; 12 to 15 for the first plan, then for the second; 21 where `out` has under 96 bytes; 34 where
+ * the joined plan has over 32 steps or ends after the deadline; `out` and `peaks` are kept as they were.
+ */
+uint64_t ruhkevois_join(const uint8_t *file, size_t file_length, const uint8_t *first, size_t first_length,
+    const uint8_t *second, size_t second_length, uint8_t *out, size_t out_length, uint32_t peaks[RUHKEVOIS_POOLS]);
+
+/*
+ * Plans the day of a file in two halves and joins them: the first for the set of facts `halfway` (fact n is bit n), the
+ * second for the file's goal from the facts and stores that the first leaves. Each half is the plan at place 0 of its
+ * list (ruhkevois_list), planned from minute 0 with the job's whole deadline; they are joined as by ruhkevois_join.
+ * Done: end, steps, `out` and `peaks` as from ruhkevois_plan, of the joined day. ruhkevois_check accepts it with the
+ * same end and peaks, and it never ends before the shortest whole day.
+ * Refused: the file's; 24 where the job lacks a fact of `halfway`; 21 where `out` has under 96 bytes; 22 where either
+ * half has no plan, even where the whole day has one; 34 where the joined day has over 32 steps or ends after the
+ * deadline; `out` and `peaks` are kept as they were.
+ * The search takes as long as the job demands: README.md says how to bound it.
+ */
+uint64_t ruhkevois_halves(const uint8_t *file, size_t file_length, uint64_t halfway, uint8_t *out, size_t out_length,
+    uint32_t peaks[RUHKEVOIS_POOLS]);
 
 /*
  * Pools the jobs of two files: writes the file of the one job that they become to the front of `out`. Facts and
