@@ -1,7 +1,8 @@
 // A plain second planner, for comparison in tests: the least end of the accepted plans of a small job, by trying every
-// plan forward from minute 0, or from the minute to which a begun day has come; and the list of all the shortest days. It
-// shares no code with the planner and the lister, and knows no earliest times and no normal form.
+// plan forward from minute 0, or from the minute to which a begun day has come; the list of all the shortest days; and two
+// plans joined. It shares no code with the planner, the lister and the join, and knows no earliest times and no normal form.
 mod day; // the rules, minute by minute
+pub mod join; // two plans joined
 mod kept; // the steps that a begun day keeps
 pub mod list; // the list of all the shortest days
 mod steps; // the steps of a plan

@@ -6,6 +6,7 @@ use crate::Makespan;
 use crate::day;
 use crate::day::Day;
 use crate::day::State;
+use crate::kept;
 use crate::kept::Kept;
 use crate::steps::Steps;
 use crate::steps::Task;
@@ -71,6 +72,22 @@ pub fn shortest_days(job: Job, goal: u64, out: &mut [u8]) -> Listed {
     if day::any_beyond(day, state) {
         return no_list(Makespan::UseBeyond);
     }
+    list_from(day, state, job.deadline, out)
+}
+
+// Writes the list of a job's shortest days for its own goal, from minute 0 with the facts and stores that a plan leaves
+// at its end. The plan is accepted for some goal and ends at this minute. 26 is not asked of what is left.
+pub fn days_after(job: Job, plan: &[u8], end: u16, out: &mut [u8]) -> Listed {
+    if crate::too_large(job) {
+        return no_list(Makespan::TooLarge);
+    }
+    let day = crate::day_of(job, job.goal);
+    let kept = kept::at_minute(day, crate::before(job), plan, end);
+    let mut state = crate::before(job);
+    let left = kept.state;
+    let stores = left.stores;
+    state.facts = left.facts;
+    state.stores = stores;
     list_from(day, state, job.deadline, out)
 }
 

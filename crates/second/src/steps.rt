@@ -112,7 +112,7 @@ pub fn any_dropped(task: Task, steps: Steps) -> bool {
 }
 
 // Writes a byte, where the slice has that place.
-fn put(out: &mut [u8], at: usize, byte: u8) {
+pub fn put(out: &mut [u8], at: usize, byte: u8) {
     if at < out.len() {
         out[at] = byte;
     }

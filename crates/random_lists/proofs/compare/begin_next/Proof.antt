@@ -4,11 +4,6 @@ use Prim.Native.Nat.{_-_}
 use borrow.Author.Needs.{needs}
 use Rattle.random_lists.proofs.compare.begin_next.Statement.{statement}
 use Rattle.random_lists.proofs.compare.begin_next.Tie as tie
-use Rattle.random_lists.proofs.compare.begin_next.Reads as reads
-use Rattle.random_lists.proofs.compare.begin_next.Lts as lts
-use Rattle.random_lists.proofs.compare.begins.Reads as begins-reads
-use Rattle.second.proofs.list.plan_at.Reads as plan-at-reads
-use Rattle.std.proofs.num.wrapping_add_u32.Reads as wrapping-add-u32-reads
 
 abbrev Inv-loop : tie.InvT-loop
 Inv-loop list plans sum₀ place₀ sum place = Unit {0}

@@ -4,11 +4,6 @@ use Prim.Native.Nat.{_-_}
 use borrow.Author.Needs.{needs}
 use Rattle.random_lists.proofs.compare.same_plans.Statement.{statement}
 use Rattle.random_lists.proofs.compare.same_plans.Tie as tie
-use Rattle.random_lists.proofs.compare.same_plans.Reads as reads
-use Rattle.random_lists.proofs.compare.same_plans.Lts as lts
-use Rattle.random_lists.proofs.compare.same_plan.Reads as same-plan-reads
-use Rattle.random_lists.proofs.compare.same_refusal.Reads as same-refusal-reads
-use Rattle.second.proofs.list.plan_at.Reads as plan-at-reads
 
 abbrev Inv-loop : tie.InvT-loop
 Inv-loop job list plans end place₀ place = Unit {0}

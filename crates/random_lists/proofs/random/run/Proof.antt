@@ -2,10 +2,6 @@ use Prim.Native.Nat.{_-_}
 use borrow.Author.Needs.{needs}
 use Rattle.random_lists.proofs.random.run.Statement.{statement}
 use Rattle.random_lists.proofs.random.run.Tie as tie
-use Rattle.random_lists.proofs.random.run.Reads as reads
-use Rattle.random_lists.proofs.random.run.Lts as lts
-use Rattle.compared.proofs.Totals.none.Reads as none-reads
-use Rattle.random_lists.proofs.random.counted.Reads as counted-reads
 
 abbrev Inv-loop : tie.InvT-loop
 Inv-loop seeds counts₀ seed₀ counts seed = Unit {0}

@@ -4,12 +4,6 @@ use Prim.Native.Nat.{_-_}
 use borrow.Author.Needs.{needs}
 use Rattle.second.proofs.steps.accepted_without.Statement.{statement}
 use Rattle.second.proofs.steps.accepted_without.Tie as tie
-use Rattle.second.proofs.steps.accepted_without.Reads as reads
-use Rattle.second.proofs.steps.accepted_without.Lts as lts
-use Rattle.second.proofs.day.less.Reads as less-reads
-use Rattle.second.proofs.day.within.Reads as within-reads
-use Rattle.second.proofs.steps.minutes_later.Reads as minutes-later-reads
-use Rattle.second.proofs.steps.with_start.Reads as with-start-reads
 
 abbrev Inv-loop : tie.InvT-loop
 Inv-loop task dropped steps day replay₀ k₀ replay k = Unit {0}

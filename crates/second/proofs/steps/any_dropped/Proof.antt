@@ -4,9 +4,6 @@ use Prim.Native.Nat.{_-_}
 use borrow.Author.Needs.{needs}
 use Rattle.second.proofs.steps.any_dropped.Statement.{statement}
 use Rattle.second.proofs.steps.any_dropped.Tie as tie
-use Rattle.second.proofs.steps.any_dropped.Reads as reads
-use Rattle.second.proofs.steps.any_dropped.Lts as lts
-use Rattle.second.proofs.steps.accepted_without.Reads as accepted-without-reads
 
 abbrev Inv-loop : tie.InvT-loop
 Inv-loop task steps k₀ k = Unit {0}

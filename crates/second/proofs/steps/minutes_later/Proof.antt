@@ -4,9 +4,6 @@ use Prim.Native.Nat.{_-_}
 use borrow.Author.Needs.{needs}
 use Rattle.second.proofs.steps.minutes_later.Statement.{statement}
 use Rattle.second.proofs.steps.minutes_later.Tie as tie
-use Rattle.second.proofs.steps.minutes_later.Reads as reads
-use Rattle.second.proofs.steps.minutes_later.Lts as lts
-use Rattle.second.proofs.day.tick.Reads as tick-reads
 
 abbrev Inv-loop : tie.InvT-loop
 Inv-loop day state₀ minutes k₀ state k = Unit {0}

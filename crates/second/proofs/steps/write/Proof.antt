@@ -7,9 +7,6 @@ use lib.ListN.{length}
 use mathlib.Core.Path.{_≡_}
 use Rattle.second.proofs.steps.write.Statement.{statement}
 use Rattle.second.proofs.steps.write.Tie as tie
-use Rattle.second.proofs.steps.write.Reads as reads
-use Rattle.second.proofs.steps.write.Lts as lts
-use Rattle.second.proofs.steps.put.Reads as put-reads
 
 abbrev Inv-loop : tie.InvT-loop
 Inv-loop out₀ place steps from k₀ out k = length out ≡ length out₀
