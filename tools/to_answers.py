@@ -1,0 +1,285 @@
+#!/usr/bin/env python3
+"""Turns a crate's Proof.antt files, which close a function's proof by hand, into Invariants.antt and Answers.antt.
+
+usage: tools/to_answers.py NAMES CRATE     NAMES: names.json of `rt check --generated FOLDER --old-names` in the crate
+
+Goals, loops and steps get their new names from NAMES, `c.before.before.step` becomes `c.step`, an invariant's arguments
+become fields of `l`. Answers that the check finds alone (`omega arith`, `search rules`, `tt`, `refl`) go. What it cannot
+turn it leaves as it is and prints. It changes text and proves nothing.
+"""
+import json
+import os
+import re
+import sys
+
+EASY = {"omega arith", "search rules", "tt", "refl"}
+WORD = r"[^\s(){}\[\];,.:=λ→⊢|`\"⌜⌝×]+"
+
+
+def norm(name):
+    name = name.replace("-", "_")
+    return name[len("overflow_"):] if name.startswith("overflow_") else name
+
+
+def declarations(text):
+    """The top-level pieces of a file: each a list of lines, comments with what they stand above."""
+    pieces, piece = [], []
+    for line in text.split("\n"):
+        if not line.strip():
+            if piece:
+                pieces.append(piece)
+            piece = []
+        else:
+            if piece and line.startswith("use ") and not any(l.startswith("use ") for l in piece):
+                pieces.append(piece)
+                piece = []
+            piece.append(line)
+    if piece:
+        pieces.append(piece)
+    # a piece that begins with white space goes on with the one before
+    out = []
+    for p in pieces:
+        if out and p[0][0].isspace():
+            out[-1] += [""] + p
+        else:
+            out.append(p)
+    return out
+
+
+def used(name, text):
+    if name.startswith("◌") or "◌" in name:
+        parts = [q for q in name.split("◌") if q]
+        return all(q in text for q in parts)
+    return re.search(r"(?<![\w'₀-₉.-])" + re.escape(name) + r"(?![\w'₀-₉-])", text) is not None
+
+
+def use_lines(lines, text):
+    kept = []
+    for line in lines:
+        m = re.match(r"use ([\w.·+]+)\.\{(.*)\}$", line)
+        if not m:
+            m2 = re.match(r"use [\w.·+]+ as (\w+)$", line)
+            if m2 and re.search(r"\b" + m2.group(1) + r"\.", text):
+                kept.append(line)
+            continue
+        names = [n.strip() for n in m.group(2).split(",")]
+        names = [n for n in names if used(n.split(" as ")[-1].strip(), text)]
+        if names:
+            kept.append(f"use {m.group(1)}.{{{', '.join(names)}}}")
+    return kept
+
+
+class Function:
+    def __init__(self, crate, path, entry, said):
+        self.crate, self.path, self.entry, self.said = crate, path, entry, said
+        self.places = {}
+        for old, parent, step, _callee, _more in entry["places"]:
+            self.places[norm(old)] = (norm(parent) if parent else None, step[0], step[1])
+        self.needs = {}
+        for i, (old, new) in enumerate(entry["needs"]):
+            self.needs.setdefault(norm(old), (new, norm(entry["asked_at"][i][0])))
+        self.loops = {}
+        for i, (names, variables) in enumerate(entry["loops"]):
+            self.loops[norm(names[0])] = (names[1], variables, entry["changed"][i])
+
+    def step(self, place, field):
+        """The new name of a step that the old proof names at a place."""
+        if place is None or place not in self.places:
+            return None
+        parent, old, new = self.places[place]
+        return new if old and norm(old) == norm(field) else None
+
+    def paths(self, text, place, where):
+        def turn(m):
+            at = place
+            for _ in range(m.group(1).count(".before")):
+                at = self.places[at][0] if at in self.places else None
+            field = m.group(2)
+            if field in ("args", "requires", "ranges", "well_formed", "lifetimes"):
+                return "c." + field
+            new = self.step(at, field)
+            if new is None:
+                # an unread place stands beside the one that was read
+                self.said.append(f"{self.path}: {where}: no step {m.group(0)} at {at}")
+                return "c." + field
+            return "c." + new
+        text = re.sub(r"(?<![\w'.-])c((?:\.before)*)\.(?!before\b)([\w'₀-₉-]+)", turn, text)
+        if re.search(r"(?<![\w'.-])c\.before", text):
+            self.said.append(f"{self.path}: {where}: a place is passed whole")
+        return text
+
+
+def arguments(fn, loop, params, body, said):
+    new, variables, changed = fn.loops[loop]
+    order = [f"l.initial.{v}" if ch else f"l.{v}" for v, ch in zip(variables, changed)]
+    order += [f"l.{v}" for v, ch in zip(variables, changed) if ch]
+    if len(order) != len(params):
+        said.append(f"{fn.path}: {loop}: {params} for {order}")
+        return body
+    to = dict(zip(params, order))
+    return re.sub(r"(?<![\w'.₀-₉-])(" + WORD + r")", lambda m: to.get(m.group(1), m.group(1)), body)
+
+
+def split_clauses(piece):
+    """Comment lines, signature lines, unfolding line, clause lines."""
+    notes = [l for l in piece if l.startswith("--")]
+    rest = [l for l in piece if not l.startswith("--")]
+    m = re.match(r"(?:(abbrev|unfoldable) )?(?:pub )?([^\s:]+) :", rest[0])
+    if not m:
+        return None
+    name = m.group(2)
+    body_at = next((i for i, l in enumerate(rest) if i > 0 and re.match(re.escape(name) + r"(\s|$)", l)), len(rest))
+    signature = [l for l in rest[:body_at] if not l.startswith("unfolding ")]
+    unfolding = [l for l in rest[:body_at] if l.startswith("unfolding ")]
+    return notes, m.group(1), name, signature, unfolding, rest[body_at:]
+
+
+def parameters(crate, path):
+    """The parameters of a function, with their types, from the source; {} where it is not found."""
+    name = path.split(".")[-1]
+    folders = ["crates/" + crate + "/src"]
+    best = None
+    for folder, _, names in os.walk(folders[0]):
+        for f in names:
+            text = open(os.path.join(folder, f), encoding="utf-8").read()
+            for m in re.finditer(r"\bfn " + re.escape(name) + r"\s*\(([^)]*)\)", text):
+                module = os.path.relpath(os.path.join(folder, f), folders[0])[:-3].replace("/", ".")
+                score = 1 if module in path or module in ("lib", "main") else 0
+                if best is None or score > best[0] or (score == best[0] and module in path):
+                    best = (score, m.group(1))
+    found = []
+    if best:
+        for part in best[1].split(","):
+            if ":" in part:
+                n, t = part.split(":", 1)
+                found.append((n.replace("mut ", "").strip(), t.strip()))
+            elif "self" in part:
+                found.append(("self", "Self"))
+    return found
+
+
+def copied(crate, path, text):
+    """Old names t1, t2 .. of parameters that are structs or arrays."""
+    numbers = sorted(set(int(n) for n in re.findall(r"\.t(\d)\b", text)))
+    if not numbers:
+        return {}
+    wide = [n for n, t in parameters(crate, path) if not t.startswith("&") and (t.startswith("[") or t[:1].isupper())]
+    named = [n for n in wide if not re.search(r"args\." + n + r"\b|\ba\." + n + r"\b", text)]
+    return {f"t{n}": named[n - 1] for n in numbers if n <= len(named)}
+
+
+def convert(crate, folder, entry, path, said):
+    old = os.path.join(folder, "Proof.antt")
+    text = open(old, encoding="utf-8").read()
+    fn = Function(crate, path, entry, said)
+    to = copied(crate, path, text)
+    if to:
+        text = re.sub(r"\.(t\d)\b", lambda m: "." + to.get(m.group(1), m.group(1)), text)
+    uses, head, invariants, answers, helpers = [], [], [], [], []
+    for n, piece in enumerate(declarations(text)):
+        lines = [l for l in piece if not l.startswith("use ")]
+        uses += [l for l in piece if l.startswith("use ")]
+        if not lines:
+            continue
+        if all(l.startswith("--") for l in lines):
+            head += lines
+            continue
+        if n == 0 and lines[0].startswith("--") and any(l.startswith("use ") for l in piece):
+            head += [l for l in lines if l.startswith("--")]
+            lines = [l for l in lines if not l.startswith("--")]
+            if not lines:
+                continue
+        parts = split_clauses(lines)
+        if parts is None:
+            helpers.append("\n".join(lines))
+            continue
+        notes, kind, name, signature, unfolding, clauses = parts
+        sig = " ".join(signature)
+        if "statement M" in sig:
+            continue
+        m = re.search(r": tie\.(invariant|decreases)-(\S+)", sig)
+        if m:
+            loop = norm(m.group(2))
+            if loop not in fn.loops:
+                said.append(f"{path}: no loop {m.group(2)}")
+                helpers.append("\n".join(lines))
+                continue
+            body = "\n".join(clauses)
+            lhs = re.match(re.escape(name) + r"((?:\s+" + WORD + r")*)\s*=", body)
+            if not lhs:
+                said.append(f"{path}: {name}: clauses not read")
+                helpers.append("\n".join(lines))
+                continue
+            params = lhs.group(1).split()
+            right = arguments(fn, loop, params, body[lhs.end():], said)
+            goal = f"{m.group(1)}-{fn.loops[loop][0]}"
+            invariants.append("\n".join(notes + [f"abbrev pub {goal} : goal.{goal}"] + unfolding + [f"{goal} l ={right}"]))
+            continue
+        m = re.match(r"[^\s:]+ : tie\.Need-(\S+)((?: \S+)*)$", sig)
+        if m:
+            key = norm(m.group(1))
+            if key not in fn.needs:
+                said.append(f"{path}: no goal {m.group(1)}")
+                helpers.append("-- LEFT\n" + "\n".join("-- " + l for l in lines))
+                continue
+            goal, place = fn.needs[key]
+            body = "\n".join(clauses)
+            body = re.sub(r"^" + re.escape(name) + r"(?=[\s=])", goal, body, flags=re.M)
+            body = re.sub(r"^(" + re.escape(goal) + r" [^=\n]*?) κs", r"\1", body, flags=re.M)
+            m2 = re.match(re.escape(goal) + r" c =\s*", body)
+            if m2 and re.sub(r"\s+", " ", body[m2.end():]).strip() in EASY:
+                continue
+            body = fn.paths(body, place, goal)
+            answers.append("\n".join(notes + [f"pub {goal} : goal.{goal}"] + unfolding + [body]))
+            continue
+        helpers.append("\n".join(lines))
+    prefix = f"Rattle.{crate}.proofs.{path}"
+    uses = [u for u in uses if ".Statement.{" not in u and not u.endswith(" as tie")]
+    head = [h for h in head if h.strip() != "-- Assumes nothing."]
+    inv_text = "\n\n".join(invariants)
+    in_inv = [h for h in helpers if any(used(n, inv_text) for n in re.findall(r"^(?:(?:abbrev|unfoldable) )?(?:pub )?([^\s:]+) :", h, re.M))]
+    # helpers of those helpers
+    for _ in range(5):
+        more = [h for h in helpers if h not in in_inv and any(used(n, "\n".join(in_inv)) for n in re.findall(r"^(?:(?:abbrev|unfoldable) )?(?:pub )?([^\s:]+) :", h, re.M))]
+        in_inv += more
+    in_inv = [h for h in helpers if h in in_inv]
+    public = [re.sub(r"^((?:abbrev|unfoldable) )?(?!pub |abbrev|unfoldable|--|unfolding)([^\s:]+) :", lambda m: (m.group(1) or "") + "pub " + m.group(2) + " :", h, count=1, flags=re.M) for h in in_inv]
+    ans_helpers = [h for h in helpers if h not in in_inv]
+    written = []
+    if invariants:
+        body = "\n\n".join(public + invariants)
+        lines = head + use_lines(uses, body) + [f"use {prefix}.Given as goal", "", body]
+        written.append(("Invariants.antt", lines))
+    if answers or ans_helpers:
+        body = "\n\n".join(ans_helpers + answers)
+        more = [n for h in in_inv for n in re.findall(r"^(?:(?:abbrev|unfoldable) )?(?:pub )?([^\s:]+) :", h, re.M) if used(n, body)]
+        shared = [f"use {prefix}.Invariants.{{{', '.join(more)}}}"] if more else []
+        lines = head + use_lines(uses, body) + shared + [f"use {prefix}.Goals as goal", "", body]
+        written.append(("Answers.antt", lines))
+    for name, lines in written:
+        with open(os.path.join(folder, name), "w", encoding="utf-8") as f:
+            f.write("\n".join(lines) + "\n")
+    os.remove(old)
+    if not os.listdir(folder):
+        os.rmdir(folder)
+
+
+def main():
+    names, crate = sys.argv[1:3]
+    entries = json.load(open(names, encoding="utf-8"))
+    said = []
+    root = f"crates/{crate}/proofs"
+    for folder, inner, files in os.walk(root, topdown=False):
+        if "Proof.antt" not in files:
+            continue
+        path = os.path.relpath(folder, root).replace("/", ".")
+        entry = entries.get(f"Rattle-{crate}-proofs.{path}.Lts")
+        if entry is None:
+            said.append(f"{path}: not in NAMES")
+            continue
+        convert(crate, folder, entry, path, said)
+    print("\n".join(said))
+
+
+if __name__ == "__main__":
+    main()
