@@ -21,7 +21,7 @@ const BODY: usize = 13_000;
 // the call is given. The body is the title, the file and, behind them, a plan, before which the rates of a price, the
 // minute of a begun day, the true lengths of a day or the first plan of a join stand; a place of the list; or two more
 // files. The length of the first of two plans or files stands before it.
-#[derive(Drop)]
+#[derive(Clone, Copy)]
 pub struct Record {
     pub call: u8,
     pub title: usize,

@@ -7,14 +7,14 @@ ghost use Rattle.timeline.specs.Value.{step_of_value, steps_of};
 use timeline::{Plan, Step};
 
 // What the steps that stop at one minute delete and add.
-#[derive(Drop)]
+#[derive(Clone, Copy)]
 pub struct Effects {
     pub deletes: u64,
     pub adds: u64,
 }
 
 // A minute, and the facts that hold then.
-#[derive(Drop)]
+#[derive(Clone, Copy)]
 pub struct Clock {
     pub minute: u32,
     pub facts: u64,

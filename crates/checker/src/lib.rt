@@ -26,14 +26,14 @@ use timeline::{Day, Plan};
 use watch::Watched;
 
 // What tests 14 to 20 say of a plan: its end, or why it is refused.
-#[derive(Drop)]
+#[derive(Clone, Copy)]
 pub enum Checked {
     Ends(u32),
     Refused(Refusal),
 }
 
 // What is answered of a plan's bytes, and the plan by value for a call that goes on with it. A refused one is empty.
-#[derive(Drop)]
+#[derive(Clone, Copy)]
 pub struct CheckedPlan {
     pub day: Day,
     pub plan: Plan,

@@ -13,7 +13,7 @@ use job::refusal::{Refusal, Verdict};
 use timeline::Plan;
 
 // How the clock's run ends: at a need that is missing, or at the plan's end.
-#[derive(Drop)]
+#[derive(Clone, Copy)]
 pub enum Watched {
     NeedMissing,
     Done(Clock),

@@ -2,7 +2,7 @@
 use std::num::wrapping_add_u64;
 
 // What both say, or that they differ.
-#[derive(Drop)]
+#[derive(Clone, Copy)]
 pub enum Outcome {
     Ends(u32),
     NoPlan,
@@ -18,7 +18,7 @@ pub fn unless_differs(same: bool, outcome: Outcome) -> Outcome {
 }
 
 // What is counted over many questions. No sum comes near 64 bits.
-#[derive(Drop)]
+#[derive(Clone, Copy)]
 pub struct Totals {
     pub questions: u64,
     pub plans: u64,

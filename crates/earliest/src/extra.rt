@@ -7,7 +7,7 @@ use job::{Action, Job};
 use timeline::Plan;
 
 // The first `count` of these actions. Their pools and stores are those of the job.
-#[derive(Drop)]
+#[derive(Clone, Copy)]
 pub struct Extra {
     pub count: usize,
     pub actions: [Action; Plan::STEPS],

@@ -19,7 +19,7 @@ use job::validate::validate;
 use pairs::Pair;
 
 // An earliest time, or why there is none to tell.
-#[derive(Drop)]
+#[derive(Clone, Copy)]
 pub enum EarliestTime {
     At(u32),
     Unreachable,

@@ -6,7 +6,7 @@ ghost use Rattle.input.specs.Decimal.{Reads, ReadsFrom};
 const TEN: u64 = 10;
 
 // A number, or nothing where there is none.
-#[derive(Drop)]
+#[derive(Clone, Copy)]
 pub enum Number {
     Value(u64),
     Nothing,

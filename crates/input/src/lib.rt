@@ -10,7 +10,7 @@ use decimal::decimal;
 use libc::STDERR_FILENO;
 
 // How much of a file has come, and whether that is all there is or all that fits.
-#[derive(Drop)]
+#[derive(Clone, Copy)]
 pub struct Loaded {
     pub length: usize,
     pub whole: bool,

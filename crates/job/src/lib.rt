@@ -12,7 +12,7 @@ ghost use Rattle.job.specs.Job.{entries, handover_count, shortest_count, head_si
 ghost use Rattle.job.specs.Job.{zero_value};
 
 // An action of a job. Sets of facts are words: fact n is bit n.
-#[derive(Drop)]
+#[derive(Clone, Copy)]
 pub struct Action {
     pub duration: u8, // minutes (document 01: length), the longest where it is known only within a range
     pub needs: u64, // preconditions
@@ -45,7 +45,7 @@ impl Action {
 }
 
 // How many pools, stores and actions a job has. What its arrays hold beyond that is ignored.
-#[derive(Drop)]
+#[derive(Clone, Copy)]
 pub struct Counts {
     pub pools: usize,
     pub stores: usize,
@@ -53,7 +53,7 @@ pub struct Counts {
 }
 
 // Which entries the contents of the job's file have. What a value holds beyond its form is ignored.
-#[derive(Drop)]
+#[derive(Clone, Copy)]
 pub enum Form {
     Four, // the head, the pools, the stores and the actions
     Five, // and the handovers of the pools
@@ -96,7 +96,7 @@ impl Form {
 }
 
 // How a step uses up stores: which head the job's file has. The reserve of a value under the old rule is ignored.
-#[derive(Drop)]
+#[derive(Clone, Copy)]
 pub enum StoreRule {
     PerStep, // its amount once: a head of 19 bytes
     PerHour, // its amount for each started hour, and a part of each store is kept back: a head of 20 bytes
@@ -126,7 +126,7 @@ impl StoreRule {
 
 // A job. Pools are renewable resources, stores consumable ones: an availability for each. Its small parts stand first,
 // so that a value, which is often copied, has no gaps.
-#[derive(Drop)]
+#[derive(Clone, Copy)]
 pub struct Job {
     pub facts: u8,
     pub form: Form,

@@ -9,7 +9,7 @@ use crate::refusal::{Refusal, Verdict};
 use crate::{Action, Counts, Job, beyond, lengths, wide};
 
 // Which of tests 8, 9, 10 and 11 fail: true for each that does.
-#[derive(Drop)]
+#[derive(Clone, Copy)]
 pub struct Broken {
     pub duration: bool,
     pub facts: bool,

@@ -6,7 +6,7 @@ use job::refusal::{Refusal, Verdict};
 use job::{Form, Job};
 
 // The form of a file and the lengths in bytes of its bodies, 0 for one beyond the form.
-#[derive(Drop)]
+#[derive(Clone, Copy)]
 pub struct Layout {
     pub form: Form,
     pub head: usize,
@@ -18,7 +18,7 @@ pub struct Layout {
 }
 
 // Where the bodies of a file begin, each where the one before it ends, and where the last one ends.
-#[derive(Drop)]
+#[derive(Clone, Copy)]
 pub struct Places {
     pub head: usize,
     pub pools: usize,
@@ -159,14 +159,14 @@ impl Layout {
 }
 
 // What reading answers: a job that passes every test, or the refusal with a job of zeros.
-#[derive(Drop)]
+#[derive(Clone, Copy)]
 pub struct Reading {
     pub verdict: Verdict,
     pub job: Job,
 }
 
 // What writing answers: the length of the file, or the refusal.
-#[derive(Drop)]
+#[derive(Clone, Copy)]
 pub enum Written {
     Length(usize),
     Refused(Refusal),

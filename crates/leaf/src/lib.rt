@@ -12,7 +12,7 @@ use tables::{Frame, Steps};
 use timeline::Plan;
 
 // Whether a plan was found; its end, its number of steps, the peaks of the pools and its bytes, zeros behind them.
-#[derive(Drop)]
+#[derive(Clone, Copy)]
 pub struct Answer {
     pub found: bool,
     pub end: u32,

@@ -16,7 +16,7 @@ use job::validate::validate;
 use job::{Counts, Form, Job};
 
 // What pooling answers: a job that passes every test, or the refusal with a job of zeros.
-#[derive(Drop)]
+#[derive(Clone, Copy)]
 pub struct Pooled {
     pub verdict: Verdict,
     pub job: Job,

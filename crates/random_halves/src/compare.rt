@@ -11,7 +11,7 @@ use timeline::{Day, Plan};
 const ROOM: usize = 6_208;
 
 // What is said of a day in two halves.
-#[derive(Drop)]
+#[derive(Clone, Copy)]
 pub enum Halved {
     TooLong, // refused by 34
     Empty(Outcome), // a day with an empty half

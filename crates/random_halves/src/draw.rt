@@ -9,7 +9,7 @@ const HALFWAY: u64 = 67;
 // The most facts of a random job.
 const FACTS: u8 = 5;
 
-#[derive(Drop)]
+#[derive(Clone, Copy)]
 pub struct Asked {
     pub job: Job,
     pub halfway: u64,

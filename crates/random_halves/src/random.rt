@@ -6,7 +6,7 @@ use compared::Totals;
 use std::num::wrapping_add_u64;
 
 // What is counted over many days.
-#[derive(Drop)]
+#[derive(Clone, Copy)]
 struct Counts {
     days: Totals,
     empty: u64, // days with an empty half

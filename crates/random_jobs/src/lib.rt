@@ -17,7 +17,7 @@ const MOST_OF_A_STORE: u8 = 8;
 const MOST_USED: u32 = 3;
 
 // What is peculiar to a job.
-#[derive(Drop)]
+#[derive(Clone, Copy)]
 pub enum Kind {
     Plain, // nothing
     Short, // no pools or stores, and an early deadline

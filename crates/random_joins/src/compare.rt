@@ -9,14 +9,14 @@ use timeline::{Day, Plan};
 const SLICE: usize = 100;
 
 // The answers of the two joins, one after the other. Where the first is refused the last has its refusal.
-#[derive(Drop)]
+#[derive(Clone, Copy)]
 pub struct Way {
     pub first: Day,
     pub last: Day,
 }
 
 // What came of both ways, the end of the whole, 0 for none, and whether the two are the same.
-#[derive(Drop)]
+#[derive(Clone, Copy)]
 pub struct Compared {
     pub left: Way,
     pub right: Way,

@@ -24,7 +24,7 @@ const ENOUGH: u32 = 110;
 const ENOUGH_FOR_THREE: u32 = 400;
 
 // The bytes of a plan, and how many steps it has.
-#[derive(Drop)]
+#[derive(Clone, Copy)]
 pub struct Drawn {
     pub bytes: [u8; Plan::BYTES],
     pub steps: usize,

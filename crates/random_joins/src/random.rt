@@ -11,7 +11,7 @@ use timeline::Plan;
 // 34 in document 02.
 const TOO_LONG: u8 = 34;
 
-#[derive(Drop)]
+#[derive(Clone, Copy)]
 struct Counts {
     days: u64,
     full: u64, // of 32 steps

@@ -13,7 +13,7 @@ use timeline::Plan;
 const ROOM: usize = 12_416;
 
 // What is said of a job, how many plans are listed, and how many of them begin the next one.
-#[derive(Drop)]
+#[derive(Clone, Copy)]
 pub struct Compared {
     pub outcome: Outcome,
     pub plans: u32,

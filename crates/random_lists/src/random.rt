@@ -6,7 +6,7 @@ use job::Job;
 use std::num::wrapping_add_u64;
 
 // What is counted over many jobs.
-#[derive(Drop)]
+#[derive(Clone, Copy)]
 struct Counts {
     jobs: Totals,
     plans: u64,

@@ -8,7 +8,7 @@ use job::refusal::{Refusal, Verdict};
 pub const NEVER: u32 = u32::MAX;
 
 // What is said of a pooled job, and the later end of the two jobs alone.
-#[derive(Drop)]
+#[derive(Clone, Copy)]
 pub struct Pooled {
     pub outcome: Outcome,
     pub alone: u32,

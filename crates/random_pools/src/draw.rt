@@ -29,7 +29,7 @@ const ACTIONS: usize = 3;
 const DEADLINE: u16 = 5;
 
 // Two jobs, and whether the second was made like the first, so that 33 is not told.
-#[derive(Drop)]
+#[derive(Clone, Copy)]
 pub struct Pair {
     pub first: Job,
     pub second: Job,

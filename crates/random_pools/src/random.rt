@@ -6,7 +6,7 @@ use compared::Totals;
 use std::num::wrapping_add_u64;
 
 // What is counted over many pairs.
-#[derive(Drop)]
+#[derive(Clone, Copy)]
 struct Counts {
     pairs: Totals,
     earlier: u64, // a plan, and it ends earlier than the later of both alone

@@ -12,7 +12,7 @@ use timeline::{Day, Plan};
 const BYTE: u32 = 256;
 
 // A job, the minute to which its day has come, and the new goal.
-#[derive(Drop)]
+#[derive(Clone, Copy)]
 pub struct Begun {
     pub job: Job,
     pub minute: u16,

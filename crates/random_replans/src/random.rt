@@ -7,7 +7,7 @@ use std::num::wrapping_add_u64;
 use timeline::Plan;
 
 // What is counted over many days.
-#[derive(Drop)]
+#[derive(Clone, Copy)]
 struct Counts {
     nothing: Totals, // no step is kept
     kept: Totals, // some step is kept

@@ -8,7 +8,7 @@ ghost use Rattle.reader.specs.View.{action_at};
 use crate::action::action_at;
 use job::Action;
 
-#[derive(Drop)]
+#[derive(Clone, Copy)]
 pub struct ActionsView<'a> {
     pub bytes: &'a [u8],
     pub size: usize,

@@ -19,7 +19,7 @@ const PLAN: usize = Plan::BYTES + 1;
 const LAST_MINUTE: u64 = u32::MAX as u64;
 
 // What is asked of the day: the minute from which it is planned anew, and the goal.
-#[derive(Drop)]
+#[derive(Clone, Copy)]
 struct Question {
     minute: u32,
     goal: u64,

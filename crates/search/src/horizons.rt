@@ -44,7 +44,7 @@ pub fn solve(sets: &[u64], numbers: &[u32], times: &[u32], file: &[u8], frame: F
 }
 
 // An answer, and the minute before which no plan ends.
-#[derive(Drop)]
+#[derive(Clone, Copy)]
 pub struct Rise {
     pub low: u32,
     pub answer: Answer,

@@ -4,7 +4,7 @@ ghost use Rattle.std.specs.Prelude.{◌<◌};
 use job::{Action, Counts, Job};
 
 // What is the same in every minute of a day.
-#[derive(Drop)]
+#[derive(Clone, Copy)]
 pub struct Day {
     pub goal: u64,
     pub counts: Counts,
@@ -23,7 +23,7 @@ impl Day {
 
 // The state of a day in a minute. An action clashes with itself, so at most one step of each action runs, and at most
 // one ends in a minute.
-#[derive(Drop)]
+#[derive(Clone, Copy)]
 pub struct State {
     pub facts: u64,
     pub minutes: [u32; Day::ACTIONS], // how long each action still runs, 0 where it doesn't run

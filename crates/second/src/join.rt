@@ -16,14 +16,14 @@ const BYTES: usize = 3;
 const BYTE: u32 = 256;
 
 // The number of a plan's steps, and its end.
-#[derive(Drop)]
+#[derive(Clone, Copy)]
 pub struct Extent {
     pub steps: usize,
     pub end: u32,
 }
 
 // The action of a step, and its start.
-#[derive(Drop)]
+#[derive(Clone, Copy)]
 struct Step {
     number: usize,
     start: u32,

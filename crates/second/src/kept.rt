@@ -12,7 +12,7 @@ const STEP: usize = 3;
 const BYTE: u32 = 256;
 
 // What the kept steps leave at the minute.
-#[derive(Drop)]
+#[derive(Clone, Copy)]
 pub struct Kept {
     pub state: State, // with the steps that still run
     pub end: u32, // the end of the kept steps, 0 for none

@@ -23,7 +23,7 @@ const DEADLINE: u16 = 60;
 const DECISIONS: u32 = 1_000_000;
 
 // The least end of the accepted plans, that there is none, that the job is refused, or that there is too much to try.
-#[derive(Drop)]
+#[derive(Clone, Copy)]
 pub enum Makespan {
     Ends(u32),
     NoPlan,
@@ -32,7 +32,7 @@ pub enum Makespan {
 }
 
 // Whether a plan was found, and how many decisions are left.
-#[derive(Drop)]
+#[derive(Clone, Copy)]
 struct Tried {
     found: bool,
     decisions: u32,

@@ -9,7 +9,7 @@ use crate::{DECISIONS, Makespan, day, kept, walk};
 use job::Job;
 
 // The least end, and how many plans are listed.
-#[derive(Drop)]
+#[derive(Clone, Copy)]
 pub struct Listed {
     pub end: Makespan,
     pub plans: u32,

@@ -6,7 +6,7 @@ use crate::day::{Day, State};
 const VALUES: usize = 256;
 
 // The first `count` of these actions and starts, in order. A start fits in a byte, since no deadline is over 60.
-#[derive(Drop)]
+#[derive(Clone, Copy)]
 pub struct Steps {
     pub numbers: [u8; Day::STEPS],
     pub starts: [u8; Day::STEPS],
@@ -38,7 +38,7 @@ impl Steps {
 }
 
 // A day, the state before any step, and the minute at which its plans end.
-#[derive(Drop)]
+#[derive(Clone, Copy)]
 pub struct Task {
     pub day: Day,
     pub before: State,
@@ -46,7 +46,7 @@ pub struct Task {
 }
 
 // The state at a minute, and whether each step so far was allowed to start.
-#[derive(Drop)]
+#[derive(Clone, Copy)]
 struct Replay {
     state: State,
     minute: u32,

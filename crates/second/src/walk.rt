@@ -8,7 +8,7 @@ use crate::{day, kept, steps};
 use std::num::wrapping_add_u32;
 
 // Some steps, their end, and the state that they leave in the minute that is being decided.
-#[derive(Drop)]
+#[derive(Clone, Copy)]
 struct Chosen {
     state: State,
     steps: Steps,
@@ -16,7 +16,7 @@ struct Chosen {
 }
 
 // How many plans are listed so far, and how many decisions are left.
-#[derive(Drop)]
+#[derive(Clone, Copy)]
 pub struct Found {
     pub plans: u32,
     pub decisions: u32,
@@ -61,7 +61,7 @@ fn longer(task: Task, chosen: Chosen, number: usize, left: u32) -> Chosen
 }
 
 // Whether a step of an action may start now; and then the steps with it, and the plans found with these.
-#[derive(Drop)]
+#[derive(Clone, Copy)]
 struct Attempt {
     starts: bool,
     chosen: Chosen,

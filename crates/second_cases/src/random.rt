@@ -6,7 +6,7 @@ use second::Makespan;
 use std::num::wrapping_add_u64;
 
 // What is counted over many jobs. No sum comes near 64 bits.
-#[derive(Drop)]
+#[derive(Clone, Copy)]
 struct Totals {
     invalid: u64, // jobs that fail one of tests 3 to 11
     plans: u64,

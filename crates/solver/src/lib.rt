@@ -20,7 +20,7 @@ use tables::{Frame, Steps};
 
 // What is asked of a job: with which facts the day starts and what its stores have, the goal, the first minute at which
 // new steps may start, and the kept steps, which start before it.
-#[derive(Drop)]
+#[derive(Clone, Copy)]
 pub struct Task {
     pub start: u64,
     pub stocks: [u32; Job::STORES],

@@ -9,7 +9,7 @@ use tables::layout::NumberTable;
 use tables::{Frame, Steps};
 
 // What the chosen steps use: of each pool in the minute before and in the minute now, and of each store over all.
-#[derive(Drop)]
+#[derive(Clone, Copy)]
 pub struct Uses {
     pub before: [u64; Job::POOLS],
     pub now: [u64; Job::POOLS],

@@ -8,7 +8,7 @@ use tables::Steps;
 use tables::layout::{NumberTable, SetTable};
 
 // Sets of a minute: by their numbers the actions that run in the minute before and those that start now, and facts.
-#[derive(Drop)]
+#[derive(Clone, Copy)]
 pub struct Minute {
     pub running: u64,
     pub held: u64, // what the steps that run in the minute before need

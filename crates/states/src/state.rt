@@ -5,7 +5,7 @@ use tables::Steps;
 
 // The chosen steps and what they use, the minute that the search stands at and the facts wanted then; the steps from
 // `since` on stop at that minute, and what more than one of them adds is `twice`.
-#[derive(Drop)]
+#[derive(Clone, Copy)]
 pub struct State {
     pub steps: Steps,
     pub minute: u16,

@@ -2,7 +2,7 @@
 use job::Job;
 
 // The table of sets.
-#[derive(Drop)]
+#[derive(Clone, Copy)]
 pub struct SetTable {}
 
 impl SetTable {
@@ -24,7 +24,7 @@ impl SetTable {
 }
 
 // The table of numbers.
-#[derive(Drop)]
+#[derive(Clone, Copy)]
 pub struct NumberTable {}
 
 impl NumberTable {

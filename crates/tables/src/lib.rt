@@ -14,7 +14,7 @@ use timeline::Plan;
 // the horizon, with the kept steps. New steps that start at the first free minute have the action's number `least` or
 // a later one; kept steps stand before them in the plan's order. The table of times counts from its origin; `given` are
 // facts that kept steps may have added, which no step has to add on the way to another fact.
-#[derive(Drop)]
+#[derive(Clone, Copy)]
 pub struct Frame {
     pub facts: u8,
     pub actions: usize,
@@ -66,7 +66,7 @@ impl Frame {
 }
 
 // The chosen steps, in the order in which they were chosen: each an action and its start.
-#[derive(Drop)]
+#[derive(Clone, Copy)]
 pub struct Steps {
     pub count: usize,
     pub numbers: [u8; Plan::STEPS],

@@ -9,7 +9,7 @@ use job::refusal::{Refusal, Verdict};
 use job::{Action, Counts, Job};
 
 // A step of a plan, with its action: it runs from `start` up to, and without, `stop`.
-#[derive(Drop)]
+#[derive(Clone, Copy)]
 pub struct Step {
     pub number: u8, // of its action
     pub action: Action,
@@ -31,7 +31,7 @@ impl Step {
 }
 
 // A plan of a job with these counts: its first `length` steps.
-#[derive(Drop)]
+#[derive(Clone, Copy)]
 pub struct Plan {
     pub counts: Counts,
     pub length: usize,
@@ -62,7 +62,7 @@ impl Plan {
 
 // What a call answers that checks a day or hands one out: its end, its number of steps, and for each pool the most that
 // is in use together. Beside a refusal all is zero.
-#[derive(Drop)]
+#[derive(Clone, Copy)]
 pub struct Day {
     pub verdict: Verdict,
     pub end: u32,

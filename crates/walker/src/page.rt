@@ -21,7 +21,7 @@ use tables::layout::{NumberTable, SetTable};
 use tables::{Frame, Steps};
 
 // Whether there is a plan at all, and the plan at the place, where the list has one there.
-#[derive(Drop)]
+#[derive(Clone, Copy)]
 pub struct Page {
     pub any: bool,
     pub answer: Answer,

@@ -11,7 +11,7 @@ use tables::{Frame, Steps};
 use timeline::Plan;
 
 // The plan at the place asked for; or how many places are left behind the plans that were met.
-#[derive(Drop)]
+#[derive(Clone, Copy)]
 pub struct Walk {
     pub left: u32,
     pub answer: Answer,
