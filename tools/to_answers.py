@@ -72,9 +72,10 @@ def use_lines(lines, text):
 class Function:
     def __init__(self, crate, path, entry, said):
         self.crate, self.path, self.entry, self.said = crate, path, entry, said
-        self.places = {}
-        for old, parent, step, _callee, _more in entry["places"]:
+        self.places, self.arms = {}, {}
+        for (old, parent, step, _callee, _more), arm in zip(entry["places"], entry["arms"]):
             self.places[norm(old)] = (norm(parent) if parent else None, step[0], step[1])
+            self.arms[norm(old)] = arm
         self.needs = {}
         for i, (old, new) in enumerate(entry["needs"]):
             self.needs.setdefault(norm(old), (new, norm(entry["asked_at"][i][0])))
@@ -89,24 +90,47 @@ class Function:
         parent, old, new = self.places[place]
         return new if old and norm(old) == norm(field) else None
 
+    def of_arm(self, place, field, rest):
+        """What an arm knows now of an enum that the old proof told apart: its variant, the values in it."""
+        arm = self.arms.get(place)
+        for new, step, old in arm[2] if arm else []:
+            if norm(step) == norm(field) and old and rest[:len(old)] == old:
+                return ".".join(["c", arm[0], new] + rest[len(old):])
+        return None
+
     def paths(self, text, place, where):
+        text = inlined(text)
         def turn(m):
             at = place
             for _ in range(m.group(1).count(".before")):
                 at = self.places[at][0] if at in self.places else None
-            field = m.group(2)
-            if field in ("args", "requires", "ranges", "well_formed", "lifetimes"):
-                return "c." + field
+            field, *rest = m.group(2)[1:].split(".")
+            if norm(field) in ("args", "requires", "ranges", "well_formed", "lifetimes"):
+                return ".".join(["c", norm(field)] + rest)
+            arm = self.of_arm(at, field, rest)
+            if arm:
+                return arm
             new = self.step(at, field)
             if new is None:
-                # an unread place stands beside the one that was read
                 self.said.append(f"{self.path}: {where}: no step {m.group(0)} at {at}")
-                return "c." + field
-            return "c." + new
-        text = re.sub(r"(?<![\w'.-])c((?:\.before)*)\.(?!before\b)([\w'₀-₉-]+)", turn, text)
+                return ".".join(["c", field] + rest)
+            return ".".join(["c", new] + rest)
+        text = re.sub(r"(?<![\w'.-])c((?:\.before)*)((?:\.(?!before\b)[\w'₀-₉-]+)+)", turn, text)
         if re.search(r"(?<![\w'.-])c\.before", text):
             self.said.append(f"{self.path}: {where}: a place is passed whole")
         return text
+
+
+def inlined(text):
+    """Without names for places: `let b = c.before in .. b.args` is `c.before.args`."""
+    while True:
+        m = re.search(r"\n? *let ([\w'-]+) = (c(?:\.before)+) in(?=[\s])", text)
+        if not m:
+            return text
+        before, after = text[:m.start()], text[m.end():]
+        name = m.group(1)
+        after = re.sub(r"(?<![\w'.-])" + re.escape(name) + r"(?![\w'-])", lambda _: m.group(2), after)
+        text = before + after
 
 
 def arguments(fn, loop, params, body, said):
@@ -165,6 +189,8 @@ def copied(crate, path, text):
         return {}
     wide = [n for n, t in parameters(crate, path) if not t.startswith("&") and (t.startswith("[") or t[:1].isupper())]
     named = [n for n in wide if not re.search(r"args\." + n + r"\b|\ba\." + n + r"\b", text)]
+    if len(named) == len(numbers):
+        return {f"t{n}": p for n, p in zip(numbers, named)}
     return {f"t{n}": named[n - 1] for n in numbers if n <= len(named)}
 
 

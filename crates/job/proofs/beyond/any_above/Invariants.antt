@@ -1,0 +1,24 @@
+-- `any_above` meets its contract: found among the first k amounts, of those that count.
+use Prim.Native.Nat.{ℕ, ◌-◌, ◌≤◌}
+use mathlib.Core.Path.{◌≡◌}
+use mathlib.Core.Bool.{Bool, ◌&&◌}
+use mathlib.Core.List.{List}
+use lib.Dec.{ltb}
+use lib.ListN.{get_or}
+use Rattle.lists.specs.Lists.{any_below}
+use Rattle.job.specs.Valid.{over}
+use Rattle.job.proofs.beyond.any_above.Given as goal
+
+-- the amount at place k is over its limit
+abbrev pub aboveAt : List ℕ → List ℕ → ℕ → Bool
+aboveAt limits amounts k = over (get_or limits k 0) (get_or amounts k 0)
+
+-- and it is one of the first n
+abbrev pub countsAt : ℕ → List ℕ → List ℕ → ℕ → Bool
+countsAt n limits amounts k = ltb k n && aboveAt limits amounts k
+
+abbrev pub invariant-loop-k : goal.invariant-loop-k
+invariant-loop-k l = (l.k ≤ 4) × (l.found ≡ any_below l.k (countsAt l.n l.limits l.amounts))
+
+abbrev pub decreases-loop-k : goal.decreases-loop-k
+decreases-loop-k l = 4 - l.k

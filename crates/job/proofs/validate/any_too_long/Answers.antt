@@ -1,0 +1,32 @@
+-- `any_too_long` meets its contract: found among the first k handovers, of those that count.
+use mathlib.Core.Path.{◌≡◌, refl, ap, sym, ◌∙◌}
+use mathlib.Core.Bool.{Bool, ◌||◌, or_comm}
+use lib.ListN.{get_or}
+use Rattle.lists.specs.Lists.{any_below}
+use Rattle.lists.proofs.Below.{below_more, below_cut, any_below_lem}
+use Rattle.job.specs.Valid.{over}
+use native.Mathlib.Omega.{arith}
+use Rattle.job.proofs.validate.any_too_long.Invariants.{countsAt}
+use Rattle.job.proofs.validate.any_too_long.Goals as goal
+
+pub loop-k-init : goal.loop-k-init
+loop-k-init c = (omega arith, refl)
+
+pub loop-k-preserved : goal.loop-k-preserved
+loop-k-preserved c =
+    let a = c.args in
+    let l = c.loop-k in
+    let test = countsAt a.n a.handovers in (
+      omega arith,
+      ap (λ (b : Bool). b || test l.k) l.invariant.1
+          ∙ or_comm (any_below l.k test) (test l.k)
+          ∙ sym (below_more l.k test),
+    )
+
+pub returns : goal.returns
+returns c =
+    let a = c.args in
+    let l = c.loop-k in
+    let e : l.k ≡ 4 = omega arith in
+    (rw e at l.invariant.1) ∙ below_cut a.n 4 (λ k. over 30 (get_or a.handovers k 0)) (omega arith)
+    ∙ sym (any_below_lem (over 30) a.n (λ k. get_or a.handovers k 0))
