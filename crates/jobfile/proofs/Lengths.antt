@@ -1,13 +1,13 @@
 -- The lengths of a file and of its bodies.
 -- Assumes nothing.
 use Prim.Native.Nat.{ℕ, ◌+◌, ◌*◌, ◌≤◌}
-use mathlib.Core.Path.{◌≡◌, refl, sym, ap, ap₂, ◌∙◌}
+use mathlib.Core.Path.{◌≡◌, refl, ap, ap₂, ◌∙◌}
 use mathlib.Core.List.{List, [], ◌∷◌, ◌++◌, append-nil}
 use native.Mathlib.Nat.{mul-le-mul}
 use native.Mathlib.Omega.{arith}
 use lib.ListN.{length, get_or, length-append}
 use Rattle.lists.proofs.Bools.{absurd}
-use Rattle.lists.proofs.Tabulate.{length_tabulate, each_all, each_map}
+use Rattle.lists.proofs.Tabulate.{each_all, each_map}
 use Rattle.encoding.specs.Bytes.{to_bytes, joined}
 use Rattle.encoding.proofs.Numbers.{length_bytes}
 use Rattle.encoding.proofs.Pieces.{length_joined}
@@ -17,7 +17,7 @@ use Rattle.job.specs.declared.Form.{Form}
 use Rattle.job.specs.declared.Form.TheVariants.{Four, Five, Six}
 use Rattle.job.specs.declared.StoreRule.{StoreRule}
 use Rattle.job.specs.declared.StoreRule.TheVariants.{PerStep, PerHour}
-use Rattle.job.proofs.Values.{few_handovers_lem, few_shortest_lem, Shaped, Shape, job_in_shape}
+use Rattle.job.proofs.Values.{few_handovers_lem, few_shortest_lem, Shaped, Shape}
 use Rattle.jobfile.specs.File.{reserve_bytes, head_bytes, amount_bytes, action_bytes, minute_bytes, extra_bodies}
 use Rattle.jobfile.specs.File.{bodies, contents, file_of_bodies, file_of, action_size, layout_of, places_of}
 
