@@ -1,7 +1,7 @@
 -- What is answered of a day, and the reply that it makes.
 -- Assumes nothing.
 use Prim.Native.Nat.{ℕ, ◌*◌, ◌/◌, ◌≤◌}
-use mathlib.Core.Path.{◌≡◌, refl, ap, ◌∙◌}
+use mathlib.Core.Path.{◌≡◌, refl, ap}
 use mathlib.Core.List.{List}
 use native.Mathlib.Omega.{arith}
 use lib.ListN.{length}
@@ -14,7 +14,7 @@ use Rattle.job.specs.Refusal.{reply_by}
 use Rattle.timeline.specs.Step.{Step, steps_in}
 use Rattle.timeline.specs.Timeline.{end, peaks}
 use Rattle.timeline.specs.declared.Day.{Day}
-use Rattle.timeline.specs.Day.{Told, told_of, no_day, day_of, day_reply}
+use Rattle.timeline.specs.Day.{told_of, no_day, day_of, day_reply}
 
 -- the verdict of a day is that of the tests that it was made by
 pub verdict_of_day : (v : Verdict) (J : Job) (P : List Step) (day : Day) → day ≡ day_of v J P → day.verdict ≡ v

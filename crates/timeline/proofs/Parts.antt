@@ -38,6 +38,7 @@ part_length (one_more i k) = let a = length_place i in let b = part_length k in 
 pub part_member : {x : Step} {Q R P : List Step} → Part R P → Place x Q R → Member x P
 part_member (one_more i k) here = (_, i)
 part_member (one_more i k) (there j) = let r = part_member k j in place_wider i r.1
+part_member {Q = Q} (nothing {P = P}) x5 = elim x5 [ ]
 
 pub part_each : (F : Step → Type 0) {R P : List Step} → Part R P → EachStep F P → EachStep F R
 part_each F k h x Q i = let r = part_member k i in h x r.0 r.1

@@ -48,6 +48,7 @@ permutation_rest (next_step_lem i k) (there j) =
     let r = permutation_rest k j in
     let e = place_exchange i r.1 in
     (e.0, e.1, next_step_lem e.2 r.2)
+permutation_rest {Q = Q} empty x5 = elim x5 [ ]
 
 pub permutation_trans : {R P K : List Step} → Permutation R P → Permutation P K → Permutation R K
 permutation_trans empty l = l
@@ -66,6 +67,7 @@ permutation_swap (x ∷ N) K = next_step_lem (place_after K here) (permutation_s
 pub permutation_member : {x : Step} {Q R P : List Step} → Permutation R P → Place x Q R → Member x P
 permutation_member (next_step_lem i k) here = (_, i)
 permutation_member (next_step_lem i k) (there j) = let r = permutation_member k j in place_wider i r.1
+permutation_member {Q = Q} empty x5 = elim x5 [ ]
 
 pub permutation_each : (F : Step → Type 0) {R P : List Step} → Permutation R P → EachStep F P → EachStep F R
 permutation_each F k h x Q i = let r = permutation_member k i in h x r.0 r.1

@@ -67,6 +67,7 @@ each_wider F i h y R j = let r = place_wider i j in h y r.0 r.1
 pub each_step : (F : Step → Type 0) (P : List Step) → Each F P → EachStep F P
 each_step F (y ∷ P) e x Q here = e.0
 each_step F (y ∷ P) e x Q (there {Q = R} i) = each_step F P e.1 x R i
+each_step F [] e x Q x4 = elim x4 [ ]
 
 pub each_map : (F : Step → Type 0) (f : Step → Step) (P : List Step) → EachStep (λ x. F (f x)) P → EachStep F (map f P)
 each_map F f [] h = each_step F [] tt

@@ -1,7 +1,6 @@
 -- A plan by value, step by step.
 -- Assumes nothing.
 use Prim.Native.Nat.{ℕ, ◌<◌}
-use mathlib.Core.Path.{◌≡◌}
 use native.Mathlib.Omega.{arith}
 use Rattle.lists.specs.Lists.{Each}
 use Rattle.lists.proofs.Tabulate.{each_at, get_d_tabulate, length_tabulate}

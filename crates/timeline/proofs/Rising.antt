@@ -74,6 +74,7 @@ rising_before x (y ∷ P) h z Q here = and_left (before x y) (strictly_rising (y
 rising_before x (y ∷ P) h z Q (there {Q = R} i) =
     before_trans x y z (and_left (before x y) (strictly_rising (y ∷ P)) h)
     (rising_before y P (and_right (before x y) (strictly_rising (y ∷ P)) h) z R i)
+rising_before x [] h z Q x5 = elim x5 [ ]
 
 pub rising_cons : (x : Step) (P : List Step) → EachStep (λ y. before x y ≡ true) P → strictly_rising P ≡ true
     → strictly_rising (x ∷ P) ≡ true

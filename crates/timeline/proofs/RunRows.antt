@@ -1,8 +1,8 @@
 -- Tests 12 to 19 are tests 12 to 20 for the empty goal.
 -- Assumes nothing.
 use Prim.Native.Nat.{ℕ}
-use mathlib.Core.Path.{◌≡◌, refl, ap}
-use mathlib.Core.Bool.{Bool, false, not}
+use mathlib.Core.Path.{◌≡◌, ap}
+use mathlib.Core.Bool.{false, not}
 use mathlib.Core.List.{List, ◌∷◌, ◌++◌}
 use Rattle.facts.proofs.SetLaws.{zero_subset}
 use Rattle.job.specs.Job.{Job}
