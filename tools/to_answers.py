@@ -73,9 +73,15 @@ class Function:
     def __init__(self, crate, path, entry, said):
         self.crate, self.path, self.entry, self.said = crate, path, entry, said
         self.places, self.arms = {}, {}
-        for (old, parent, step, _callee, _more), arm in zip(entry["places"], entry["arms"]):
+        self.callees = {}
+        for (old, parent, step, callee, _more), arm in zip(entry["places"], entry["arms"]):
             self.places[norm(old)] = (norm(parent) if parent else None, step[0], step[1])
+            self.callees[norm(old)] = callee
             self.arms[norm(old)] = arm
+        self.asked = {}
+        for i, (old, new) in enumerate(entry["needs"]):
+            if old in entry["asked"]:
+                self.asked[new] = entry["asked"][old]
         self.needs = {}
         for i, (old, new) in enumerate(entry["needs"]):
             self.needs.setdefault(norm(old), (new, norm(entry["asked_at"][i][0])))
@@ -105,32 +111,118 @@ class Function:
             for _ in range(m.group(1).count(".before")):
                 at = self.places[at][0] if at in self.places else None
             field, *rest = m.group(2)[1:].split(".")
-            if norm(field) in ("args", "requires", "ranges", "well_formed", "lifetimes"):
+            if norm(field) == "requires":
+                fields = (self.entry["pre"] or {}).get("fields", [])
+                return ".".join(["c", "requires"] + by_name(fields, rest))
+            if norm(field) in ("args", "ranges", "well_formed", "lifetimes"):
                 return ".".join(["c", norm(field)] + rest)
             arm = self.of_arm(at, field, rest)
             if arm:
                 return arm
-            new = self.step(at, field)
+            up = at
+            while up in self.places and self.step(up, field) is None:
+                up = self.places[up][0]
+            if up not in self.places:
+                up = place
+                while up in self.places and self.step(up, field) is None:
+                    up = self.places[up][0]
+            arm = self.of_arm(up, field, rest)
+            if arm:
+                return arm
+            new = self.step(up, field)
+            if rest[:1] == ["ensures"]:
+                rest = rest[:1] + by_name(named_clauses("ensures", self.callees.get(up)), rest[1:])
             if new is None:
                 self.said.append(f"{self.path}: {where}: no step {m.group(0)} at {at}")
                 return ".".join(["c", field] + rest)
             return ".".join(["c", new] + rest)
         text = re.sub(r"(?<![\w'.-])c((?:\.before)*)((?:\.(?!before\b)[\w'₀-₉-]+)+)", turn, text)
+        text = re.sub(r"\bnot-(true|false) _ (c\.if-not-[\w'₀-₉-]+\.\1)", r"\2", text)
+        text = re.sub(r"(?<!\) )(?<!not )(c\.if-not-[\w'₀-₉-]+\.(?:true|false))", r"\1", text)
+        text = re.sub(r"ap not \(sym ([^()]+)\) ∙ (c\.if-not-[\w'₀-₉-]+\.(?:true|false))", r"ap not (sym \1 ∙ \2)", text)
         if re.search(r"(?<![\w'.-])c\.before", text):
             self.said.append(f"{self.path}: {where}: a place is passed whole")
         return text
 
 
 def inlined(text):
-    """Without names for places: `let b = c.before in .. b.args` is `c.before.args`."""
+    """Without names for places and steps: `let b = c.before in .. b.args` is `c.before.args`, and so is `let c-args = ..`."""
     while True:
-        m = re.search(r"\n? *let ([\w'-]+) = (c(?:\.before)+) in(?=[\s])", text)
+        m = re.search(r"\n? *let (c-[\w'-]+) = (c(?:\.[\w'₀-₉-]+)+) in(?=[\s])", text)
+        m = m or re.search(r"\n? *let ([\w'-]+) = (c(?:\.before)+) in(?=[\s])", text)
+        m = m or re.search(r"\n? *let ([\w'-]+) = (c(?:\.before)*\.[\w-]*(?:told|known)[\w-]*) in(?=[\s])", text)
         if not m:
             return text
         before, after = text[:m.start()], text[m.end():]
         name = m.group(1)
         after = re.sub(r"(?<![\w'.-])" + re.escape(name) + r"(?![\w'-])", lambda _: m.group(2), after)
         text = before + after
+
+
+def parts_of(text):
+    """The parts of a tuple in parentheses, outermost; [] where the text is none."""
+    text = text.strip()
+    if not text.startswith("(") or not text.endswith(")"):
+        return []
+    deep, parts, part = 0, [], ""
+    for i, ch in enumerate(text):
+        deep += ch in "([{"
+        deep -= ch in ")]}"
+        if deep == 0 and i + 1 < len(text):
+            return []
+        if (ch == "," and deep == 1):
+            parts.append(part)
+            part = ""
+        elif not (i == 0 or i + 1 == len(text)):
+            part += ch
+    if part.strip():
+        parts.append(part)
+    return [p.strip() for p in parts]
+
+
+def as_record(body, fields):
+    """An answer to a goal of several clauses: its last tuple becomes a record."""
+    for at in [m.start() for m in re.finditer(r"\(", body)]:
+        parts = parts_of(body[at:])
+        if parts:
+            while len(parts) < len(fields) and len(parts_of(parts[-1])) == 2:
+                parts = parts[:-1] + parts_of(parts[-1])
+            if len(parts) == len(fields):
+                inside = " ".join(f"{f} = {p};" for f, p in zip(fields, parts))
+                return body[:at] + "record { " + inside + " }"
+            return body
+    return body
+
+
+CLAUSES = {}
+
+
+def named_clauses(kind, callee):
+    """The names of a function's clauses of one kind, from its source; [] where it has one with no name."""
+    if not CLAUSES:
+        for folder, inner, names in os.walk("crates"):
+            inner[:] = [d for d in inner if d not in ("out", "proofs", "specs", "must-fail")]
+            for f in names:
+                if f.endswith(".rt"):
+                    text = open(os.path.join(folder, f), encoding="utf-8").read()
+                    crate = folder.split("/")[1]
+                    for m in re.finditer(r"\bfn (\w+)[^{]*?\)(?:[^{;]*?)((?:\s+(?:requires|ensures)\*? (?:\w+ )?\{.*?\}(?=\n))+)", text, re.S):
+                        for k in ("requires", "ensures"):
+                            found = re.findall(r"^\s+" + k + r" (\w+) \{", m.group(2), re.M)
+                            if found:
+                                CLAUSES[(k, crate, m.group(1))] = found
+        CLAUSES[None] = []
+    parts = callee.split("::") if callee else ["", ""]
+    return CLAUSES.get((kind, parts[0], parts[-1]), [])
+
+
+def by_name(fields, rest):
+    """A path into clauses that were once a tuple: `.1.0` of three is the second's name."""
+    for i, field in enumerate(fields):
+        at = ["1"] * i + (["0"] if i + 1 < len(fields) else [])
+        if rest[:len(at)] == at:
+            return [field] + rest[len(at):]
+    return rest
 
 
 def arguments(fn, loop, params, body, said):
@@ -256,6 +348,8 @@ def convert(crate, folder, entry, path, said):
             if m2 and re.sub(r"\s+", " ", body[m2.end():]).strip() in EASY:
                 continue
             body = fn.paths(body, place, goal)
+            if goal in fn.asked:
+                body = as_record(body, fn.asked[goal])
             answers.append("\n".join(notes + [f"pub {goal} : goal.{goal}"] + unfolding + [body]))
             continue
         helpers.append("\n".join(lines))

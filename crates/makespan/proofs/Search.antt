@@ -73,6 +73,7 @@ can_follow_lem J goal minute T P x F late in_time pass =
     earlier : (P : List Step) → strictly_rising (P ++ (x ∷ F)) ≡ true → EachStep (λ y. before y x ≡ true) P
     earlier (z ∷ P) h y Q here = rising_before z (P ++ (x ∷ F)) h x _ (place_after P here)
     earlier (z ∷ P) h y Q (there {Q = R} i) = earlier P (rising_rest z (P ++ (x ∷ F)) h) y R i
+    earlier [] h y Q x4 = elim x4 [ ]
 
 -- a step of the job that passes a test is found, and what is found is a step of the job
 module _ (J : Job) (minute T : ℕ) (P : List Step) (test : Step → Bool) where
@@ -84,9 +85,9 @@ module _ (J : Job) (minute T : ℕ) (P : List Step) (test : Step → Bool) where
       (subst (λ (y : Step). follows_with minute T P test y ≡ true) own
       (both_pass (can_follow minute T P x) (test x) follows passed)))
 
-  some_next : some_next J minute T P test ≡ true
+  some_next_lem : some_next J minute T P test ≡ true
       → (x : Step) × OfJob J x × (x.stop ≤ T) × (minute ≤ x.start) × (test x ≡ true)
-  some_next h =
+  some_next_lem h =
       let s = below_some T _ h in
       let n = below_some (length J.actions) _ s.2 in
       let x = step_of J n.0 s.0 in
@@ -131,7 +132,7 @@ module _ (J : Job) (goal minute T : ℕ) where
   completion_of_completable (suc n) P h =
       ⊎_elim (λ now. completion_of_pass (suc n) P now)
       (λ more.
-      let next = some_next J minute T P (λ x. completable J goal minute T n (P ++ (x ∷ []))) more in
+      let next = some_next_lem J minute T P (λ x. completable J goal minute T n (P ++ (x ∷ []))) more in
       let x : Step = next.0 in
       let rest = completion_of_completable n (P ++ (x ∷ [])) next.4 in
       let few = rest.few in

@@ -1,0 +1,23 @@
+-- `peak` meets its contract: the most that is in use at the first i starts.
+use Prim.Native.Nat.{ℕ, ◌-◌, ◌≤◌}
+use mathlib.Core.Path.{◌≡◌}
+use Rattle.lists.specs.Lists.{tabulate}
+use Rattle.job.specs.Job.{Job}
+use Rattle.job.specs.Resources.{handover}
+use Rattle.timeline.specs.Step.{Step, largest}
+use Rattle.timeline.specs.Timeline.{in_use}
+use Rattle.timeline.specs.Value.{step_at, steps_of}
+use Rattle.timeline.specs.declared.Plan.{Plan}
+use Rattle.checker.proofs.pools.peak.Given as goal
+
+-- what is in use of the pool where a step starts
+abbrev pub usedAt : Job → Plan → ℕ → Step → ℕ
+usedAt J plan pool x = in_use J pool x.start (steps_of plan)
+
+abbrev pub invariant-loop-i : goal.invariant-loop-i
+invariant-loop-i l =
+    (l.i ≤ l.plan.length)
+    × ((J : Job) → handover J l.pool ≡ l.handover → l.most ≡ largest (usedAt J l.plan l.pool) (tabulate l.i (step_at l.plan)))
+
+abbrev pub decreases-loop-i : goal.decreases-loop-i
+decreases-loop-i l = l.plan.length - l.i

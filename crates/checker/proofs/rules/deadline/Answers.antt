@@ -1,0 +1,35 @@
+-- `deadline` meets its contract: none of the first i steps stops late.
+use mathlib.Core.Path.{◌≡◌, sym}
+use mathlib.Core.List.{[]}
+use borrow.Author.Tests.{lt-ltb, le-ltb}
+use Rattle.lists.proofs.Any.{any_start, any_more, any_found}
+use Rattle.job.specs.declared.refusal.Refusal.TheVariants.{AfterDeadline}
+use Rattle.job.specs.Refusal.{first}
+use Rattle.job.specs.Valid.{over}
+use Rattle.job.proofs.Table.{first_here, first_next}
+use Rattle.timeline.specs.Value.{step_at}
+use native.Mathlib.Omega.{arith}
+use Rattle.checker.proofs.rules.deadline.Goals as goal
+
+pub loop-i-init : goal.loop-i-init
+loop-i-init c = (omega arith, any_start (λ x. over c.args.limit x.stop) (step_at c.args.plan))
+
+pub returns-then-limit-step : goal.returns-then-limit-step
+returns-then-limit-step c =
+    let p = c.args.plan in
+    sym (first_here AfterDeadline _ []
+    (any_found (λ x. over c.args.limit x.stop) (step_at p) c.loop-i.i p.length (omega arith)
+    (lt-ltb _ _ c.if-limit-step.true)))
+
+pub loop-i-preserved : goal.loop-i-preserved
+loop-i-preserved c = (
+      omega arith,
+      any_more (λ x. over c.args.limit x.stop) (step_at c.args.plan) c.loop-i.i c.loop-i.invariant.1
+          (le-ltb _ _ c.if-limit-step.false),
+    )
+
+pub returns : goal.returns
+unfolding first
+returns c =
+    let e : c.loop-i.i ≡ c.args.plan.length = omega arith in
+    sym (first_next AfterDeadline _ [] (rw e at c.loop-i.invariant.1))

@@ -1,0 +1,16 @@
+-- `stores` meets its contract: none of the first k stores is exceeded.
+use Prim.Native.Nat.{◌-◌, ◌≤◌}
+use mathlib.Core.Path.{◌≡◌}
+use mathlib.Core.Bool.{false}
+use Rattle.lists.specs.Lists.{any_below}
+use Rattle.job.specs.Job.{job_in}
+use Rattle.timeline.specs.Accepted.{exceeds_store}
+use Rattle.timeline.specs.Value.{steps_of}
+use Rattle.checker.proofs.rules.stores.Given as goal
+
+abbrev pub invariant-loop-k : goal.invariant-loop-k
+invariant-loop-k l =
+    (l.k ≤ l.counts.stores) × (any_below l.k (exceeds_store (job_in l.job) (steps_of l.plan)) ≡ false)
+
+abbrev pub decreases-loop-k : goal.decreases-loop-k
+decreases-loop-k l = l.counts.stores - l.k

@@ -1,0 +1,24 @@
+-- `amounts` meets its contract: the first i are written.
+use Prim.Native.Nat.{ℕ, ◌+◌, ◌-◌, ◌*◌}
+use mathlib.Core.Path.{◌≡◌, refl}
+use lib.ListN.{get_or}
+use Rattle.encoding.specs.Bytes.{to_bytes}
+use Rattle.encoding.proofs.Numbers.{length_bytes}
+use Rattle.encoding.proofs.Overwrite.{pieces_none, pieces_more}
+use native.Mathlib.Omega.{arith}
+use Rattle.writer.proofs.encode.amounts.Goals as goal
+
+pub loop-i-init : goal.loop-i-init
+loop-i-init c =
+    let f : ℕ → ℕ = λ k. get_or c.args.xs k 0 in
+    (omega arith, pieces_none (to_bytes 4) f 4 (λ k. length_bytes 4 (f k)) _ _, refl)
+
+pub shape_of-out : goal.shape_of-out
+shape_of-out c = c.loop-i.invariant.2
+
+pub returns : goal.returns
+returns c =
+    let c-args = c.args in
+    let c-loop = c.loop-i in
+    let e : c-loop.i ≡ c-args.n = omega arith in
+    rw e at c-loop.invariant.1
