@@ -293,6 +293,9 @@ def convert(crate, folder, entry, path, said):
     to = copied(crate, path, text)
     if to:
         text = re.sub(r"\.(t\d)\b", lambda m: "." + to.get(m.group(1), m.group(1)), text)
+    lent = [n for n, t in parameters(crate, path) if t.startswith("&mut [")]
+    if lent:
+        text = re.sub(r"\.auto\.0\b", ".auto." + lent[0], text)
     uses, head, invariants, answers, helpers = [], [], [], [], []
     for n, piece in enumerate(declarations(text)):
         lines = [l for l in piece if not l.startswith("use ")]

@@ -9,23 +9,16 @@ use Rattle.writer.proofs.encode.action.Goals as goal
 
 pub returns : goal.returns
 returns c =
-    let c-args = c.args in
-    let c-pre = c.requires in
-    let c-write-number = c.write_number in
-    let c-write-number2 = c.write_number-2 in
-    let c-write-number3 = c.write_number-3 in
-    let c-write-number4 = c.write_number-4 in
-    let c-amounts = c.amounts in
-    let a = c-args in
-    let h = c-pre in
+    let a = c.args in
+    let h = c.requires in
     let n = length_tabulate a.counts.pools (λ k. get_or a.a.pools k 0) in
     rw (
       c.amounts-2.ensures,
-      c-amounts.ensures,
-      c-write-number4.ensures,
-      c-write-number3.ensures,
-      c-write-number2.ensures,
-      c-write-number.ensures,
+      c.amounts.ensures,
+      c.write_number-4.ensures,
+      c.write_number-3.ensures,
+      c.write_number-2.ensures,
+      c.write_number.ensures,
     )
     (write_action a.out.now a.at (action_in a.counts a.a) (a.at + 25 + 4 * a.counts.pools) (omega arith)
     (omega arith))

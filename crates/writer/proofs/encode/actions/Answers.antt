@@ -1,5 +1,5 @@
 -- `actions` meets its contract: the first i are written.
-use Prim.Native.Nat.{◌+◌, ◌-◌, ◌*◌}
+use Prim.Native.Nat.{◌+◌, ◌*◌}
 use mathlib.Core.Path.{◌≡◌, refl}
 use Rattle.encoding.proofs.Pieces.{piece_below}
 use Rattle.encoding.proofs.Overwrite.{pieces_none, pieces_more}
@@ -35,12 +35,25 @@ action-requires c =
     let w = piece_below a.job.counts.actions a.size _ c.loop-i-test.true in
     (c.requires.0, omega arith)
 
+pub loop-i-preserved : goal.loop-i-preserved
+loop-i-preserved c =
+    let a = c.args in
+    let l = c.loop-i in
+    let h = c.requires in
+    let w = piece_below a.job.counts.actions a.size l.i c.loop-i-test.true in
+    let k = c.action.auto.out in
+    let z = action_size a.job.counts.pools a.job.counts.stores in (
+      omega arith,
+      rw (c.action.ensures, l.invariant.1)
+          (pieces_more action_bytes (action_at a.job) z (length_action_at a.job) a.out.now a.at l.i
+          (a.at + l.i * a.size) (rw h.1) (omega arith)),
+      omega arith,
+    )
+
 pub shape_of-out : goal.shape_of-out
 shape_of-out c = c.loop-i.invariant.2
 
 pub returns : goal.returns
 returns c =
-    let c-args = c.args in
-    let c-loop = c.loop-i in
-    let e : c-loop.i ≡ c-args.job.counts.actions = omega arith in
-    rw e at c-loop.invariant.1
+    let e : c.loop-i.i ≡ c.args.job.counts.actions = omega arith in
+    rw e at c.loop-i.invariant.1

@@ -1,5 +1,5 @@
 -- `contents` meets its contract: the first k numbers are written.
-use Prim.Native.Nat.{ℕ, ◌-◌, ◌*◌}
+use Prim.Native.Nat.{ℕ, ◌*◌}
 use mathlib.Core.Path.{◌≡◌, refl}
 use lib.ListN.{get_or}
 use Rattle.encoding.specs.Bytes.{to_bytes}
@@ -13,12 +13,24 @@ loop-k-init c =
     let f : ℕ → ℕ = λ k. get_or c.args.xs k 0 in
     (omega arith, pieces_none (to_bytes 2) f 2 (λ k. length_bytes 2 (f k)) _ _, refl)
 
+pub loop-k-preserved : goal.loop-k-preserved
+loop-k-preserved c =
+    let l = c.loop-k in
+    let a = c.args in
+    let f : ℕ → ℕ = λ k. get_or a.xs k 0 in
+    let k = c.write_number.auto.out in (
+      omega arith,
+      rw (c.write_number.ensures, l.invariant.1)
+          (pieces_more (to_bytes 2) f 2 (λ k. length_bytes 2 (f k)) a.out.now 0 l.k (2 * l.k) (omega arith)
+          (omega arith)),
+      omega arith,
+    )
+
 pub shape_of-out : goal.shape_of-out
 shape_of-out c = c.loop-k.invariant.2
 
 pub returns : goal.returns
 returns c =
-    let c-args = c.args in
     let l = c.loop-k in
-    let e : l.k ≡ c-args.n = omega arith in
+    let e : l.k ≡ c.args.n = omega arith in
     rw e at l.invariant.1

@@ -10,82 +10,69 @@ use Rattle.writer.proofs.encode.file.Goals as goal
 
 pub overflow_mul-entries : goal.overflow_mul-entries
 overflow_mul-entries c =
-    let c-args = c.args in
-    let most = most_entries c-args.job.form in
+    let most = most_entries c.args.job.form in
     rw c.entries.ensures (omega arith)
 
 pub contents-requires : goal.contents-requires
 contents-requires c =
-    let c-args = c.args in
-    let c-pre = c.requires in
-    let r = room_for_parts c-args.job _ _ _ c-pre.0 c-pre.1 in
-    let most = most_entries c-args.job.form in
+    let r = room_for_parts c.args.job _ _ _ c.requires.0 c.requires.1 in
+    let most = most_entries c.args.job.form in
     let n = c.entries.ensures in
     (omega arith, omega arith)
 
 pub head-requires : goal.head-requires
 head-requires c =
-    let c-args = c.args in
-    let c-pre = c.requires in
-    let r = room_for_parts c-args.job _ _ _ c-pre.0 c-pre.1 in
+    let r = room_for_parts c.args.job _ _ _ c.requires.0 c.requires.1 in
     omega arith
 
 pub amounts-requires : goal.amounts-requires
 amounts-requires c =
-    let c-args = c.args in
-    let c-pre = c.requires in
-    let r = room_for_parts c-args.job _ _ _ c-pre.0 c-pre.1 in
-    (c-pre.0.0, omega arith)
+    let r = room_for_parts c.args.job _ _ _ c.requires.0 c.requires.1 in
+    (c.requires.0.0, omega arith)
 
 pub amounts-requires-2 : goal.amounts-requires-2
 amounts-requires-2 c =
-    let c-args = c.args in
-    let c-pre = c.requires in
-    let r = room_for_parts c-args.job _ _ _ c-pre.0 c-pre.1 in
-    (c-pre.0.1, omega arith)
+    let r = room_for_parts c.args.job _ _ _ c.requires.0 c.requires.1 in
+    (c.requires.0.1, omega arith)
 
 pub actions-requires : goal.actions-requires
 actions-requires c =
-    let c-args = c.args in
-    let c-pre = c.requires in
-    let c-action-size = c.action_size-size in
-    let r = room_for_parts c-args.job _ _ _ c-pre.0 c-pre.1 in
-    (c-pre.0, c-action-size.ensures, rw c-action-size.ensures (omega arith))
+    let r = room_for_parts c.args.job _ _ _ c.requires.0 c.requires.1 in
+    (c.requires.0, c.action_size-size.ensures, rw c.action_size-size.ensures (omega arith))
 
 pub handovers-requires : goal.handovers-requires
 handovers-requires c =
-    let c-args = c.args in
-    let c-pre = c.requires in
-    let r = room_for_parts c-args.job _ _ _ c-pre.0 c-pre.1 in
+    let r = room_for_parts c.args.job _ _ _ c.requires.0 c.requires.1 in
+    (omega arith, omega arith)
+
+pub shortest-requires : goal.shortest-requires
+shortest-requires c =
+    let r = room_for_parts c.args.job _ _ _ c.requires.0 c.requires.1 in
+    let kept0 = c.contents.auto.out in
+    let kept1 = c.head.auto.out in
+    let kept2 = c.amounts.auto.out in
+    let kept3 = c.amounts-2.auto.out in
+    let kept4 = c.actions.auto.out in
+    let kept5 = c.handovers.auto.out in
     (omega arith, omega arith)
 
 pub returns : goal.returns
 returns c =
-    let c-args = c.args in
-    let c-pre = c.requires in
-    let c-numbers = c.numbers-entries in
-    let c-entries = c.entries in
-    let c-contents = c.contents in
-    let c-head = c.head in
-    let c-amounts = c.amounts in
-    let c-amounts2 = c.amounts-2 in
-    let c-actions = c.actions in
-    let c-handovers = c.handovers in
-    let a = c-args in
-    let room = c-pre.1 in
-    let xs = c-numbers.result in
-    let numbers = ap (λ (n : ℕ). firsts (2 * n) 0 xs) c-entries.ensures
-    ∙ ap (firsts (2 * entries a.job.form) 0) c-numbers.ensures
+    let a = c.args in
+    let room = c.requires.1 in
+    let xs = c.numbers-entries.result in
+    let numbers = ap (λ (n : ℕ). firsts (2 * n) 0 xs) c.entries.ensures
+    ∙ ap (firsts (2 * entries a.job.form) 0) c.numbers-entries.ensures
     ∙ numbers_are a.job a.layout a.at a.out.now room in
     rw (
       c.shortest.ensures,
-      c-handovers.ensures,
-      c-actions.ensures,
-      c-amounts2.ensures,
-      c-amounts.ensures,
-      c-head.ensures,
-      c-contents.ensures,
+      c.handovers.ensures,
+      c.actions.ensures,
+      c.amounts-2.ensures,
+      c.amounts.ensures,
+      c.head.ensures,
+      c.contents.ensures,
     )
-    (write_whole a.job a.layout a.at a.out.now room (firsts (2 * c-entries.result) 0 xs) _ _ numbers
+    (write_whole a.job a.layout a.at a.out.now room (firsts (2 * c.entries.result) 0 xs) _ _ numbers
     (handovers_are a.job a.layout a.at a.out.now room)
     (shortest_are a.job a.layout a.at a.out.now room))

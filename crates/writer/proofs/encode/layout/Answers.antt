@@ -8,27 +8,20 @@ use Rattle.writer.proofs.encode.layout.Goals as goal
 
 pub overflow_mul-result-3 : goal.overflow_mul-result-3
 overflow_mul-result-3 c =
-    let c-args = c.args in
-    let c-pre = c.requires in
-    let c-action-size = c.action_size-size in
-    let few = few_action_bytes c-args.job.counts (c-pre) in
-    rw c-action-size.ensures (omega arith)
+    let few = few_action_bytes c.args.job.counts (c.requires) in
+    rw c.action_size-size.ensures (omega arith)
 
 pub returns : goal.returns
 returns c =
-    let c-args = c.args in
-    let c-pre = c.requires in
-    let c-action-size = c.action_size-size in
-    let c-head = c.head in
-    let job = c-args.job in
+    let job = c.args.job in
     let lengths : Counted job _ =
     record {
       form = refl;
-      head = c-head.ensures;
+      head = c.head.ensures;
       pools = refl;
       stores = refl;
-      actions = ap (λ (size : ℕ). job.counts.actions * size) c-action-size.ensures;
+      actions = ap (λ (size : ℕ). job.counts.actions * size) c.action_size-size.ensures;
       handovers = c.handovers.ensures;
       shortest = c.shortest.ensures;
     } in
-    (layout_is job _ lengths, small_layout job (c-pre) _ lengths)
+    (layout_is job _ lengths, small_layout job (c.requires) _ lengths)

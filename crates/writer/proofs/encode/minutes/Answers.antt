@@ -1,5 +1,5 @@
 -- `minutes` meets its contract: the first i are written.
-use Prim.Native.Nat.{ℕ, ◌+◌, ◌-◌}
+use Prim.Native.Nat.{ℕ, ◌+◌}
 use mathlib.Core.Path.{◌≡◌, refl}
 use lib.ListN.{get_or}
 use Rattle.encoding.specs.Bytes.{to_bytes}
@@ -13,12 +13,25 @@ loop-i-init c =
     let f : ℕ → ℕ = λ k. get_or c.args.xs.now k 0 in
     (omega arith, pieces_none (to_bytes 1) f 1 (λ k. length_bytes 1 (f k)) _ _, refl)
 
+pub loop-i-preserved : goal.loop-i-preserved
+loop-i-preserved c =
+    let l = c.loop-i in
+    let a = c.args in
+    let f : ℕ → ℕ = λ k. get_or a.xs.now k 0 in
+    let k = c.write_number.auto.out in (
+      omega arith,
+      rw (c.write_number.ensures, c.wide.ensures, l.invariant.1)
+          (pieces_more (to_bytes 1) f 1 (λ k. length_bytes 1 (f k)) a.out.now a.at l.i (a.at + l.i)
+          (omega arith)
+          (omega arith)),
+      omega arith,
+    )
+
 pub shape_of-out : goal.shape_of-out
 shape_of-out c = c.loop-i.invariant.2
 
 pub returns : goal.returns
 returns c =
-    let c-args = c.args in
     let l = c.loop-i in
-    let e : l.i ≡ c-args.n = omega arith in
+    let e : l.i ≡ c.args.n = omega arith in
     rw e at l.invariant.1
