@@ -1,3 +1,2 @@
 mod Amounts
 mod ContentsLaws
-mod WalkSteps

@@ -8,16 +8,14 @@ returns-then-first-eq-FIVE_ENTRIES c = rw (eq-eqb _ 20 (sym c.short-first.ensure
 
 pub returns-then-first-eq-SIX_ENTRIES : goal.returns-then-first-eq-SIX_ENTRIES
 returns-then-first-eq-SIX_ENTRIES c =
-    let c-short = c.short-first in
     rw (
-      ne_eqb _ 20 (λ e. c.if-first-eq-FIVE_ENTRIES.false (c-short.ensures.0 ∙ e)),
-      eq-eqb _ 24 (sym c-short.ensures.0 ∙ c.if-first-eq-SIX_ENTRIES.true),
+      ne_eqb _ 20 (λ e. c.if-first-eq-FIVE_ENTRIES.false (c.short-first.ensures.0 ∙ e)),
+      eq-eqb _ 24 (sym c.short-first.ensures.0 ∙ c.if-first-eq-SIX_ENTRIES.true),
     )
 
 pub returns : goal.returns
 returns c =
-    let c-short = c.short-first in
     rw (
-      ne_eqb _ 20 (λ e. c.if-first-eq-FIVE_ENTRIES.false (c-short.ensures.0 ∙ e)),
-      ne_eqb _ 24 (λ e. c.if-first-eq-SIX_ENTRIES.false (c-short.ensures.0 ∙ e)),
+      ne_eqb _ 20 (λ e. c.if-first-eq-FIVE_ENTRIES.false (c.short-first.ensures.0 ∙ e)),
+      ne_eqb _ 24 (λ e. c.if-first-eq-SIX_ENTRIES.false (c.short-first.ensures.0 ∙ e)),
     )

@@ -14,21 +14,17 @@ loop-k-init c =
 
 pub returns-then-short-at : goal.returns-then-short-at
 returns-then-short-at c =
-    let c-args = c.args in
-    let c-loop = c.loop-k in
-    let file = c-args.file.now in
-    let n = c-args.entries in
-    let l = c-loop in
+    let file = c.args.file.now in
+    let n = c.args.entries in
+    let l = c.loop-k in
     sym (l.invariant.2 ∙ gapless_broken file l.at l.k (n - l.k) (omega arith)
     (λ e. c.if-short-at.true (c.short.ensures.0 ∙ e)))
 
 pub loop-k-preserved : goal.loop-k-preserved
 loop-k-preserved c =
-    let c-args = c.args in
-    let c-loop = c.loop-k in
-    let file = c-args.file.now in
-    let n = c-args.entries in
-    let l = c-loop in
+    let file = c.args.file.now in
+    let n = c.args.entries in
+    let l = c.loop-k in
     let d : n - l.k - 1 ≡ n - (l.k + 1) = omega arith in (
       omega arith,
       omega arith,
@@ -40,9 +36,8 @@ loop-k-preserved c =
 
 pub returns : goal.returns
 returns c =
-    let c-args = c.args in
-    let file = c-args.file.now in
-    let n = c-args.entries in
+    let file = c.args.file.now in
+    let n = c.args.entries in
     let l = c.loop-k in
     let d : n - l.k ≡ 0 = omega arith in
     sym (l.invariant.2 ∙ ap (gapless file l.at l.k) d ∙ gapless_end file l.at l.k)

@@ -16,8 +16,6 @@ gapless-requires c =
 
 pub returns : goal.returns
 returns c =
-    let c-args = c.args in
-    let c-pre = c.requires in
-    let file = c-args.file.now in
+    let file = c.args.file.now in
     c.gapless.ensures
-    ∙ ap (λ (n : ℕ). gapless file (4 * n) 0 n) (c.entries.ensures ∙ ap entries c-pre.0)
+    ∙ ap (λ (n : ℕ). gapless file (4 * n) 0 n) (c.entries.ensures ∙ ap entries c.requires.0)

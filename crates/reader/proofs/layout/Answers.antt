@@ -12,43 +12,28 @@ size_in-requires-2 c =
 
 pub size_in-requires-3 : goal.size_in-requires-3
 size_in-requires-3 c =
-    let c-args = c.args in
-    let c-pre = c.requires in
-    contents_told c-args.file.now c-args.form _ c-pre.0 c-pre.1 c.entries-entries.ensures
+    contents_told c.args.file.now c.args.form _ c.requires.0 c.requires.1 c.entries-entries.ensures
 
 pub size_in-requires-4 : goal.size_in-requires-4
 size_in-requires-4 c =
-    let c-args = c.args in
-    let c-pre = c.requires in
-    let c-entries = c.entries-entries in
-    contents_told c-args.file.now c-args.form _ c-pre.0 c-pre.1 c-entries.ensures
+    contents_told c.args.file.now c.args.form _ c.requires.0 c.requires.1 c.entries-entries.ensures
 
 pub size_in-requires-5 : goal.size_in-requires-5
 size_in-requires-5 c =
-    let c-args = c.args in
-    let c-pre = c.requires in
-    let c-entries = c.entries-entries in
-    contents_told c-args.file.now c-args.form _ c-pre.0 c-pre.1 c-entries.ensures
+    contents_told c.args.file.now c.args.form _ c.requires.0 c.requires.1 c.entries-entries.ensures
 
 pub size_in-requires-6 : goal.size_in-requires-6
 size_in-requires-6 c =
-    let c-args = c.args in
-    let c-pre = c.requires in
-    let c-entries = c.entries-entries in
-    contents_told c-args.file.now c-args.form _ c-pre.0 c-pre.1 c-entries.ensures
+    contents_told c.args.file.now c.args.form _ c.requires.0 c.requires.1 c.entries-entries.ensures
 
 pub returns : goal.returns
 returns c =
-    let c-pre = c.requires in
-    let c-size-in = c.size_in in
-    let c-size-in2 = c.size_in-2 in
-    let c-size-in3 = c.size_in-3 in
-    let head = c-size-in.ensures in
-    let pools = c-size-in2.ensures in
-    let stores = c-size-in3.ensures in
+    let head = c.size_in.ensures in
+    let pools = c.size_in-2.ensures in
+    let stores = c.size_in-3.ensures in
     let actions = c.size_in-4.ensures in
     let handovers = c.size_in-5.ensures in
     let shortest = c.size_in-6.ensures in (
-      rw (c-pre.0, head.0, pools.0, stores.0, actions.0, handovers.0, shortest.0),
+      rw (c.requires.0, head.0, pools.0, stores.0, actions.0, handovers.0, shortest.0),
       (head.1, pools.1, stores.1, actions.1, handovers.1, shortest.1),
     )

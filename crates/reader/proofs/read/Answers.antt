@@ -1,6 +1,5 @@
 -- `read` meets its contract: a way out for each refusal of the file, one for those of the job, and the job.
 use mathlib.Core.Path.{sym, ◌∙◌}
-use borrow.Author.Tests.{not-true, not-false}
 use Rattle.jobfile.proofs.ReadLaws.{read_wrong_size, read_offsets, read_body_sizes, read_refused, read_passed}
 use Rattle.jobfile.proofs.ReadLaws.{reads_of_answer}
 use Rattle.reader.proofs.ContentsLaws.{has_contents, has_offset, placed}
@@ -8,10 +7,9 @@ use Rattle.reader.proofs.read.Goals as goal
 
 pub returns-then-wrong_size : goal.returns-then-wrong_size
 returns-then-wrong_size c =
-    let c-args = c.args in
     reads_of_answer _ _
     (c.refused.ensures
-    ∙ sym (read_wrong_size c-args.file.now (sym c.wrong_size.ensures ∙ c.if-wrong_size.true)))
+    ∙ sym (read_wrong_size c.args.file.now (sym c.wrong_size.ensures ∙ c.if-wrong_size.true)))
 
 pub form_in-form-requires : goal.form_in-form-requires
 form_in-form-requires c =
@@ -19,92 +17,55 @@ form_in-form-requires c =
 
 pub in_order-requires : goal.in_order-requires
 in_order-requires c =
-    let c-args = c.args in
-    let has = has_contents c-args.file.now (sym c.wrong_size.ensures ∙ c.if-wrong_size.false) in
+    let has = has_contents c.args.file.now (sym c.wrong_size.ensures ∙ c.if-wrong_size.false) in
     (c.form_in-form.ensures, rw c.form_in-form.ensures has)
 
 pub returns-then-not-in_order : goal.returns-then-not-in_order
 returns-then-not-in_order c =
-    let c-args = c.args in
-    let c-wrong-size = c.wrong_size in
-    let c-if1 = c.if-wrong_size in
-    let file = c-args.file.now in
-    let t1 = sym c-wrong-size.ensures ∙ c-if1.false in
+    let file = c.args.file.now in
+    let t1 = sym c.wrong_size.ensures ∙ c.if-wrong_size.false in
     reads_of_answer _ _
     (c.refused-then-not-in_order.ensures
-    ∙ sym (read_offsets file t1 (sym c.in_order.ensures ∙ not-true _ c.if-not-in_order.true)))
+    ∙ sym (read_offsets file t1 (sym c.in_order.ensures ∙ c.if-not-in_order.true)))
 
 pub layout-layout-requires : goal.layout-layout-requires
 layout-layout-requires c =
-    let c-args = c.args in
-    let c-wrong-size = c.wrong_size in
-    let c-if1 = c.if-wrong_size in
-    let c-form-in = c.form_in-form in
-    let has = has_contents c-args.file.now (sym c-wrong-size.ensures ∙ c-if1.false) in
-    (c-form-in.ensures, rw c-form-in.ensures has)
+    let has = has_contents c.args.file.now (sym c.wrong_size.ensures ∙ c.if-wrong_size.false) in
+    (c.form_in-form.ensures, rw c.form_in-form.ensures has)
 
 pub returns-then-missized : goal.returns-then-missized
 returns-then-missized c =
-    let c-args = c.args in
-    let c-wrong-size = c.wrong_size in
-    let c-if1 = c.if-wrong_size in
-    let c-in-order = c.in_order in
-    let c-if2 = c.if-not-in_order in
-    let c-layout = c.layout-layout in
-    let file = c-args.file.now in
-    let t1 = sym c-wrong-size.ensures ∙ c-if1.false in
-    let t2 = sym c-in-order.ensures ∙ not-false _ c-if2.false in
-    let t3 = rw c-layout.ensures.0 at (sym c.missized.ensures ∙ c.if-missized.true) in
+    let file = c.args.file.now in
+    let t1 = sym c.wrong_size.ensures ∙ c.if-wrong_size.false in
+    let t2 = sym c.in_order.ensures ∙ c.if-not-in_order.false in
+    let t3 = rw c.layout-layout.ensures.0 at (sym c.missized.ensures ∙ c.if-missized.true) in
     reads_of_answer _ _ (c.refused-then-missized.ensures ∙ sym (read_body_sizes file t1 t2 t3))
 
 pub job_in-job-requires : goal.job_in-job-requires
 job_in-job-requires c =
-    let c-args = c.args in
-    let c-in-order = c.in_order in
-    let c-if2 = c.if-not-in_order in
-    let file = c-args.file.now in
-    let t2 = sym c-in-order.ensures ∙ not-false _ c-if2.false in
+    let file = c.args.file.now in
+    let t2 = sym c.in_order.ensures ∙ c.if-not-in_order.false in
     let layout = c.layout-layout.ensures in
     (placed file _ t2 layout.0 (sym c.missized.ensures ∙ c.if-missized.false), layout.1)
 
 pub returns-in-Refused : goal.returns-in-Refused
 returns-in-Refused c =
-    let c-args = c.args in
-    let c-wrong-size = c.wrong_size in
-    let c-if1 = c.if-wrong_size in
-    let c-in-order = c.in_order in
-    let c-if2 = c.if-not-in_order in
-    let c-layout = c.layout-layout in
-    let c-missized = c.missized in
-    let c-if3 = c.if-missized in
-    let c-job-in = c.job_in-job in
-    let c-validate = c.validate-verdict in
-    let c-verdict = c.verdict-1 in
-    let file = c-args.file.now in
-    let t1 = sym c-wrong-size.ensures ∙ c-if1.false in
-    let t2 = sym c-in-order.ensures ∙ not-false _ c-if2.false in
-    let t3 = rw c-layout.ensures.0 at (sym c-missized.ensures ∙ c-if3.false) in
-    let v = sym c-validate.ensures ∙ c-verdict.given.1 in
-    let j = c-job-in.result in
+    let file = c.args.file.now in
+    let t1 = sym c.wrong_size.ensures ∙ c.if-wrong_size.false in
+    let t2 = sym c.in_order.ensures ∙ c.if-not-in_order.false in
+    let t3 = rw c.layout-layout.ensures.0 at (sym c.missized.ensures ∙ c.if-missized.false) in
+    let v = sym c.validate-verdict.ensures ∙ c.in-Refused.is in
+    let j = c.job_in-job.result in
     reads_of_answer _ _
-    (c.refused-in-Refused.ensures ∙ sym (read_refused file t1 t2 t3 j c-job-in.ensures c-verdict.given.0.0 v))
+    (c.refused-in-Refused.ensures ∙ sym (read_refused file t1 t2 t3 j c.job_in-job.ensures c.in-Refused.why v))
 
 pub returns : goal.returns
 returns c =
-    let c-args = c.args in
-    let c-wrong-size = c.wrong_size in
-    let c-if1 = c.if-wrong_size in
-    let c-in-order = c.in_order in
-    let c-if2 = c.if-not-in_order in
-    let c-layout = c.layout-layout in
-    let c-missized = c.missized in
-    let c-if3 = c.if-missized in
-    let c-job-in = c.job_in-job in
-    let file = c-args.file.now in
-    let t1 = sym c-wrong-size.ensures ∙ c-if1.false in
-    let t2 = sym c-in-order.ensures ∙ not-false _ c-if2.false in
-    let t3 = rw c-layout.ensures.0 at (sym c-missized.ensures ∙ c-if3.false) in
+    let file = c.args.file.now in
+    let t1 = sym c.wrong_size.ensures ∙ c.if-wrong_size.false in
+    let t2 = sym c.in_order.ensures ∙ c.if-not-in_order.false in
+    let t3 = rw c.layout-layout.ensures.0 at (sym c.missized.ensures ∙ c.if-missized.false) in
     let v = sym c.validate-verdict.ensures ∙ c.in_default.is in
-    let j = c-job-in.result in
+    let j = c.job_in-job.result in
     reads_of_answer _ _
-    (rw c.in_default.is (sym (read_passed file t1 t2 t3 j c-job-in.ensures v)))
+    (rw c.in_default.is (sym (read_passed file t1 t2 t3 j c.job_in-job.ensures v)))

@@ -6,17 +6,14 @@ use Rattle.reader.proofs.size_in.Goals as goal
 
 pub returns-then-entries-place : goal.returns-then-entries-place
 returns-then-entries-place c =
-    let c-args = c.args in
-    let file = c-args.file.now in
+    let file = c.args.file.now in
     let e = c.requires.0 in
-    let none = le-ltb c-args.place (entries_in file) (omega arith) in
+    let none = le-ltb c.args.place (entries_in file) (omega arith) in
     (rw none, omega arith)
 
 pub returns : goal.returns
 returns c =
-    let c-args = c.args in
-    let c-pre = c.requires in
-    let file = c-args.file.now in
-    let e = c-pre.0 in
-    let there = lt-ltb c-args.place (entries_in file) (omega arith) in
+    let file = c.args.file.now in
+    let e = c.requires.0 in
+    let there = lt-ltb c.args.place (entries_in file) (omega arith) in
     (rw there c.short.ensures.0, c.short.ensures.1)

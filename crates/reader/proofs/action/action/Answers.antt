@@ -4,7 +4,6 @@ use mathlib.Core.Path.{◌≡◌}
 use lib.ListN.{length}
 use Rattle.jobfile.specs.File.{action_of}
 use native.Mathlib.Omega.{arith}
-use borrow.Author.Rules.{rules}
 use Rattle.reader.proofs.action.action.Goals as goal
 
 -- LEFT
@@ -26,21 +25,16 @@ use Rattle.reader.proofs.action.action.Goals as goal
 pub returns : goal.returns
 unfolding action_of
 returns c =
-    let c-args = c.args in
-    let c-pre = c.requires in
-    let c-amounts = c.amounts-held in
-    let c-amounts2 = c.amounts-taken in
-    let c-read-number = c.read_number in
-    let a = c-args in
+    let a = c.args in
     let p : (25 + 4 * a.pools) - 25 ≡ 4 * a.pools = omega arith in
-    let q : length a.bytes.now - (25 + 4 * a.pools) ≡ 4 * a.stores = omega (arith, c-pre) in
+    let q : length a.bytes.now - (25 + 4 * a.pools) ≡ 4 * a.stores = omega (arith, c.requires) in
     rw (
-      c-read-number.ensures.0,
+      c.read_number.ensures.0,
       c.read_number-2.ensures.0,
       c.read_number-3.ensures.0,
       c.read_number-4.ensures.0,
-      c-amounts.ensures,
-      c-amounts2.ensures,
+      c.amounts-held.ensures,
+      c.amounts-taken.ensures,
       p,
       q,
     )

@@ -7,7 +7,6 @@ use native.Mathlib.Omega.{arith}
 use lib.ListN.{length}
 use Rattle.encoding.proofs.Parts.{length_part}
 use Rattle.encoding.proofs.Pieces.{piece_within}
-use borrow.Author.Rules.{rules}
 use Rattle.reader.proofs.action.action_at.Goals as goal
 
 next-end : (i s : ℕ) → (i + 1) * s ≡ i * s + s

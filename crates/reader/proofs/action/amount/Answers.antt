@@ -9,5 +9,4 @@ returns-then-bytes-i c =
 
 pub returns : goal.returns
 returns c =
-    let c-args = c.args in
-    c.read_number.ensures.0 ∙ sym (amount_there c-args.bytes.now c-args.i c.if-bytes-i.false)
+    c.read_number.ensures.0 ∙ sym (amount_there c.args.bytes.now c.args.i c.if-bytes-i.false)

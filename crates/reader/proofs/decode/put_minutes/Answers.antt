@@ -1,5 +1,5 @@
 -- `put_minutes` meets its contract: the first i are put.
-use Prim.Native.Nat.{ℕ, ◌-◌, ◌/◌}
+use Prim.Native.Nat.{ℕ, ◌/◌}
 use mathlib.Core.Path.{◌≡◌, refl, sym, ap, ◌∙◌}
 use lib.ListN.{length, length-set}
 use Rattle.lists.specs.Lists.{tabulate, filled}
@@ -15,10 +15,9 @@ loop-i-init c =
 
 pub loop-i-preserved : goal.loop-i-preserved
 loop-i-preserved c =
-    let c-args = c.args in
-    let bytes = c-args.bytes.now in
+    let bytes = c.args.bytes.now in
     let l = c.loop-i in
-    let n = length c-args.out.now in
+    let n = length c.args.out.now in
     let b = byte_there bytes l.i (omega arith) in (
       omega arith,
       rw (l.invariant.1, ← b) (filled_tabulate n 0 (byte_at bytes) l.i (omega arith)),
@@ -30,8 +29,7 @@ shape_of-out c = c.loop-i.invariant.2
 
 pub returns : goal.returns
 returns c =
-    let c-args = c.args in
-    let bytes = c-args.bytes.now in
+    let bytes = c.args.bytes.now in
     let l = c.loop-i in
     let e : l.i ≡ length bytes / 1 = omega arith in
-    l.invariant.1 ∙ ap (λ (n : ℕ). filled (length c-args.out.now) 0 (tabulate n (byte_at bytes))) e
+    l.invariant.1 ∙ ap (λ (n : ℕ). filled (length c.args.out.now) 0 (tabulate n (byte_at bytes))) e
