@@ -1,19 +1,17 @@
 -- An accepted plan by value: its steps are the job's own, and with true lengths no number is too large.
 -- Assumes nothing.
 use Prim.Native.Nat.{ℕ, ◌+◌, ◌<◌, ◌≤◌}
-use mathlib.Core.Path.{◌≡◌, refl, sym, ap, subst, ◌∙◌}
-use mathlib.Core.Bool.{Bool, false, ◌||◌}
+use mathlib.Core.Path.{◌≡◌, sym, ap, ◌∙◌}
+use mathlib.Core.Bool.{false}
 use mathlib.Core.List.{List}
 use native.Mathlib.Omega.{arith}
 use lib.Dec.{ltb}
 use lib.ListN.{length, get_or}
 use borrow.Author.Tests.{ltb-false}
-use Rattle.lists.specs.Lists.{Each}
 use Rattle.lists.proofs.Below.{below_none}
 use Rattle.lists.proofs.Bools.{or_right}
 use Rattle.lists.proofs.Tabulate.{length_tabulate}
 use Rattle.job.specs.declared.Job as held
-use Rattle.job.specs.declared.refusal.Verdict.TheVariants.{Pass}
 use Rattle.job.specs.Job.{Job, job_in, action_at}
 use Rattle.job.specs.Refusal.{first}
 use Rattle.job.specs.Lengths.{longest_of, shortest_of}

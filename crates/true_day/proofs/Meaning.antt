@@ -2,8 +2,7 @@
 -- Assumes nothing.
 use Prim.Native.Nat.{ℕ, ◌≤◌}
 use mathlib.Core.Path.{◌≡◌}
-use mathlib.Core.Bool.{false}
-use mathlib.Core.List.{List, [], ◌∷◌, ◌++◌}
+use mathlib.Core.List.{List, ◌++◌}
 use Rattle.job.specs.declared.refusal.Verdict.TheVariants.{Pass}
 use Rattle.job.specs.Job.{Job}
 use Rattle.job.specs.Refusal.{first}
@@ -13,7 +12,6 @@ use Rattle.job.proofs.Table.{first_pass, pass_of_append}
 use Rattle.timeline.specs.Step.{steps_in}
 use Rattle.timeline.specs.Timeline.{end}
 use Rattle.timeline.specs.Accepted.{step_rows, plan_rows}
-use Rattle.timeline.specs.TrueLengths.{wrong_lengths}
 use Rattle.timeline.proofs.TrueLengths.{true_lengths_pass}
 use Rattle.checker.specs.Check.{check_rows}
 use Rattle.true_day.specs.TrueDay.{true_rows, true_steps}

@@ -17,7 +17,7 @@ use Rattle.timeline.specs.declared.Day.{Day}
 use Rattle.timeline.specs.Step.{Step, steps_in}
 use Rattle.timeline.specs.Timeline.{end, peaks}
 use Rattle.timeline.specs.Accepted.{plan_rows}
-use Rattle.timeline.specs.Day.{Told, told_of, tells, no_day, day_of}
+use Rattle.timeline.specs.Day.{told_of, tells, no_day, day_of}
 use Rattle.timeline.specs.TrueLengths.{wrong_lengths}
 use Rattle.timeline.proofs.DayLaws.{reply_of_day}
 use Rattle.checker.specs.Check.{check_rows}
