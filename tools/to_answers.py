@@ -111,6 +111,7 @@ class Function:
             for _ in range(m.group(1).count(".before")):
                 at = self.places[at][0] if at in self.places else None
             field, *rest = m.group(2)[1:].split(".")
+            field = field.removesuffix("_lem")
             if norm(field) == "requires":
                 fields = (self.entry["pre"] or {}).get("fields", [])
                 return ".".join(["c", "requires"] + by_name(fields, rest))
@@ -130,6 +131,10 @@ class Function:
             if arm:
                 return arm
             new = self.step(up, field)
+            callee = self.callees.get(up)
+            if callee and rest[:1] in (["new"], ["auto"]) and rest[1:2] and rest[1].isdigit():
+                lent = [n for n, t in parameters(callee.split("::")[0], callee.replace("::", ".")) if t.startswith("&mut ")]
+                rest = rest[:1] + (lent + rest[2:] if len(lent) == 1 else by_name(lent, rest[1:]))
             if rest[:1] == ["ensures"]:
                 rest = rest[:1] + by_name(named_clauses("ensures", self.callees.get(up)), rest[1:])
             if new is None:
@@ -137,7 +142,7 @@ class Function:
                 return ".".join(["c", field] + rest)
             return ".".join(["c", new] + rest)
         text = re.sub(r"(?<![\w'.-])c((?:\.before)*)((?:\.(?!before\b)[\w'₀-₉-]+)+)", turn, text)
-        text = re.sub(r"\bnot-(true|false) _ (c\.if-not-[\w'₀-₉-]+\.\1)", r"\2", text)
+        text = re.sub(r"\bnot-(true|false) (?:_|c\.[\w'₀-₉.-]+) (c\.if-not-[\w'₀-₉-]+\.\1)", r"\2", text)
         text = re.sub(r"(?<!\) )(?<!not )(c\.if-not-[\w'₀-₉-]+\.(?:true|false))", r"\1", text)
         text = re.sub(r"ap not \(sym ([^()]+)\) ∙ (c\.if-not-[\w'₀-₉-]+\.(?:true|false))", r"ap not (sym \1 ∙ \2)", text)
         if re.search(r"(?<![\w'.-])c\.before", text):
@@ -275,15 +280,10 @@ def parameters(crate, path):
 
 
 def copied(crate, path, text):
-    """Old names t1, t2 .. of parameters that are structs or arrays."""
-    numbers = sorted(set(int(n) for n in re.findall(r"\.t(\d)\b", text)))
-    if not numbers:
-        return {}
-    wide = [n for n, t in parameters(crate, path) if not t.startswith("&") and (t.startswith("[") or t[:1].isupper())]
-    named = [n for n in wide if not re.search(r"args\." + n + r"\b|\ba\." + n + r"\b", text)]
-    if len(named) == len(numbers):
-        return {f"t{n}": p for n, p in zip(numbers, named)}
-    return {f"t{n}": named[n - 1] for n in numbers if n <= len(named)}
+    """Old names t1, t2 .. of parameters that are structs or arrays, by their places."""
+    every = parameters(crate, path)
+    numbers = set(int(n) for n in re.findall(r"\.t(\d+)\b", text))
+    return {f"t{n}": every[n - 1][0] for n in numbers if n <= len(every)}
 
 
 def convert(crate, folder, entry, path, said):
@@ -292,10 +292,7 @@ def convert(crate, folder, entry, path, said):
     fn = Function(crate, path, entry, said)
     to = copied(crate, path, text)
     if to:
-        text = re.sub(r"\.(t\d)\b", lambda m: "." + to.get(m.group(1), m.group(1)), text)
-    lent = [n for n, t in parameters(crate, path) if t.startswith("&mut [")]
-    if lent:
-        text = re.sub(r"\.auto\.0\b", ".auto." + lent[0], text)
+        text = re.sub(r"\.(t\d+)\b", lambda m: "." + to.get(m.group(1), m.group(1)), text)
     uses, head, invariants, answers, helpers = [], [], [], [], []
     for n, piece in enumerate(declarations(text)):
         lines = [l for l in piece if not l.startswith("use ")]

@@ -1,7 +1,7 @@
 -- What the call answers is a firm "not before" (document 02, l).
 -- Assumes nothing.
 use Prim.Native.Nat.{ℕ, ◌≤◌}
-use mathlib.Core.Path.{◌≡◌, sym, ap, ◌∙◌, subst}
+use mathlib.Core.Path.{◌≡◌, ap, ◌∙◌, subst}
 use mathlib.Core.List.{List}
 use Rattle.facts.specs.FactSet.{Subset}
 use Rattle.job.specs.Job.{Job}

@@ -103,13 +103,13 @@ module _ (h : ℕ) where
     by_test true P f g = sym (g refl)
     by_test false P f g = refl
 
-    too_long : (P : List Step) → too_long J P ≡ true → unless_too_long J P ≡ day_too_long
-    too_long P t = ap {B = Joined} (λ (b : Bool). elim b [ true ↦ day_too_long | false ↦ day P ]) t
+    too_long_lem : (P : List Step) → too_long J P ≡ true → unless_too_long J P ≡ day_too_long
+    too_long_lem P t = ap {B = Joined} (λ (b : Bool). elim b [ true ↦ day_too_long | false ↦ day P ]) t
 
     then_joined : (P : List Step) (f : List Step → List Step) → AtMost P (f P)
         → and_then (unless_too_long J P) (λ Q. unless_too_long J (f Q)) ≡ unless_too_long J (f P)
     then_joined P f l =
-        by_test (too_long J P) P (λ Q. unless_too_long J (f Q)) (λ t. too_long (f P) (too_long_more P (f P) l t))
+        by_test (too_long J P) P (λ Q. unless_too_long J (f Q)) (λ t. too_long_lem (f P) (too_long_more P (f P) l t))
 
     -- joined from the left or from the right: the same day, or too long both ways
     pub days_associate : (A B C : List Step)

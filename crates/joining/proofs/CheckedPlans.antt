@@ -1,7 +1,7 @@
 -- Two plans that pass 12 to 15, by what the checker tells of them: numbers that fit, and the joined plan.
 -- Assumes nothing.
-use Prim.Native.Nat.{ℕ, zero, suc, ◌+◌, ◌*◌, ◌/◌, ◌%◌, ◌<◌, ◌≤◌}
-use mathlib.Core.Path.{◌≡◌, refl, sym, ap, ap₂, ◌∙◌}
+use Prim.Native.Nat.{ℕ, zero, suc, ◌+◌, ◌/◌, ◌≤◌}
+use mathlib.Core.Path.{◌≡◌, sym, ap, ◌∙◌}
 use mathlib.Core.Bool.{Bool, ◌||◌}
 use mathlib.Core.Logic.{⊎_elim}
 use mathlib.Core.List.{List, ◌++◌, map}
@@ -16,7 +16,7 @@ use Rattle.job.specs.Resources.{handover}
 use Rattle.job.specs.Valid.{over}
 use Rattle.job.specs.declared.refusal.Verdict.{Verdict}
 use Rattle.job.specs.declared.refusal.Verdict.TheVariants.{Pass}
-use Rattle.timeline.specs.Step.{Step, steps_in, plan_bytes}
+use Rattle.timeline.specs.Step.{steps_in, plan_bytes}
 use Rattle.timeline.specs.Timeline.{end, largest_below}
 use Rattle.timeline.specs.Accepted.{shape_rows}
 use Rattle.timeline.specs.Day.{told_of, tells, day_of}

@@ -1,15 +1,14 @@
 -- What is told of two plans joined is what is told of the joined plan.
 -- Assumes nothing.
 use Prim.Native.Nat.{ℕ, ◌+◌, ◌≤◌}
-use mathlib.Core.Path.{◌≡◌, refl, sym, ap, ◌∙◌}
-use mathlib.Core.List.{List, [], ◌∷◌, ◌++◌, map}
+use mathlib.Core.Path.{◌≡◌, refl, sym}
+use mathlib.Core.List.{List, [], ◌∷◌, map}
 use native.Mathlib.Omega.{arith}
 use lib.ListN.{length, length-append, length-map}
 use Rattle.job.specs.Job.{Job}
 use Rattle.timeline.specs.Step.{Step}
 use Rattle.timeline.specs.Timeline.{end, peaks}
-use Rattle.timeline.specs.Day.{Told, told_of, tells}
-use Rattle.timeline.specs.declared.Day.{Day}
+use Rattle.timeline.specs.Day.{told_of, tells}
 use Rattle.joining.specs.Join.{later_by, largest_handover, join_steps}
 use Rattle.joining.specs.Inner.{offset, last_end, both_days}
 use Rattle.joining.proofs.Associates.{end_joined}

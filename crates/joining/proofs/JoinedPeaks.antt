@@ -14,7 +14,7 @@ use Rattle.lists.proofs.Tabulate.{length_tabulate, get_d_tabulate, tabulate_same
 use Rattle.job.specs.Job.{Job}
 use Rattle.job.specs.Resources.{handover}
 use Rattle.timeline.specs.Step.{Step}
-use Rattle.timeline.specs.Timeline.{end, has_share, in_use, largest_below, peak, peaks}
+use Rattle.timeline.specs.Timeline.{end, has_share, in_use, peak, peaks}
 use Rattle.timeline.specs.Places.{EachStep}
 use Rattle.timeline.proofs.Tests.{same_test, le_or_lt}
 use Rattle.timeline.proofs.Places.{each_map, total_append, total_zero, largest_at_least}

@@ -3,7 +3,7 @@
 use Prim.Native.Nat.{ℕ, ◌<◌, ◌≤◌}
 use mathlib.Core.Path.{◌≡◌, refl, sym, ap, ◌∙◌}
 use mathlib.Core.Bool.{true, false}
-use mathlib.Core.List.{List, [], ◌∷◌, ◌++◌}
+use mathlib.Core.List.{List, [], ◌∷◌}
 use lib.Dec.{ltb}
 use lib.ListN.{length}
 use borrow.Author.Tests.{lt-ltb, le-ltb}
@@ -16,7 +16,7 @@ use Rattle.job.specs.declared.refusal.Refusal.TheVariants.{PlanSlice, JoinedTooL
 use Rattle.job.specs.declared.refusal.Verdict.{Verdict}
 use Rattle.job.specs.declared.refusal.Verdict.TheVariants.{Pass, Refused}
 use Rattle.job.proofs.Table.{first_here, first_next, first_append_pass, first_append_refused, first_none}
-use Rattle.timeline.specs.Step.{Step, plan_bytes}
+use Rattle.timeline.specs.Step.{plan_bytes}
 use Rattle.timeline.specs.Accepted.{shape_rows}
 use Rattle.timeline.specs.Day.{told_of, no_day, tells, day_of}
 use Rattle.timeline.specs.declared.Day.{Day}

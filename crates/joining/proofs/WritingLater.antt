@@ -1,7 +1,7 @@
 -- The steps of a plan written as bytes, so many minutes later, one after the other; a second plan behind the first.
 -- Assumes nothing.
-use Prim.Native.Nat.{ℕ, ◌+◌, ◌*◌, ◌-◌, ◌/◌, ◌%◌, ◌<◌, ◌≤◌}
-use mathlib.Core.Path.{◌≡◌, refl, sym, ap, ap₂, ◌∙◌}
+use Prim.Native.Nat.{ℕ, ◌+◌, ◌*◌, ◌-◌, ◌/◌, ◌%◌, ◌≤◌}
+use mathlib.Core.Path.{◌≡◌, sym, ap, ap₂, ◌∙◌}
 use mathlib.Core.List.{List, ◌++◌, map}
 use native.Mathlib.Omega.{arith}
 use lib.ListN.{length, take, drop, length-map}
@@ -11,7 +11,6 @@ use Rattle.encoding.specs.Bytes.{from_bytes, to_bytes, part, overwrite}
 use Rattle.encoding.proofs.Numbers.{length_bytes}
 use Rattle.encoding.proofs.Overwrite.{overwrite_overwrite, pieces_none, pieces_more}
 use Rattle.encoding.proofs.Parts.{part_part}
-use Rattle.encoding.proofs.Pieces.{piece_within}
 use Rattle.job.specs.Job.{Job}
 use Rattle.timeline.specs.Step.{Step, step_in, steps_in, step_bytes, plan_bytes}
 use Rattle.timeline.proofs.PlanBytes.{length_step_bytes, length_plan_bytes}

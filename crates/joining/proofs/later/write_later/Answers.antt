@@ -1,5 +1,4 @@
 -- `write_later` meets its contract: `WroteLater` is the loop's invariant.
-use Prim.Native.Nat.{◌-◌}
 use mathlib.Core.Path.{refl}
 use native.Mathlib.Omega.{arith}
 use Rattle.joining.proofs.WritingLater.{wrote_none, wrote_more, wrote_all}

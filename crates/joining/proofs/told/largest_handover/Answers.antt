@@ -1,5 +1,5 @@
 -- `largest_handover` meets its contract: the largest of the first k pools.
-use Prim.Native.Nat.{ℕ, ◌-◌, ◌<◌, max}
+use Prim.Native.Nat.{ℕ, ◌<◌, max}
 use mathlib.Core.Path.{◌≡◌, refl, sym, ap, ap₂, ◌∙◌}
 use lib.ListN.{length}
 use native.Mathlib.Omega.{arith}
