@@ -1,0 +1,10 @@
+-- `kept` is safe and ends. The measure is the number of bytes left.
+use Prim.Native.Nat.{◌-◌}
+use lib.ListN.{length}
+use Rattle.lent.proofs.kept.Given as goal
+
+abbrev pub invariant-loop-i : goal.invariant-loop-i
+invariant-loop-i l = Unit {0}
+
+abbrev pub decreases-loop-i : goal.decreases-loop-i
+decreases-loop-i l = length l.slice - l.i
