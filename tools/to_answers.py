@@ -18,6 +18,7 @@ WORD = r"[^\s(){}\[\];,.:=λ→⊢|`\"⌜⌝×]+"
 
 def norm(name):
     name = name.replace("-", "_")
+    name = name[:1].lower() + name[1:] if "_of" in name else name
     return name[len("overflow_"):] if name.startswith("overflow_") else name
 
 
@@ -141,7 +142,7 @@ class Function:
                 self.said.append(f"{self.path}: {where}: no step {m.group(0)} at {at}")
                 return ".".join(["c", field] + rest)
             return ".".join(["c", new] + rest)
-        text = re.sub(r"(?<![\w'.-])c((?:\.before)*)((?:\.(?!before\b)[\w'₀-₉-]+)+)", turn, text)
+        text = re.sub(r"(?<![\w'.-])c((?:\.before(?![\w-]))*)((?:\.(?!before(?![\w-]))[\w'₀-₉-]+)+)", turn, text)
         text = re.sub(r"\bnot-(true|false) (?:_|c\.[\w'₀-₉.-]+) (c\.if-not-[\w'₀-₉-]+\.\1)", r"\2", text)
         text = re.sub(r"(?<!\) )(?<!not )(c\.if-not-[\w'₀-₉-]+\.(?:true|false))", r"\1", text)
         text = re.sub(r"ap not \(sym ([^()]+)\) ∙ (c\.if-not-[\w'₀-₉-]+\.(?:true|false))", r"ap not (sym \1 ∙ \2)", text)
@@ -160,8 +161,11 @@ def inlined(text):
             return text
         before, after = text[:m.start()], text[m.end():]
         name = m.group(1)
-        after = re.sub(r"(?<![\w'.-])" + re.escape(name) + r"(?![\w'-])", lambda _: m.group(2), after)
-        text = before + after
+        again = re.search(r"let " + re.escape(name) + r" =", after)
+        here, later = (after[:again.start()], after[again.start():]) if again else (after, "")
+        # the value of a binding of the same name still speaks of this one
+        here = re.sub(r"(?<![\w'.-])" + re.escape(name) + r"(?![\w'-])", lambda _: m.group(2), here)
+        text = before + here + later
 
 
 def parts_of(text):
