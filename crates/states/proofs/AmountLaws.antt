@@ -3,7 +3,7 @@
 use Prim.Native.Nat.{ℕ, suc, ◌+◌, ◌*◌, ◌^◌, ◌≤◌, ◌<◌}
 use mathlib.Core.Path.{◌≡◌, refl, sym, ap, ap₂, ◌∙◌}
 use mathlib.Core.Bool.{Bool, true, false, cond, ◌&&◌}
-use mathlib.Core.List.{List, [], ◌∷◌}
+use mathlib.Core.List.{List, ◌∷◌}
 use mathlib.Core.Logic.{⊎_elim}
 use native.Mathlib.Nat.{eq-or-lt_of_le, le_refl}
 use native.Mathlib.Omega.{arith}
@@ -20,7 +20,6 @@ use Rattle.timeline.specs.Step.{Step, step_of}
 use Rattle.timeline.specs.Timeline.{has_share}
 use Rattle.timeline.proofs.Shares.{share_reads, share_when}
 use Rattle.timeline.proofs.Tests.{or_neither, same_test, and_both}
-use Rattle.times.specs.Earliest.{action_of}
 use Rattle.tables.specs.Tables.{DescribesAction, Describes, duration_at}
 use Rattle.tables.specs.declared.Frame.{Frame}
 use Rattle.states.specs.declared.amounts.Uses.{Uses}

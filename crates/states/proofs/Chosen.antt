@@ -31,6 +31,7 @@ module _ (J : Job) (steps : Steps) where
       → (k : ℕ) × (k < n) × (x ≡ step_at J steps k)
   place_of_chosen (suc n) here = (n, le_refl (suc n), refl)
   place_of_chosen (suc n) (there i) = let r = place_of_chosen n i in let l = r.1 in (r.0, omega arith, r.2)
+  place_of_chosen zero {Q = Q} x3 = elim x3 [ ]
 
   pub chosen_at_place : (n k : ℕ) → k < n → Member (step_at J steps k) (chosen_to J steps n)
   chosen_at_place zero k l = absurd (omega arith)
@@ -118,6 +119,7 @@ module _ (J : Job) (frame : Frame) (steps : Steps) (keeps : KeepsKept frame step
   place_of_since k (suc n) here = (k + n, omega arith, omega arith, refl)
   place_of_since k (suc n) (there i) =
       let r = place_of_since k n i in let l = r.2 in (r.0, r.1, omega arith, r.3)
+  place_of_since k zero {Q = Q} x3 = elim x3 [ ]
 
   -- C are the chosen steps beside the kept ones; each stands at a place behind them
   pub chosen_splits : (C : List Step) × (chosen J steps ≡ C ++ kept_of J frame)
