@@ -35,6 +35,7 @@ module _ {J : Job} {M : ℕ} {was : ℕ → ℕ} where
   each_of_rest F (done {x} l r) h y S i = each_of_rest F r (λ z Q j. h z (x ∷ Q) (there j)) y S i
   each_of_rest F (left {x} {P} n d l r) h y S here = h x P here n d l
   each_of_rest F (left {x} n d l r) h y S (there {Q} i) = each_of_rest F r (λ z R j. h z (x ∷ R) (there j)) y Q i
+  each_of_rest F none h y S i = elim i [ ]
 
   pub rest_total : (f g : Step → ℕ) {P R : List Step} → Rest J M was P R
       → ((x : Step) (n d : ℕ) → LeftAs J M was n d x → f (rest_step M n d x) ≤ g x) → total f R ≤ total g P
