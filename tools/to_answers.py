@@ -17,8 +17,7 @@ WORD = r"[^\s(){}\[\];,.:=λ→⊢|`\"⌜⌝×]+"
 
 
 def norm(name):
-    name = name.replace("-", "_")
-    name = name[:1].lower() + name[1:] if "_of" in name else name
+    name = name.replace("-", "_").lower()
     return name[len("overflow_"):] if name.startswith("overflow_") else name
 
 
@@ -154,7 +153,7 @@ class Function:
 def inlined(text):
     """Without names for places and steps: `let b = c.before in .. b.args` is `c.before.args`, and so is `let c-args = ..`."""
     while True:
-        m = re.search(r"\n? *let (c-[\w'-]+) = (c(?:\.[\w'₀-₉-]+)+) in(?=[\s])", text)
+        m = re.search(r"\n? *let (c[-_][\w'-]+) = (c(?:\.[\w'₀-₉-]+)+) in(?=[\s])", text)
         m = m or re.search(r"\n? *let ([\w'-]+) = (c(?:\.before)+) in(?=[\s])", text)
         m = m or re.search(r"\n? *let ([\w'-]+) = (c(?:\.before)*\.[\w-]*(?:told|known)[\w-]*) in(?=[\s])", text)
         if not m:

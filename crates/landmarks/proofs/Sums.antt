@@ -8,7 +8,7 @@ use mathlib.Core.List.{List, [], ◌∷◌}
 use native.Mathlib.Nat.{mul-add, mul-zero}
 use native.Mathlib.Omega.{arith}
 use lib.ListN.{length}
-use Rattle.facts.specs.FactSet.{has, union, difference}
+use Rattle.facts.specs.FactSet.{has, difference}
 use Rattle.facts.proofs.Membership.{has_zero}
 use Rattle.facts.proofs.SetLaws.{in_union_cases, in_difference}
 use Rattle.job.specs.Job.{Action, Job}

@@ -1,5 +1,4 @@
 -- `begin` meets its contract: the sets of the first q facts are put.
-use Prim.Native.Nat.{◌-◌}
 use mathlib.Core.Path.{◌≡◌, ap, ◌∙◌}
 use mathlib.Core.Bool.{Bool, cond, not}
 use Rattle.landmarks.proofs.TableLaws.{put_at_first, put_on}

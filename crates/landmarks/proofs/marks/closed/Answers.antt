@@ -1,5 +1,4 @@
 -- `closed` meets its contract: the first q facts pass.
-use Prim.Native.Nat.{◌-◌}
 use mathlib.Core.Path.{◌≡◌, sym}
 use mathlib.Core.Bool.{true≢false}
 use mathlib.Core.Logic.{⊎_elim}
@@ -15,6 +14,19 @@ closed_at-requires c = let h = c.requires in (h.0, h.1, omega arith)
 
 pub returns-then-not-closed_at : goal.returns-then-not-closed_at
 returns-then-not-closed_at c = λ e. absurd (true≢false (sym e))
+
+pub loop-q-preserved : goal.loop-q-preserved
+loop-q-preserved c =
+    let inv = c.loop-q.invariant in (
+      omega arith,
+      λ k l.
+          ⊎_elim
+          (λ e.
+          let same : k ≡ c.loop-q.q = omega arith in
+          rw same (c.closed_at.ensures (c.if-not-closed_at.false)))
+          (λ less. inv.1 k (omega arith))
+          (eq-or-lt_of_le l),
+    )
 
 pub returns : goal.returns
 returns c =

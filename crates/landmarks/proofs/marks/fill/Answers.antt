@@ -1,5 +1,4 @@
 -- `fill` meets its contract: the table found passes the test, or is put to nothing.
-use borrow.Author.Tests.{not-false}
 use Rattle.landmarks.proofs.TableLaws.{kept_again, closed_when_empty}
 use native.Mathlib.Omega.{arith}
 use Rattle.landmarks.proofs.marks.fill.Goals as goal
@@ -28,3 +27,7 @@ returns-then-not-closed c = (
 pub shape_of-sets-else-not-closed : goal.shape_of-sets-else-not-closed
 shape_of-sets-else-not-closed c =
     let h = c.requires in let n = c.search.ensures.size in omega arith
+
+pub returns-else-not-closed : goal.returns-else-not-closed
+returns-else-not-closed c =
+    (c.search.ensures, c.closed.ensures (c.if-not-closed.false))

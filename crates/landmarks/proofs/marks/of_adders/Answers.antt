@@ -1,5 +1,4 @@
 -- `of_adders` meets its contract: the set is within that of each of the first i actions.
-use Prim.Native.Nat.{◌-◌}
 use mathlib.Core.Path.{◌≡◌}
 use Rattle.landmarks.proofs.TableLaws.{adders_at_first, adders_on}
 use native.Mathlib.Omega.{arith}

@@ -1,5 +1,4 @@
 -- `of_set` meets its contract: the landmarks of the facts below q are found.
-use Prim.Native.Nat.{◌-◌}
 use mathlib.Core.Path.{◌≡◌, sym, ap, ◌∙◌}
 use Rattle.facts.specs.FactSet.{union}
 use Rattle.landmarks.proofs.TableLaws.{marks_at_first, marks_on}

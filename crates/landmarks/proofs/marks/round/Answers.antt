@@ -1,5 +1,4 @@
 -- `round` meets its contract: entries before those of the facts stay.
-use Prim.Native.Nat.{◌-◌}
 use Rattle.landmarks.proofs.TableLaws.{kept_at_first, kept_again}
 use native.Mathlib.Omega.{arith}
 use Rattle.landmarks.proofs.marks.round.Goals as goal

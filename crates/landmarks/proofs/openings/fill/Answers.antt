@@ -1,5 +1,4 @@
 -- `fill` meets its contract: the openings of the first pools are put.
-use Prim.Native.Nat.{◌-◌}
 use mathlib.Core.Path.{◌≡◌}
 use Rattle.landmarks.proofs.TableLaws.{put_at_first}
 use Rattle.landmarks.proofs.OpeningLaws.{openings_on}

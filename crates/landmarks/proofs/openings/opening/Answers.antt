@@ -1,5 +1,4 @@
 -- `opening` meets its contract: the minute is not after the time of what a user of the first i actions needs.
-use Prim.Native.Nat.{◌-◌}
 use mathlib.Core.Path.{◌≡◌}
 use Rattle.landmarks.proofs.OpeningLaws.{open_on}
 use native.Mathlib.Omega.{arith}

@@ -1,5 +1,4 @@
 -- `count` meets its contract: at most one for each number below p.
-use Prim.Native.Nat.{◌-◌}
 use native.Mathlib.Omega.{arith}
 use Rattle.landmarks.proofs.shares.count.Goals as goal
 

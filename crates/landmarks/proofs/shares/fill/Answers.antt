@@ -1,5 +1,4 @@
 -- `fill` meets its contract: the first rows are filled, and stay.
-use Prim.Native.Nat.{◌-◌}
 use Rattle.landmarks.proofs.TableLaws.{kept_at_first, kept_again}
 use Rattle.landmarks.proofs.ShareLaws.{numbers_kept, kept_less, rows_on}
 use native.Mathlib.Omega.{arith}

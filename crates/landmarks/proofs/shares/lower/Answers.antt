@@ -1,5 +1,4 @@
 -- `lower` meets its contract: entries before the place stay.
-use Prim.Native.Nat.{◌-◌}
 use Rattle.landmarks.proofs.TableLaws.{kept_at_first, kept_again}
 use Rattle.landmarks.proofs.ShareLaws.{kept_less}
 use native.Mathlib.Omega.{arith}

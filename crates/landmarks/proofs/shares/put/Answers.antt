@@ -1,5 +1,4 @@
 -- `put` meets its contract: the first k entries are put.
-use Prim.Native.Nat.{◌-◌}
 use mathlib.Core.Path.{◌≡◌, refl}
 use Rattle.landmarks.proofs.TableLaws.{put_at_first, put_on}
 use native.Mathlib.Omega.{arith}

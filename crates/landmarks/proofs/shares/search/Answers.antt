@@ -1,5 +1,4 @@
 -- `search` meets its contract: entries before the row stay.
-use Prim.Native.Nat.{◌-◌}
 use Rattle.landmarks.proofs.TableLaws.{kept_at_first, kept_again}
 use Rattle.landmarks.proofs.ShareLaws.{numbers_kept}
 use native.Mathlib.Omega.{arith}

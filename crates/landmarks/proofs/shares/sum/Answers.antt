@@ -1,5 +1,5 @@
 -- `sum` meets its contract: the numbers of the facts below p are added up.
-use Prim.Native.Nat.{◌+◌, ◌-◌}
+use Prim.Native.Nat.{◌+◌}
 use mathlib.Core.Path.{◌≡◌, sym, ap₂, ◌∙◌}
 use Rattle.landmarks.proofs.TableLaws.{sum_at_first, sum_on}
 use native.Mathlib.Omega.{arith}
