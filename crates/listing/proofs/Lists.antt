@@ -22,6 +22,7 @@ Plans = List (List Step)
 pub one_of_each : (F : List Step → Type 0) (L : Plans) → Each F L → {P : List Step} → OneOf P L → F P
 one_of_each F (R ∷ L) e first = e.0
 one_of_each F (R ∷ L) e (further o) = one_of_each F L e.1 o
+one_of_each F [] e {P = P} x'' = elim x'' [ ]
 
 pub each_one_of : (F : List Step → Type 0) (L : Plans) → ((P : List Step) → OneOf P L → F P) → Each F L
 each_one_of F [] h = tt
@@ -35,6 +36,7 @@ one_of_append (R ∷ A) B (further o) = ⊎_elim (λ a. inl (further a)) (λ b. 
 pub one_of_left : {P : List Step} (A B : Plans) → OneOf P A → OneOf P (A ++ B)
 one_of_left (R ∷ A) B first = first
 one_of_left (R ∷ A) B (further o) = further (one_of_left A B o)
+one_of_left {P = P} [] B x' = elim x' [ ]
 
 pub one_of_right : {P : List Step} (A B : Plans) → OneOf P B → OneOf P (A ++ B)
 one_of_right [] B o = o
@@ -67,6 +69,7 @@ without {P} (Q ∷ L) (further o) =
         → (R ≡ P) ⊎ OneOf R (Q ∷ K)
     split f first = inr first
     split f (further o) = ⊎_elim (λ e. inl e) (λ k. inr (further k)) (f o)
+without {P = P} [] x' = elim x' [ ]
 
 -- plans in order that are all in another list are no more than that list has
 pub no_more_in_order : (L K : Plans) → InOrder L → ((P : List Step) → OneOf P L → OneOf P K) → length L ≤ length K

@@ -85,6 +85,7 @@ module _ (J : Job) (goal : ℕ) where
   in_order_across (Q ∷ A) B h P R first r =
       one_of_each (λ R. comes_first Q R ≡ true) (A ++ B) h.0 (one_of_right A B r)
   in_order_across (Q ∷ A) B h P R (further o) r = in_order_across A B h.1 P R o r
+  in_order_across [] B h P R x3 r = elim x3 [ ]
 
   in_order_second_part : (A B : List (List Step)) → InOrder (A ++ B) → InOrder B
   in_order_second_part [] B h = h

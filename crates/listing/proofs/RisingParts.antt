@@ -21,6 +21,7 @@ not_after_start w x h = ⊎_elim (λ a. omega arith) (λ a. let e = a.0 in omega
 pub rising_after : (k N : List Step) → strictly_rising (k ++ N) ≡ true → EachStep (After k) N
 rising_after (z ∷ k) N h x Q i w W here = rising_before z (k ++ N) h x _ (place_after k i)
 rising_after (z ∷ k) N h x Q i w W (there {Q = V'} j) = rising_after k N (rising_rest z (k ++ N) h) x Q i w V' j
+rising_after [] N h x Q i w W x6 = elim x6 [ ]
 
 pub rising_second_part : (k N : List Step) → strictly_rising (k ++ N) ≡ true → strictly_rising N ≡ true
 rising_second_part [] N h = h

@@ -1,0 +1,8 @@
+-- `pack` meets its contract: the sum is the definition's.
+use mathlib.Core.Path.{refl}
+use Rattle.packing.specs.Answer.{packed}
+use Rattle.packing.proofs.pack.Goals as goal
+
+pub returns : goal.returns
+unfolding packed
+returns c = refl

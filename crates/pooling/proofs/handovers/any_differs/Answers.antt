@@ -1,0 +1,31 @@
+-- `any_differs` meets its contract: found among the first k handovers, of those that count.
+use mathlib.Core.Path.{◌≡◌, refl, ap, sym, ◌∙◌}
+use mathlib.Core.Bool.{Bool, not, ◌||◌, or_comm}
+use lib.Dec.{eqb}
+use lib.ListN.{get_or}
+use Rattle.lists.specs.Lists.{any_below}
+use Rattle.lists.proofs.Below.{below_more, below_cut}
+use native.Mathlib.Omega.{arith}
+use Rattle.pooling.proofs.handovers.any_differs.Invariants.{countsAt}
+use Rattle.pooling.proofs.handovers.any_differs.Goals as goal
+
+pub loop-k-init : goal.loop-k-init
+loop-k-init c = (omega arith, refl)
+
+pub loop-k-preserved : goal.loop-k-preserved
+loop-k-preserved c =
+    let a = c.args in
+    let l = c.loop-k in
+    let test = countsAt a.n a.a a.b in (
+      omega arith,
+      ap (λ (b : Bool). b || test l.k) l.invariant.1
+          ∙ or_comm (any_below l.k test) (test l.k)
+          ∙ sym (below_more l.k test),
+    )
+
+pub returns : goal.returns
+returns c =
+    let a = c.args in
+    let l = c.loop-k in
+    let e : l.k ≡ 4 = omega arith in
+    (rw e at l.invariant.1) ∙ below_cut a.n 4 (λ k. not (eqb (get_or a.a k 0) (get_or a.b k 0))) (omega arith)
