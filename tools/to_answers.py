@@ -151,6 +151,7 @@ class Function:
         text = re.sub(r"(?<![\w'.-])c((?:\.before(?![\w-]))*)((?:\.(?!before(?![\w-]))[\w'₀-₉-]+)+)", turn, text)
         text = re.sub(r"\bnot-(true|false) (?:_|c\.[\w'₀-₉.-]+) (c\.if-not-[\w'₀-₉-]+\.\1)", r"\2", text)
         text = re.sub(r"(?<!\) )(?<!not )(c\.if-not-[\w'₀-₉-]+\.(?:true|false))", r"\1", text)
+        text = re.sub(r"sym \(length-map [\w'.-]+ _\) ∙ ", "", text)
         text = re.sub(r"ap not \(sym ([^()]+)\) ∙ (c\.if-not-[\w'₀-₉-]+\.(?:true|false))", r"ap not (sym \1 ∙ \2)", text)
         if re.search(r"(?<![\w'.-])c\.before", text):
             self.said.append(f"{self.path}: {where}: a place is passed whole")
