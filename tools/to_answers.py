@@ -96,6 +96,11 @@ class Function:
         parent, old, new = self.places[place]
         return new if old and norm(old) == norm(field) else None
 
+    def chain(self, place):
+        while place in self.places:
+            yield place
+            place = self.places[place][0]
+
     def of_arm(self, place, field, rest):
         """What an arm knows now of an enum that the old proof told apart: its variant, the values in it."""
         arm = self.arms.get(place)
@@ -137,6 +142,8 @@ class Function:
                 rest = rest[:1] + (lent + rest[2:] if len(lent) == 1 else by_name(lent, rest[1:]))
             if rest[:1] == ["ensures"]:
                 rest = rest[:1] + by_name(named_clauses("ensures", self.callees.get(up)), rest[1:])
+            if new is None and field[-1:].isdigit():
+                new = next((b for a, b in [self.places[q][1:] for q in self.chain(at)] if norm(a) == norm(field[:-1])), None)
             if new is None:
                 self.said.append(f"{self.path}: {where}: no step {m.group(0)} at {at}")
                 return ".".join(["c", field] + rest)
@@ -144,6 +151,7 @@ class Function:
         text = re.sub(r"(?<![\w'.-])c((?:\.before(?![\w-]))*)((?:\.(?!before(?![\w-]))[\w'₀-₉-]+)+)", turn, text)
         text = re.sub(r"\bnot-(true|false) (?:_|c\.[\w'₀-₉.-]+) (c\.if-not-[\w'₀-₉-]+\.\1)", r"\2", text)
         text = re.sub(r"(?<!\) )(?<!not )(c\.if-not-[\w'₀-₉-]+\.(?:true|false))", r"\1", text)
+        text = re.sub(r"sym \(length-map [\w'.-]+ _\) ∙ ", "", text)
         text = re.sub(r"ap not \(sym ([^()]+)\) ∙ (c\.if-not-[\w'₀-₉-]+\.(?:true|false))", r"ap not (sym \1 ∙ \2)", text)
         if re.search(r"(?<![\w'.-])c\.before", text):
             self.said.append(f"{self.path}: {where}: a place is passed whole")
@@ -348,7 +356,7 @@ def convert(crate, folder, entry, path, said):
             body = re.sub(r"^" + re.escape(name) + r"(?=[\s=])", goal, body, flags=re.M)
             body = re.sub(r"^(" + re.escape(goal) + r" [^=\n]*?) κs", r"\1", body, flags=re.M)
             m2 = re.match(re.escape(goal) + r" c =\s*", body)
-            if m2 and re.sub(r"\s+", " ", body[m2.end():]).strip() in EASY:
+            if m2 and re.sub(r"\s+", " ", body[m2.end():]).strip() in EASY and not unfolding:
                 continue
             body = fn.paths(body, place, goal)
             if goal in fn.asked:
