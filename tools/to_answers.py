@@ -395,6 +395,90 @@ def convert(crate, folder, entry, path, said):
         os.rmdir(folder)
 
 
+def convert_cycle(crate, folder, entries, path, said):
+    """The proof of functions that call one another: one Answers.antt, each goal with its function's name before it."""
+    prefix = f"Rattle.{crate}.proofs.{path}"
+    fns = {}
+    for key, entry in entries.items():
+        m = re.match(re.escape(f"Rattle-{crate}-proofs.{path}.Lts-") + r"(\w+)$", key)
+        if m:
+            fns[m.group(1)] = Function(crate, path.rsplit("+", 1)[0] + m.group(1), entry, said)
+    uses, answers, helpers, invariants = [], [], [], []
+    files = [os.path.join(d, n) for d, _, ns in os.walk(folder) for n in sorted(ns)
+             if n.endswith(".antt") and n not in ("Invariants.antt", "Answers.antt", "Cycle.antt")]
+    for name in files:
+        text = open(name, encoding="utf-8").read()
+        aliases = dict(re.findall(r"^use \S+\.Lts-(\w+) as ([\w-]+)$", text, re.M))
+        of = {alias: fn for fn, alias in aliases.items()}
+        for piece in declarations(text):
+            uses += [l for l in piece if l.startswith("use ")]
+            lines = [l for l in piece if not l.startswith("use ") and not l.startswith("mod ")]
+            if not lines or all(l.startswith("--") for l in lines):
+                continue
+            parts = split_clauses(lines)
+            if parts is None:
+                helpers.append("\n".join(lines))
+                continue
+            notes, kind, local, signature, unfolding, clauses = parts
+            sig = " ".join(s.strip() for s in signature)
+            if "statement M" in sig or re.search(r": ℕ → [\w-]+\.Claims$", sig) or " In " in sig or "Measures" in sig:
+                continue
+            m = re.search(r": ([\w'-]+)\.(invariant|decreases)-(\S+)", sig)
+            if m and m.group(1) in of:
+                fn = fns[of[m.group(1)]]
+                body = "\n".join(clauses)
+                lhs = re.match(re.escape(local) + r"((?:\s+" + WORD + r")*)\s*=", body)
+                loop = norm(m.group(3))
+                right = arguments(fn, loop, lhs.group(1).split(), body[lhs.end():], said)
+                goal = f"{m.group(2)}-{of[m.group(1)]}-{fn.loops[loop][0]}"
+                invariants.append("\n".join(notes + [f"abbrev pub {goal} : goal.{goal}"] + unfolding + [f"{goal} l ={right}"]))
+                continue
+            m = re.search(r"\(t : ℕ\) → ([\w'-]+)\.Need-(\S+)", sig)
+            if not m or m.group(1) not in of:
+                helpers.append("\n".join(lines))
+                continue
+            fn = fns[of[m.group(1)]]
+            key = norm(m.group(2))
+            if key not in fn.needs:
+                said.append(f"{path}: no goal {m.group(2)}")
+                continue
+            goal, place = fn.needs[key]
+            goal = f"{of[m.group(1)]}-{goal}"
+            body = "\n".join(clauses)
+            body = re.sub(r"^" + re.escape(local) + r"(?=[\s=])", goal, body, flags=re.M)
+            body = re.sub(r"^(" + re.escape(goal) + r" [^=\n]*?) κs", r"\1", body, flags=re.M)
+            m2 = re.match(re.escape(goal) + r" t c =\s*", body)
+            if m2 and re.sub(r"\s+", " ", body[m2.end():]).strip() in EASY and not unfolding:
+                continue
+            body = fn.paths(body, place, goal)
+            # the measure's fact stands apart from what the contract asks
+            body = re.sub(r"\n? *let \w+ = c\.requires\.0 in(?=\s)", "", body)
+            body = re.sub(r"\bc\.requires\.1(?![\w])", "c.requires", body)
+            if goal.split("-", 1)[1] in fn.asked:
+                body = as_record(body, fn.asked[goal.split("-", 1)[1]])
+            answers.append("\n".join(notes + [f"pub {goal} : goal.{goal}"] + unfolding + [body]))
+    uses = [u for u in dict.fromkeys(uses) if f".{path.split('.')[-1]}." not in u and not u.endswith(("Reads as x",)) and ".Reads as " not in u and ".Kinds as " not in u]
+    merged = {}
+    for u in uses:
+        m = re.match(r"use ([\w.·+]+)\.\{(.*)\}$", u)
+        if m:
+            merged.setdefault(m.group(1), [])
+            merged[m.group(1)] += [n.strip() for n in m.group(2).split(",") if n.strip() not in merged[m.group(1)]]
+    uses = [f"use {k}.{{{', '.join(v)}}}" for k, v in merged.items()]
+    if invariants:
+        there = os.path.join(folder, "Invariants.antt")
+        body = "\n\n".join(invariants)
+        before = open(there, encoding="utf-8").read() if os.path.exists(there) else f"use {prefix}.Given as goal\n"
+        at = before.index("use ")
+        with open(there, "w", encoding="utf-8") as f:
+            f.write(before[:at] + "\n".join(use_lines(uses, body)) + "\n" + before[at:].rstrip("\n") + "\n\n" + body + "\n")
+    body = "\n\n".join(helpers + answers)
+    with open(os.path.join(folder, "Answers.antt"), "w", encoding="utf-8") as f:
+        f.write("\n".join(use_lines(uses, body) + [f"use {prefix}.Goals as goal", "", body]) + "\n")
+    for name in files:
+        os.remove(name)
+
+
 def main():
     names, crate = sys.argv[1:3]
     entries = json.load(open(names, encoding="utf-8"))
@@ -404,6 +488,9 @@ def main():
         if "Proof.antt" not in files:
             continue
         path = os.path.relpath(folder, root).replace("/", ".")
+        if os.path.basename(folder).startswith("+"):
+            convert_cycle(crate, folder, entries, path, said)
+            continue
         entry = entries.get(f"Rattle-{crate}-proofs.{path}.Lts")
         if entry is None:
             said.append(f"{path}: not in NAMES")
