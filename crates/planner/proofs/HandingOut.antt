@@ -8,7 +8,6 @@ use mathlib.Core.List.{List}
 use Rattle.encoding.specs.Bytes.{overwrite}
 use Rattle.job.specs.declared.refusal.Refusal.{Refusal}
 use Rattle.job.specs.Job.{Job}
-use Rattle.job.specs.Refusal.{returned}
 use Rattle.timeline.specs.Step.{Step}
 use Rattle.timeline.specs.declared.Day.{Day}
 use Rattle.timeline.specs.Day.{no_day, tells, day_reply}

@@ -1,0 +1,37 @@
+-- `with_kept` meets its contract: the kept steps alone, too late for others, or what the search finds.
+use native.Mathlib.Omega.{arith}
+use Rattle.job.specs.Job.{job_in}
+use Rattle.job.proofs.Passed.{passed}
+use Rattle.solver.proofs.TaskDays.{begun_day_fits, begun_day_solved}
+use Rattle.replanner.proofs.Alone.{replanned_alone, replanned_late, replanned_solved}
+use Rattle.job.proofs.Rows.{limits_of_pass}
+use Rattle.replanner.proofs.with_kept.Goals as goal
+
+pub as_plan-alone-requires : goal.as_plan-alone-requires
+as_plan-alone-requires c = c.requires.2.known.few
+
+pub returns-then-found : goal.returns-then-found
+returns-then-found c =
+    replanned_alone (job_in c.args.job) c.args.goal c.args.minute c.args.kept c.requires.0 c.requires.1 c.requires.2 c.as_plan-alone.result c.as_plan-alone.ensures c.if-found.true
+
+pub returns-then-job-minute : goal.returns-then-job-minute
+returns-then-job-minute c =
+    replanned_late (job_in c.args.job) c.args.goal c.args.minute c.args.kept c.requires.0 c.requires.1 c.requires.2 c.as_plan-alone.result c.as_plan-alone.ensures c.if-found.false c.if-job-minute.true _ c.nothing.ensures
+
+pub overflow_cast-minute : goal.overflow_cast-minute
+overflow_cast-minute c =
+    let day = (passed (job_in c.args.job) c.requires.0).deadline in let early = c.if-job-minute.false in omega arith
+
+pub solve-requires : goal.solve-requires
+solve-requires c =
+    let day = (passed (job_in c.args.job) c.requires.0).deadline in
+    let early = c.if-job-minute.false in
+    let fit = c.requires.2 in (
+      c.requires.0,
+      begun_day_fits c.args.job c.args.goal c.args.minute c.args.kept _ c.begun.ensures
+          (record { passes = limits_of_pass _ c.requires.0; goal = c.requires.1; known = fit.known; early = fit.early; rising = fit.rising; minute = omega arith }),
+    )
+
+pub returns : goal.returns
+returns c =
+    replanned_solved (job_in c.args.job) c.args.goal c.args.minute c.args.kept c.requires.0 c.requires.1 c.requires.2 c.as_plan-alone.result c.as_plan-alone.ensures c.if-found.false _ (begun_day_solved c.args.job c.args.goal c.args.minute c.args.kept _ c.begun.ensures c.solve.result c.solve.ensures)
