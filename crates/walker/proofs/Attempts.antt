@@ -20,7 +20,7 @@ use Rattle.walker.specs.Walk.{HeldAt, Forward, DayOf, Kept, Rising, RightBehind,
 use Rattle.walker.specs.Walk.{StepsAllow, SearchAllows, Walked, none_left, Visits, Attempts, Walks}
 use Rattle.tails.specs.Tails.{TailTable}
 use Rattle.walker.proofs.Own.{begins_when_own}
-use Rattle.walker.proofs.Met.{Met, met_first, met_next, met_found, met_all, met_full}
+use Rattle.walker.proofs.PlansMet.{Met, met_first, met_next, met_found, met_all, met_full}
 use Rattle.walker.proofs.Standing.{none_yet, rising_next, kept_of_next, in_order_next, right_behind_next}
 use Rattle.walker.proofs.Standing.{ends_with_next, held_next}
 use Rattle.walker.proofs.Barren.{none_walked, none_by_needs}

@@ -7,7 +7,7 @@ mod ListedTests
 mod Sparing
 mod Behind
 mod Own
-mod Met
+mod PlansMet
 mod Standing
 mod Barren
 mod Attempts

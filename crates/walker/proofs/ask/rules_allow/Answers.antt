@@ -1,0 +1,8 @@
+-- `rules_allow` meets its contract: the leaf holds the steps to the checker, for no goal.
+use Rattle.walker.proofs.Asking.{rules_refuse}
+use Rattle.walker.proofs.ask.rules_allow.Goals as goal
+
+pub returns : goal.returns
+returns c =
+    rules_refuse _ c.args.frame c.args.steps c.finish-answer.result
+    _ c.for_rules.ensures c.finish-answer.ensures
