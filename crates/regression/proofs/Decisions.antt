@@ -15,7 +15,7 @@ use Rattle.lists.proofs.Bools.{and_left, and_right}
 use Rattle.job.specs.Job.{Job}
 use Rattle.timeline.specs.Step.{Step, step_of}
 use Rattle.timeline.specs.From.{From, FitsFrom}
-use Rattle.timeline.specs.Places.{Place, here, EachStep, Permutation, next_step_lem}
+use Rattle.timeline.specs.Places.{Place, here, EachStep, Permutation, next_step}
 use Rattle.timeline.specs.Keeps.{OfJob}
 use Rattle.timeline.proofs.Tests.{decided, not_both, false_unless, and_both, or_neither}
 use Rattle.timeline.proofs.Places.{place_wider, place_append, place_after, find_any, none_of_any}
@@ -43,8 +43,8 @@ own_is_stopping J x i t own e s =
 taken : {x : Step} {R E : List Step} (L : List Step) → Place x R E → Permutation (R ++ (x ∷ L)) (E ++ L)
 taken {x} {R} L i =
     permutation_trans
-    (permutation_sym (next_step_lem (place_after R (here {Q = L})) (permutation_refl (R ++ L))))
-    (next_step_lem (place_append L i) (permutation_refl (R ++ L)))
+    (permutation_sym (next_step (place_after R (here {Q = L})) (permutation_refl (R ++ L))))
+    (next_step (place_append L i) (permutation_refl (R ++ L)))
 
 module _ (J : Job) (b : From) (goal T t : ℕ) where
   -- ---- the step of action i that stops at t

@@ -7,7 +7,7 @@ use mathlib.Core.List.{List}
 use Rattle.facts.specs.FactSet.{has, union}
 use Rattle.facts.proofs.Membership.{has_zero}
 use Rattle.timeline.specs.Step.{Step, union_of}
-use Rattle.timeline.specs.Places.{Place, Permutation, empty, next_step_lem}
+use Rattle.timeline.specs.Places.{Place, Permutation, empty, next_step}
 use Rattle.timeline.proofs.Tests.{not_both}
 use Rattle.timeline.proofs.Places.{any_at, find_any, union_of_place}
 use Rattle.timeline.proofs.HeldFacts.{has_union_of}
@@ -31,5 +31,5 @@ module _ (f : Step → ℕ) (n : ℕ) where
 
 pub permutation_union_of : (f : Step → ℕ) {R P : List Step} → Permutation R P → union_of f R ≡ union_of f P
 permutation_union_of f empty = refl
-permutation_union_of f (next_step_lem {x} i k) =
+permutation_union_of f (next_step {x} i k) =
     ap (union (f x)) (permutation_union_of f k) ∙ sym (union_of_place f i)

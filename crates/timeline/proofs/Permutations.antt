@@ -11,7 +11,7 @@ use Rattle.job.specs.Job.{Job}
 use Rattle.timeline.specs.Step.{Step, any_pair, total}
 use Rattle.timeline.specs.Timeline.{held, store_use}
 use Rattle.timeline.specs.Accepted.{clashing}
-use Rattle.timeline.specs.Places.{Place, here, there, Member, EachStep, Permutation, empty, next_step_lem}
+use Rattle.timeline.specs.Places.{Place, here, there, Member, EachStep, Permutation, empty, next_step}
 use Rattle.timeline.specs.Keeps.{Keeps, OfJob, PlanOf}
 use Rattle.timeline.proofs.Places.{any_place, total_place}
 use Rattle.timeline.proofs.Places.{length_place, any_pair_place, place_wider, place_append, place_after}
@@ -22,15 +22,15 @@ use Rattle.timeline.proofs.Shares.{use_at}
 -- ---- an equivalence
 pub permutation_refl : (P : List Step) → Permutation P P
 permutation_refl [] = empty
-permutation_refl (x ∷ P) = next_step_lem here (permutation_refl P)
+permutation_refl (x ∷ P) = next_step here (permutation_refl P)
 
 permutation_place : {x : Step} {Q P R : List Step} → Permutation Q R → Place x Q P → Permutation P (x ∷ R)
-permutation_place k here = next_step_lem here k
-permutation_place (next_step_lem j k) (there i) = next_step_lem (there j) (permutation_place k i)
+permutation_place k here = next_step here k
+permutation_place (next_step j k) (there i) = next_step (there j) (permutation_place k i)
 
 pub permutation_sym : {R P : List Step} → Permutation R P → Permutation P R
 permutation_sym empty = empty
-permutation_sym (next_step_lem i k) = permutation_place (permutation_sym k) i
+permutation_sym (next_step i k) = permutation_place (permutation_sym k) i
 
 -- x taken from both, where y is put in after
 pub place_exchange : {x y : Step} {W R P : List Step} → Place y R P → Place x W R
@@ -43,30 +43,30 @@ place_exchange (there {y = z} i) (there j) =
 -- x taken from both
 pub permutation_rest : {x : Step} {Q R P : List Step} → Permutation R P → Place x Q R
     → (W : List Step) × Place x W P × Permutation Q W
-permutation_rest (next_step_lem {Q = W} i k) here = (W, i, k)
-permutation_rest (next_step_lem i k) (there j) =
+permutation_rest (next_step {Q = W} i k) here = (W, i, k)
+permutation_rest (next_step i k) (there j) =
     let r = permutation_rest k j in
     let e = place_exchange i r.1 in
-    (e.0, e.1, next_step_lem e.2 r.2)
+    (e.0, e.1, next_step e.2 r.2)
 permutation_rest {Q = Q} empty x5 = elim x5 [ ]
 
 pub permutation_trans : {R P K : List Step} → Permutation R P → Permutation P K → Permutation R K
 permutation_trans empty l = l
-permutation_trans (next_step_lem i k) l =
-    let r = permutation_rest l i in next_step_lem r.1 (permutation_trans k r.2)
+permutation_trans (next_step i k) l =
+    let r = permutation_rest l i in next_step r.1 (permutation_trans k r.2)
 
 pub permutation_append : {R P : List Step} (K : List Step) → Permutation R P → Permutation (R ++ K) (P ++ K)
 permutation_append K empty = permutation_refl K
-permutation_append K (next_step_lem i k) = next_step_lem (place_append K i) (permutation_append K k)
+permutation_append K (next_step i k) = next_step (place_append K i) (permutation_append K k)
 
 -- ---- the same members
 pub permutation_swap : (N K : List Step) → Permutation (N ++ K) (K ++ N)
 permutation_swap [] K = rw (append-nil K) (permutation_refl K)
-permutation_swap (x ∷ N) K = next_step_lem (place_after K here) (permutation_swap N K)
+permutation_swap (x ∷ N) K = next_step (place_after K here) (permutation_swap N K)
 
 pub permutation_member : {x : Step} {Q R P : List Step} → Permutation R P → Place x Q R → Member x P
-permutation_member (next_step_lem i k) here = (_, i)
-permutation_member (next_step_lem i k) (there j) = let r = permutation_member k j in place_wider i r.1
+permutation_member (next_step i k) here = (_, i)
+permutation_member (next_step i k) (there j) = let r = permutation_member k j in place_wider i r.1
 permutation_member {Q = Q} empty x5 = elim x5 [ ]
 
 pub permutation_each : (F : Step → Type 0) {R P : List Step} → Permutation R P → EachStep F P → EachStep F R
@@ -76,22 +76,22 @@ permutation_each F k h x Q i = let r = permutation_member k i in h x r.0 r.1
 pub permutation_any : (test : Step → Bool) {R P : List Step} → Permutation R P → any test R ≡ any test P
 unfolding any
 permutation_any test empty = refl
-permutation_any test (next_step_lem {x} i k) =
+permutation_any test (next_step {x} i k) =
     ap (λ (b : Bool). test x || b) (permutation_any test k) ∙ sym (any_place test i)
 
 pub permutation_total : (f : Step → ℕ) {R P : List Step} → Permutation R P → total f R ≡ total f P
 permutation_total f empty = refl
-permutation_total f (next_step_lem {x} i k) =
+permutation_total f (next_step {x} i k) =
     ap (λ (n : ℕ). f x + n) (permutation_total f k) ∙ sym (total_place f i)
 
 pub permutation_length : {R P : List Step} → Permutation R P → length R ≡ length P
 permutation_length empty = refl
-permutation_length (next_step_lem i k) = ap suc (permutation_length k) ∙ sym (length_place i)
+permutation_length (next_step i k) = ap suc (permutation_length k) ∙ sym (length_place i)
 
 pub permutation_pairs : (test : Step → Step → Bool) → ((x y : Step) → test x y ≡ test y x) → {R P : List Step}
     → Permutation R P → any_pair test R ≡ any_pair test P
 permutation_pairs test symmetric empty = refl
-permutation_pairs test symmetric (next_step_lem {x} i k) =
+permutation_pairs test symmetric (next_step {x} i k) =
     ap₂ ◌||◌ (permutation_any (test x) k) (permutation_pairs test symmetric k)
     ∙ sym (any_pair_place test symmetric i)
 

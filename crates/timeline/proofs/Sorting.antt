@@ -13,7 +13,7 @@ use Rattle.job.specs.declared.refusal.Verdict.TheVariants.{Pass}
 use Rattle.timeline.specs.Step.{Step, before, strictly_rising}
 use Rattle.timeline.specs.Timeline.{end}
 use Rattle.timeline.specs.Accepted.{step_rows}
-use Rattle.timeline.specs.Places.{Place, here, there, EachStep, Permutation, empty, next_step_lem}
+use Rattle.timeline.specs.Places.{Place, here, there, EachStep, Permutation, empty, next_step}
 use Rattle.timeline.specs.Keeps.{Lasting, Keeps}
 use Rattle.timeline.proofs.Places.{place_wider, split_place}
 use Rattle.timeline.proofs.Clashes.{NoClash, no_clash_of_test}
@@ -71,7 +71,7 @@ sorted (x ∷ P) apart =
     record {
       steps = put.steps;
       rising = put.rising;
-      order = permutation_sym (next_step_lem put.place (permutation_sym rest.order));
+      order = permutation_sym (next_step put.place (permutation_sym rest.order));
     }
 
 -- two steps of one start and number would share a minute and clash

@@ -19,4 +19,4 @@ EachStep F P = (x : Step) (Q : List Step) → Place x Q P → F x
 -- the second list in another order
 pub data Permutation : List Step → List Step → Type 0 where
   empty : Permutation [] []
-  next_step_lem : {x : Step} {R Q P : List Step} → Place x Q P → Permutation R Q → Permutation (x ∷ R) P
+  next_step : {x : Step} {R Q P : List Step} → Place x Q P → Permutation R Q → Permutation (x ∷ R) P

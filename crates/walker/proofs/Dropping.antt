@@ -10,7 +10,7 @@ use lib.ListN.{length, get_or}
 use lib.Seq.{get_or-set_same, get_or-set_other}
 use Rattle.job.specs.Job.{Job}
 use Rattle.timeline.specs.Step.{Step, step_of}
-use Rattle.timeline.specs.Places.{Place, here, there, Member, Permutation, next_step_lem}
+use Rattle.timeline.specs.Places.{Place, here, there, Member, Permutation, next_step}
 use Rattle.timeline.proofs.Permutations.{permutation_refl, permutation_sym}
 use Rattle.tables.specs.Tables.{chosen, chosen_to}
 use Rattle.tables.specs.declared.Steps.{Steps}
@@ -97,7 +97,7 @@ module _ (J : Job) (steps : Steps) (numbers : length steps.numbers ≡ 32) (star
       record {
         rest = x ∷ r.0;
         place = subst (Place (placed J steps i) (x ∷ r.0)) whole (there r.1);
-        same = permutation_sym (next_step_lem r.2 (permutation_refl r.0));
+        same = permutation_sym (next_step r.2 (permutation_refl r.0));
       }
 
   pub rest_of_steps : Rest J steps i
@@ -118,7 +118,12 @@ place_has_index J steps (suc n) (there j) =
 
 -- a step taken from a list leaves the same steps, wherever it is taken from
 pub same_rest : {x : Step} {Q R P : List Step} → Place x Q P → Place x R P → Permutation Q R
-same_rest (here {Q}) here = permutation_refl Q
-same_rest here (there {Q = R} j) = permutation_sym (next_step_lem j (permutation_refl R))
-same_rest (there {Q = Q} i) here = next_step_lem i (permutation_refl Q)
-same_rest (there i) (there j) = next_step_lem here (same_rest i j)
+same_rest i j = of_same i j refl
+  where
+    of_same : {x y : Step} {Q R P : List Step} → Place x Q P → Place y R P → x ≡ y → Permutation Q R
+    of_same (here {Q}) here e = permutation_refl Q
+    of_same (here {Q}) (there {Q = R} j) e =
+        permutation_sym (next_step (subst (λ (z : Step). Place z R Q) (sym e) j) (permutation_refl R))
+    of_same {y = y} (there {Q = Q} {P = P} i) here e =
+        next_step (subst (λ (z : Step). Place z Q P) e i) (permutation_refl Q)
+    of_same (there i) (there j) e = next_step here (of_same i j e)

@@ -1,5 +1,5 @@
 -- `lost` meets its contract: the first k steps are joined.
-use Prim.Native.Nat.{◌+◌, ◌-◌, suc}
+use Prim.Native.Nat.{◌+◌, suc}
 use mathlib.Core.Path.{◌≡◌, refl, ap₂, ◌∙◌}
 use Rattle.facts.specs.FactSet.{union}
 use native.Mathlib.Omega.{arith}

@@ -1,5 +1,4 @@
 -- `alone` meets its contract: what the first k steps add while the step runs is gone.
-use Prim.Native.Nat.{◌-◌}
 use mathlib.Core.Path.{◌≡◌}
 use Rattle.timeline.proofs.Tests.{not_both}
 use Rattle.walker.proofs.Sparing.{alone_next}

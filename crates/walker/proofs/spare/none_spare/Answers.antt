@@ -1,5 +1,4 @@
 -- `none_spare` meets its contract: the step at which the loop breaks off is spare.
-use Prim.Native.Nat.{◌-◌}
 use mathlib.Core.Path.{refl}
 use Rattle.timeline.proofs.Tests.{not_both}
 use Rattle.walker.proofs.Sparing.{spare_when}

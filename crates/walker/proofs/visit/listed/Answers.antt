@@ -29,3 +29,21 @@ returns-then-not-none_dropped c =
           none_dropped_when_listed J _ c.args.frame asked c.args.steps kept rising listed some.0 some.1
           some.2;
     }
+
+pub returns : goal.returns
+returns c =
+    let f = c.if-not-found.false in
+    record {
+      found = λ e J asked kept rising. (
+        listed_when_none_dropped J _ c.args.frame asked c.args.steps kept rising
+            (plan_when_found J _ c.args.frame asked.in_file asked.actions asked.passed c.args.steps kept
+            c.finish-answer.result c.finish-answer.ensures f)
+            (c.none_dropped.ensures.none (c.if-not-none_dropped.false) J asked kept),
+        let have = known_steps J c.args.frame asked.actions c.args.steps kept in
+            tells_of_steps J _ c.args.frame asked c.args.steps kept rising c.finish-answer.result
+            (c.finish-answer.ensures.found f J asked.in_file)
+            (c.finish-answer.ensures.same f J asked.in_file have kept.starts)
+            (c.finish-answer.ensures.bytes f J asked.in_file have kept.starts),
+      );
+      none = λ e. not_both (c.if-not-found.false) e;
+    }

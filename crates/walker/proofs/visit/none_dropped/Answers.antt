@@ -1,5 +1,4 @@
 -- `none_dropped` meets its contract: of the first i steps none can be dropped.
-use Prim.Native.Nat.{◌-◌}
 use mathlib.Core.Path.{◌≡◌, refl}
 use mathlib.Core.Logic.{⊎_elim}
 use native.Mathlib.Nat.{eq-or-lt_of_le}
