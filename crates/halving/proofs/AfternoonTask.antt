@@ -1,13 +1,13 @@
 -- The afternoon as a task of the search: the job without its reserve passes its tests, and the task fits it.
 -- Assumes nothing.
-use Prim.Native.Nat.{ℕ, ◌<◌, ◌≤◌}
+use Prim.Native.Nat.{ℕ, ◌<◌}
 use mathlib.Core.Path.{◌≡◌, refl, sym, ap, subst, ◌∙◌}
-use mathlib.Core.Bool.{false, ◌||◌}
+use mathlib.Core.Bool.{false}
 use mathlib.Core.List.{List, []}
 use native.Mathlib.Omega.{arith}
 use lib.ListN.{length, get_or}
 use borrow.Author.Tests.{ltb-false, le-ltb}
-use Rattle.lists.specs.Lists.{any, any_below, tabulate}
+use Rattle.lists.specs.Lists.{any_below, tabulate}
 use Rattle.lists.proofs.Any.{any_none, none_any}
 use Rattle.lists.proofs.Below.{below_none, none_below}
 use Rattle.lists.proofs.Bools.{or_left, or_right}
@@ -26,13 +26,11 @@ use Rattle.job.proofs.Resuming.{job_in_unreserved}
 use Rattle.job.proofs.Rows.{limits_of_pass}
 use Rattle.job.proofs.Table.{first_next, first_pass, first_none, first_append_pass, pass_of_append}
 use Rattle.timeline.specs.declared.Plan.{Plan}
-use Rattle.timeline.specs.Step.{Step}
 use Rattle.timeline.specs.Timeline.{end, held}
 use Rattle.timeline.specs.Places.{EachStep}
 use Rattle.timeline.specs.Keeps.{OfJob}
 use Rattle.timeline.specs.Value.{steps_of}
 use Rattle.timeline.proofs.Tests.{or_neither}
-use Rattle.tables.specs.Tables.{no_steps}
 use Rattle.solver.specs.declared.Task.{Task}
 use Rattle.solver.specs.Task.{day_of, TaskFits}
 use Rattle.halving.specs.Afternoon.{left_of, afternoon}

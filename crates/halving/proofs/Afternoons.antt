@@ -10,10 +10,10 @@ use native.Mathlib.Omega.{arith}
 use lib.Dec.{eqb}
 use lib.ListN.{length, get_or}
 use borrow.Author.Tests.{le-ltb, not-true}
-use Rattle.lists.specs.Lists.{any, tabulate, firsts}
+use Rattle.lists.specs.Lists.{any, tabulate}
 use Rattle.lists.proofs.Any.{any_append, none_any}
 use Rattle.lists.proofs.Bools.{or_left, or_right}
-use Rattle.lists.proofs.Tabulate.{each_at, each_map, each_tabulate, length_tabulate, get_d_tabulate}
+use Rattle.lists.proofs.Tabulate.{each_at, each_tabulate, length_tabulate, get_d_tabulate}
 use Rattle.facts.specs.FactSet.{has, difference, foreign, Within}
 use Rattle.facts.proofs.Membership.{has_zero, has_union, has_difference, foreign_decides, within_unless_foreign}
 use Rattle.job.specs.Job.{Job, no_action}

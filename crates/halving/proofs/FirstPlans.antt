@@ -4,11 +4,9 @@ use Prim.Native.Nat.{ℕ}
 use mathlib.Core.Path.{◌≡◌}
 use mathlib.Core.Bool.{true}
 use mathlib.Core.Logic.{⊎_elim}
-use mathlib.Core.List.{List, []}
+use mathlib.Core.List.{[]}
 use Rattle.job.specs.Job.{Job}
 use Rattle.job.specs.Passed.{Passed}
-use Rattle.timeline.specs.Step.{Step, steps_in, plan_bytes}
-use Rattle.timeline.specs.Accepted.{Accepted}
 use Rattle.timeline.proofs.Tests.{decided}
 use Rattle.makespan.proofs.LeastEnds.{least_end_of_makespan, nothing_begun}
 use Rattle.listing.proofs.ListedPlans.{shortest_of_least}

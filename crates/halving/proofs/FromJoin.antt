@@ -16,7 +16,7 @@ use Rattle.timeline.specs.Accepted.{order_rows, shape_rows, step_rows, plan_rows
 use Rattle.timeline.specs.Day.{day_of}
 use Rattle.timeline.specs.declared.Day.{Day}
 use Rattle.joining.specs.Join.{largest_handover, join_steps, joined_steps, too_long}
-use Rattle.joining.specs.Answer.{join_rows, join_answer, left_by, left_by_join, Joins}
+use Rattle.joining.specs.Answer.{join_answer, left_by, left_by_join, Joins}
 use Rattle.joining.proofs.JoinCalls.{rows_pass}
 use Rattle.halving.specs.Afternoon.{afternoon}
 use Rattle.halving.specs.Halves.{JoinedHalves}

@@ -29,7 +29,7 @@ use Rattle.joining.proofs.Associates.{end_joined}
 use Rattle.joining.proofs.JoinedPeaks.{joined_in_use, handover_at_most}
 use Rattle.joining.proofs.JoinedShape.{ends_unless_too_long}
 use Rattle.joining.proofs.LaterSteps.{rising_later, rising_append}
-use Rattle.halving.specs.Afternoon.{left_of, afternoon}
+use Rattle.halving.specs.Afternoon.{afternoon}
 use Rattle.halving.proofs.Afternoons.{afternoon_in_use, afternoon_used_up, afternoon_cap}
 use Rattle.halving.proofs.JoinedFacts.{held_in_first, held_in_second}
 use Rattle.halving.proofs.LaterSteps.{no_clash_later, used_later}

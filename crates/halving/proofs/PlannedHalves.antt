@@ -2,10 +2,10 @@
 -- of it, and never ends before the shortest whole day.
 -- Assumes nothing.
 use Prim.Native.Nat.{ℕ, ◌≤◌}
-use mathlib.Core.Path.{◌≡◌, refl, sym, ap, subst, ◌∙◌}
-use mathlib.Core.Bool.{Bool, true, false}
+use mathlib.Core.Path.{◌≡◌, sym, ap, subst, ◌∙◌}
+use mathlib.Core.Bool.{false}
 use mathlib.Core.Logic.{⊎_elim}
-use mathlib.Core.List.{List, [], ◌∷◌, ◌++◌}
+use mathlib.Core.List.{List, [], ◌∷◌}
 use native.Mathlib.Omega.{arith}
 use Rattle.encoding.specs.Bytes.{overwrite}
 use Rattle.job.specs.Job.{Job}
@@ -19,7 +19,7 @@ use Rattle.job.proofs.Passed.{passed}
 use Rattle.job.proofs.Table.{first_pass, first_append_pass}
 use Rattle.timeline.specs.Step.{Step, steps_in, plan_bytes}
 use Rattle.timeline.specs.Timeline.{end}
-use Rattle.timeline.specs.Accepted.{plan_rows, Accepted}
+use Rattle.timeline.specs.Accepted.{Accepted}
 use Rattle.timeline.specs.Day.{told_of, tells, day_of}
 use Rattle.timeline.specs.declared.Day.{Day}
 use Rattle.timeline.proofs.DayLaws.{verdict_of_day, refused_not_passed}
