@@ -8,10 +8,8 @@ use mathlib.Core.List.{List}
 use native.Mathlib.Omega.{arith}
 use lib.ListN.{length, get_or, get_or-eq_default}
 use Rattle.lists.proofs.Tabulate.{each_at}
-use Rattle.facts.specs.FactSet.{has}
 use Rattle.job.specs.Job.{Action, Job, no_action}
 use Rattle.job.specs.Passed.{Passed, PassedAction}
-use Rattle.job.proofs.Passed.{passed}
 use Rattle.job.proofs.Values.{Shape}
 use Rattle.timeline.specs.Step.{Step}
 use Rattle.timeline.specs.Timeline.{in_use, store_use, used_up}

@@ -1,5 +1,4 @@
 -- `put` meets its contract: the first i actions stand behind those of the array.
-use Prim.Native.Nat.{◌-◌}
 use mathlib.Core.Path.{◌≡◌}
 use Rattle.job.specs.Job.{action_at}
 use Rattle.pooling.specs.Pooled.{renumbered}

@@ -5,7 +5,7 @@ use mathlib.Core.Bool.{Bool, not, ◌&&◌}
 use mathlib.Core.List.{List}
 use lib.Dec.{eqb, ltb}
 use lib.ListN.{get_or}
-use Rattle.lists.specs.Lists.{any_below_lem}
+use Rattle.lists.specs.Lists.{any_below}
 use Rattle.pooling.proofs.handovers.any_differs.Given as goal
 
 -- the handovers at place k are among the first n, and differ
@@ -13,7 +13,7 @@ abbrev pub countsAt : ℕ → List ℕ → List ℕ → ℕ → Bool
 countsAt n a b k = ltb k n && not (eqb (get_or a k 0) (get_or b k 0))
 
 abbrev pub invariant-loop-k : goal.invariant-loop-k
-invariant-loop-k l = (l.k ≤ 4) × (l.found ≡ any_below_lem l.k (countsAt l.n l.a l.b))
+invariant-loop-k l = (l.k ≤ 4) × (l.found ≡ any_below l.k (countsAt l.n l.a l.b))
 
 abbrev pub decreases-loop-k : goal.decreases-loop-k
 decreases-loop-k l = 4 - l.k
