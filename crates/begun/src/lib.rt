@@ -1,5 +1,7 @@
 // The rest of a begun day as a day of its own: which facts hold when it begins, and what is left of the steps that run
 // then.
+#![tactic(auto)]
+
 ghost use Rattle.std.specs.Prelude.{◌≡◌, ◌≤◌, ◌<◌, map, length};
 ghost use Rattle.job.specs.Job.{job_in, action_in, Fits};
 ghost use Rattle.job.specs.declared.Counts.{Counts};

@@ -1,5 +1,7 @@
 // The calls for other languages: a job crosses as the bytes of its file, and each call answers one number (packing). A
 // file that is refused is answered before anything else is looked at.
+#![tactic(auto)]
+
 ghost use Rattle.std.specs.Prelude.{◌≡◌};
 ghost use Rattle.calls.specs.Calls.{read_answer, check_answer, peaks_by_check, rewrite_answer, left_by_rewrite};
 ghost use Rattle.calls.specs.Calls.{price_answer, rates_in, true_day_answer, peaks_by_true_day};

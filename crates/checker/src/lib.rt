@@ -1,5 +1,7 @@
 // The checker: a job and a plan's bytes in; the plan's end, number of steps and peaks, or the first refusal of the
 // job and of 12 to 20, out.
+#![tactic(auto)]
+
 pub mod decode; // the steps in a plan's bytes
 pub mod rules; // one check for each rule
 pub mod pools; // how much of each pool is in use

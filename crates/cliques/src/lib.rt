@@ -1,4 +1,6 @@
 // Cliques: facts whose adders never overlap, so that adding them takes the sum of their least minutes.
+#![tactic(auto)]
+
 mod apart; // for each fact the facts whose adders never overlap its own
 mod least; // for each fact the least minutes of an adder
 

@@ -1,4 +1,6 @@
 // Earliest times: the one solution of the equations for pairs of facts, and the time of any set.
+#![tactic(auto)]
+
 pub mod set_time; // the time of a set, from a table
 mod start; // the times at the start
 mod lower; // entries lowered

@@ -1,4 +1,6 @@
 // Little-endian numbers in byte slices: one function to read and one to write, for every width up to 8 bytes.
+#![tactic(auto)]
+
 ghost use Rattle.std.specs.Prelude.{◌≡◌, ◌+◌, ◌*◌, ◌^◌, ◌≤◌, ◌<◌, length};
 ghost use Rattle.encoding.specs.Bytes.{from_bytes, to_bytes, part, overwrite};
 

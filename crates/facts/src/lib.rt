@@ -1,4 +1,6 @@
 // Sets of facts in a 64-bit word. A promise names the set that is returned and says which facts are in it.
+#![tactic(auto)]
+
 ghost use Rattle.std.specs.Prelude.{◌≡◌, not, cond, ◌&&◌, ◌||◌, ◌<◌};
 ghost use Rattle.lists.specs.Answer.{Decides};
 ghost use Rattle.facts.specs.FactSet.{has, Members, union, difference};

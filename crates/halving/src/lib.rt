@@ -1,5 +1,7 @@
 // A day planned in two halves: the first plan of the list for a halfway set, then the first for the goal from what that
 // leaves, joined. Why a day so planned is accepted stands in proofs/.
+#![tactic(auto)]
+
 ghost use Rattle.std.specs.Prelude.{◌≡◌, false, [], ◌≤◌, ◌<◌};
 ghost use Rattle.facts.specs.FactSet.{foreign};
 ghost use Rattle.job.specs.Job.{job_in, Fits};

@@ -1,4 +1,6 @@
 // The job of a day by value: its actions, its resources and its sets of facts, with every limit once.
+#![tactic(auto)]
+
 pub mod refusal; // the table of refusals
 pub mod validate; // the tests of a job value
 mod beyond; // test 26

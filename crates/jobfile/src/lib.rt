@@ -1,4 +1,6 @@
 // The job file: its layout and the places of its bodies, and what reading and writing one answer. The reader and the writer are crates of their own.
+#![tactic(auto)]
+
 ghost use Rattle.std.specs.Prelude.{◌≡◌, ◌<◌};
 ghost use Rattle.jobfile.specs.File.{action_size, places_of, missized, Small};
 

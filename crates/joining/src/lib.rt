@@ -1,5 +1,7 @@
 // Joining two plans: a job, two plans' bytes and a lent slice in; the joined plan at the front of the slice, or the
 // first refusal of the job, of 12 to 15 of the first plan and of the second, of 21 and of 34, out.
+#![tactic(auto)]
+
 mod later; // a plan's bytes, so many minutes later
 mod told; // what is told of two plans joined
 

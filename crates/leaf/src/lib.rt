@@ -1,4 +1,6 @@
 // What the search does at the first minute: the chosen steps in order, as a plan's bytes, held to the checker.
+#![tactic(auto)]
+
 mod order; // the steps in rising order
 mod bytes; // the steps as bytes
 

@@ -1,4 +1,6 @@
 // The list of all the shortest days: the plan at a place of it.
+#![tactic(auto)]
+
 ghost use Rattle.job.specs.Job.{job_in};
 ghost use Rattle.lister.specs.List.{Lists};
 

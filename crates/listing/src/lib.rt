@@ -1,1 +1,2 @@
 // The list of all the shortest days: its definitions in specs/, their laws in proofs/.
+#![tactic(auto)]

@@ -1,5 +1,7 @@
 // An answer of a call for other languages as one number, packed the same way for every call: kind, refusal number, end
 // and steps; a price has the cents behind its kind.
+#![tactic(auto)]
+
 ghost use Rattle.std.specs.Prelude.{◌≡◌, ◌<◌};
 ghost use Rattle.packing.specs.Answer.{packed, refusal, day_number, time_number, written_number, ShortFile, peaks_by};
 ghost use Rattle.packing.specs.Answer.{cost, priced_number, SmallPrice};

@@ -1,4 +1,6 @@
 // Both facts of each of the 2,080 entries of a table of earliest times.
+#![tactic(auto)]
+
 ghost use Rattle.std.specs.Prelude.{◌≡◌, ◌≤◌, ◌<◌};
 ghost use Rattle.pairs.specs.Pairs.{entry_of, PairAt};
 

@@ -1,5 +1,7 @@
 // The planner: a job and a lent slice in; a shortest plan at the front of the slice, or the first refusal of the
 // job, of 21 and of 22.
+#![tactic(auto)]
+
 pub mod hand_out; // the answer of the search, in the lent slice
 
 ghost use Rattle.job.specs.Job.{job_in};

@@ -1,5 +1,7 @@
 // Two jobs pooled to one: two job values in; the pooled job, or the first refusal of the first job, of the second, of
 // 32 and of 33, out.
+#![tactic(auto)]
+
 mod amounts; // availabilities and uses place by place
 mod actions; // actions one behind the other
 mod handovers; // handovers of the pools of both

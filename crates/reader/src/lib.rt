@@ -1,4 +1,6 @@
 // The reader: any bytes in; the job in them, or the first refusal of the file and of its job, out. One pass over the bytes.
+#![tactic(auto)]
+
 mod action; // one action of a body, taken apart
 mod decode; // the bodies of a file to a job
 mod view; // the actions body, as a view of the lent file

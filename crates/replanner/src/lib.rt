@@ -1,5 +1,7 @@
 // The replanner: a job, the current plan, a minute, a new goal and a lent slice in; a shortest day that keeps the steps
 // begun before the minute, or the first refusal of the job, of 24, 12 to 19, 21 and 35.
+#![tactic(auto)]
+
 mod kept; // the steps that start before the minute
 
 ghost use Rattle.std.specs.Prelude.{◌≡◌, false, length};

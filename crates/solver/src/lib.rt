@@ -1,4 +1,6 @@
 // One search for every task: a shortest plan that counts, or that there is none.
+#![tactic(auto)]
+
 ghost use Rattle.std.specs.Prelude.{◌≡◌, ◌≤◌, replicate};
 ghost use Rattle.job.specs.Job.{job_in, Fits};
 ghost use Rattle.job.specs.Refusal.{first};

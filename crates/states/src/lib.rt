@@ -1,4 +1,6 @@
 // States of the regression search, which actions may stop at a minute, and the moves from one state to the next.
+#![tactic(auto)]
+
 pub mod minute; // what the chosen steps mean for a minute
 pub mod amounts; // pools and stores
 pub mod state; // a state of the search

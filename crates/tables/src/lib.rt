@@ -1,4 +1,6 @@
 // A job in tables of numbers, for the search to borrow; the steps that it has chosen.
+#![tactic(auto)]
+
 pub mod layout; // where the tables have what
 pub mod fill; // the tables of a job
 pub mod longer; // which of two has more minutes

@@ -1,5 +1,7 @@
 // For each fact how many minutes at least pass from the stop of a step that adds it to the end of a plan that has a use
 // for it. The table is found by any loop and held to a test; where that fails, every tail is 0.
+#![tactic(auto)]
+
 ghost use Rattle.std.specs.Prelude.{◌≡◌, true, ◌+◌, ◌≤◌, ◌<◌, min, length};
 ghost use Rattle.tables.specs.Tables.{Lent};
 ghost use Rattle.tails.specs.Tails.{AtMostEach, EachAtMost, Through, ClosedAt, TailTable, AllAre};

@@ -1,4 +1,6 @@
 // The timeline of a plan: definitions in specs/, their laws in proofs/, and a plan by value.
+#![tactic(auto)]
+
 ghost use Rattle.std.specs.Prelude.{◌≡◌, max};
 ghost use Rattle.job.specs.Job.{action_in};
 ghost use Rattle.job.specs.declared.Counts.{Counts};

@@ -1,1 +1,2 @@
 // Earliest times: definitions in specs/, their laws in proofs/.
+#![tactic(auto)]

@@ -1,5 +1,7 @@
 // The true day: a job, a plan's bytes and the true length of each step in; the true end, number of steps and peaks, or
 // the first refusal of the job, of 12 to 20 and of 30, out.
+#![tactic(auto)]
+
 ghost use Rattle.std.specs.Prelude.{◌≡◌, ◌≤◌, ◌<◌, ◌+◌, ◌^◌, length};
 ghost use Rattle.job.specs.Job.{job_in, Fits};
 ghost use Rattle.job.specs.Lengths.{longest_of};

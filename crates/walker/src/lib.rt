@@ -1,4 +1,6 @@
 // The walk over the listed plans, in the list's order, to the plan at a place.
+#![tactic(auto)]
+
 pub mod page; // the plan at a place, for a task
 mod walk; // the walk itself
 mod visit; // whether a plan is listed

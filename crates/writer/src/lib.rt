@@ -1,5 +1,7 @@
 // The writer: a job and a lent slice in; the file at the front of the slice, or the first refusal of the job
 // and of 23.
+#![tactic(auto)]
+
 mod encode; // the parts of a file
 
 ghost use Rattle.job.specs.Job.{job_in};

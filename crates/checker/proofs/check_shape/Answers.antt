@@ -24,7 +24,7 @@ returns-in_default-known_actions c =
     ∙ check_fails UnknownAction _ _ _ (sym c.known_actions.ensures ∙ c.in_default-known_actions.is))
 
 pub plan-plan-requires : goal.plan-plan-requires
-plan-plan-requires c = record { fits = (fits_of_pass c.args.job (c.requires), passed_test PlanSize _ (sym c.size.ensures ∙ c.in-Pass.is)); bytes_value = passed_test UnknownAction _ (sym c.known_actions.ensures ∙ c.in-Pass-known_actions.is); }
+plan-plan-requires c = record { fits = (fits_of_pass c.args.job (c.requires), passed_test PlanSize _ (sym c.size.ensures ∙ c.in-Pass.is)); bytes_value = passed_test UnknownAction _ (sym c.known_actions.ensures ∙ c.in-Pass-known_actions.is) }
 
 pub check_order-requires : goal.check_order-requires
 check_order-requires c =

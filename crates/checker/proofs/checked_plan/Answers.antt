@@ -25,7 +25,7 @@ returns-in_default-known_actions c =
     ∙ check_fails UnknownAction _ _ _ (sym c.known_actions.ensures ∙ c.in_default-known_actions.is))
 
 pub plan-plan-requires : goal.plan-plan-requires
-plan-plan-requires c = record { fits = (fits_of_limits c.args.job (c.requires), passed_test PlanSize _ (sym c.size.ensures ∙ c.in-Pass.is)); bytes_value = passed_test UnknownAction _ (sym c.known_actions.ensures ∙ c.in-Pass-known_actions.is); }
+plan-plan-requires c = record { fits = (fits_of_limits c.args.job (c.requires), passed_test PlanSize _ (sym c.size.ensures ∙ c.in-Pass.is)); bytes_value = passed_test UnknownAction _ (sym c.known_actions.ensures ∙ c.in-Pass-known_actions.is) }
 
 pub check_steps-requires : goal.check_steps-requires
 check_steps-requires c =
@@ -33,7 +33,7 @@ check_steps-requires c =
     let e = c.plan-plan.ensures in
     let known = passed_test UnknownAction _ (sym c.known_actions.ensures ∙ c.in-Pass-known_actions.is) in
     let lasting = known_steps_last (job_in j) c.args.bytes.now (within_limits (job_in j) (c.requires)) known in
-    record { length_bound = (e.0, e.1, fits_of_limits j (c.requires)); plan_value = (rw e.2 known, rw e.2 lasting); }
+    record { length_bound = (e.0, e.1, fits_of_limits j (c.requires)); plan_value = (rw e.2 known, rw e.2 lasting) }
 
 pub with_day-requires : goal.with_day-requires
 with_day-requires c =

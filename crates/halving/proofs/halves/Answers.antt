@@ -29,9 +29,9 @@ returns-then-out-lt-BYTES c =
 
 pub first_half-morning-requires : goal.first_half-morning-requires
 first_half-morning-requires c = (
-      sym c.validate-verdict.ensures ∙ c.in_default.is,
-      sym c.foreign.ensures.0 ∙ c.if-foreign.false,
-    )
+  sym c.validate-verdict.ensures ∙ c.in_default.is,
+  sym c.foreign.ensures.0 ∙ c.if-foreign.false,
+)
 
 pub returns-then-not-some_morning : goal.returns-then-not-some_morning
 returns-then-not-some_morning c =

@@ -16,11 +16,14 @@ pub checked_plan-checked-requires : goal.checked_plan-checked-requires
 checked_plan-checked-requires c = limits_of_pass _ c.requires.0
 
 pub afternoon-task-requires : goal.afternoon-task-requires
-afternoon-task-requires c = record { length_bound = decoded_fits c.args.job c.args.halfway c.args.morning.now c.requires.0 c.requires.1
-          c.checked_plan-checked.result
-          c.checked_plan-checked.ensures; plan_bound = decoded_ends c.args.job c.args.halfway c.args.morning.now c.requires.0 c.requires.1
-          c.checked_plan-checked.result
-          c.checked_plan-checked.ensures; }
+afternoon-task-requires c = record {
+  length_bound = decoded_fits c.args.job c.args.halfway c.args.morning.now c.requires.0 c.requires.1
+      c.checked_plan-checked.result
+      c.checked_plan-checked.ensures;
+  plan_bound = decoded_ends c.args.job c.args.halfway c.args.morning.now c.requires.0 c.requires.1
+      c.checked_plan-checked.result
+      c.checked_plan-checked.ensures;
+}
 
 pub plan_at-requires : goal.plan_at-requires
 plan_at-requires c =

@@ -138,7 +138,7 @@ slice_bounds-decode-count-6 c =
 pub decode-requires : goal.decode-requires
 decode-requires c =
     let f = slices_fit_decode c.args.file.now c.args.layout c.requires.0 in
-    rw c.places-at.ensures record { in_bounds = f.0; pools_len_bound = (f.1, f.2); waits_len_bound = (f.4, f.5); stores_len_bound = f.3; }
+    rw c.places-at.ensures record { in_bounds = f.0; pools_len_bound = (f.1, f.2); waits_len_bound = (f.4, f.5); stores_len_bound = f.3 }
 
 pub returns : goal.returns
 returns c =

@@ -15,11 +15,11 @@ loop-i-init c = (omega arith, λ J e. refl)
 
 pub loop-i-preserved : goal.loop-i-preserved
 loop-i-preserved c = (
-      omega arith,
-      λ J e.
-          c.larger-most.ensures ∙ ap₂ max (c.loop-i.invariant.1 J e) (c.in_use.ensures J e)
-          ∙ sym (largest_more (step_at c.args.plan) (usedAt J c.args.plan c.args.pool) c.loop-i.i),
-    )
+  omega arith,
+  λ J e.
+      c.larger-most.ensures ∙ ap₂ max (c.loop-i.invariant.1 J e) (c.in_use.ensures J e)
+      ∙ sym (largest_more (step_at c.args.plan) (usedAt J c.args.plan c.args.pool) c.loop-i.i),
+)
 
 pub returns : goal.returns
 returns c =

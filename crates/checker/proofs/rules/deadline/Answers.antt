@@ -23,10 +23,10 @@ returns-then-limit-step c =
 
 pub loop-i-preserved : goal.loop-i-preserved
 loop-i-preserved c = (
-      omega arith,
-      any_more (λ x. over c.args.limit x.stop) (step_at c.args.plan) c.loop-i.i c.loop-i.invariant.1
-          (le-ltb _ _ c.if-limit-step.false),
-    )
+  omega arith,
+  any_more (λ x. over c.args.limit x.stop) (step_at c.args.plan) c.loop-i.i c.loop-i.invariant.1
+      (le-ltb _ _ c.if-limit-step.false),
+)
 
 pub returns : goal.returns
 unfolding first

@@ -17,10 +17,10 @@ returns-then-step-clock c =
 
 pub loop-i-preserved : goal.loop-i-preserved
 loop-i-preserved c = (
-      omega arith,
-      any_more (lacks_at c.args.clock) (step_at c.args.plan) c.loop-i.i c.loop-i.invariant.1
-          (rw c.subset.ensures.0 at c.if-step-clock.false),
-    )
+  omega arith,
+  any_more (lacks_at c.args.clock) (step_at c.args.plan) c.loop-i.i c.loop-i.invariant.1
+      (rw c.subset.ensures.0 at c.if-step-clock.false),
+)
 
 pub returns : goal.returns
 returns c =

@@ -17,10 +17,10 @@ bounds-numbers-q c = let n = c.loop-q.invariant.1.kept.size in omega arith
 
 pub loop-q-preserved : goal.loop-q-preserved
 loop-q-preserved c = (
-      omega arith,
-      least_put_on c.args.sets.now _ _ _ c.loop-q.q _ c.requires.2 c.loop-q-test.true c.least-minutes.ensures
-          c.loop-q.invariant.1,
-    )
+  omega arith,
+  least_put_on c.args.sets.now _ _ _ c.loop-q.q _ c.requires.2 c.loop-q-test.true c.least-minutes.ensures
+      c.loop-q.invariant.1,
+)
 
 pub shape_of-numbers : goal.shape_of-numbers
 shape_of-numbers c =

@@ -28,16 +28,14 @@ loop-entry-preserved c =
     let before = c.loop-entry.invariant.1 in
     let test = c.both_in.ensures in
     elim c.if-both_in.branch [
-      | then-both_in w ↦
-          (
-            omega arith,
-            rw w.table-is
-                (start_written start entry c.loop-entry.table before (omega arith) (rw w.if-both_in.true at test)),
-          )
-      | else-both_in w ↦
-          (
-            omega arith,
-            rw w.table-is
-                (start_left start entry c.loop-entry.table before (omega arith) (rw w.if-both_in.false at test)),
-          )
+      | then-both_in w ↦ (
+        omega arith,
+        rw w.table-is
+            (start_written start entry c.loop-entry.table before (omega arith) (rw w.if-both_in.true at test)),
+      )
+      | else-both_in w ↦ (
+        omega arith,
+        rw w.table-is
+            (start_left start entry c.loop-entry.table before (omega arith) (rw w.if-both_in.false at test)),
+      )
     ]

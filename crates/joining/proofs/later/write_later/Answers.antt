@@ -12,10 +12,10 @@ write_step-requires c = (omega arith, omega arith)
 
 pub loop-i-preserved : goal.loop-i-preserved
 loop-i-preserved c = (
-      omega arith,
-      omega arith,
-      wrote_more _ _ _ _ c.loop-i.i c.loop-i.invariant.2 (omega arith) _ c.write_step.ensures,
-    )
+  omega arith,
+  omega arith,
+  wrote_more _ _ _ _ c.loop-i.i c.loop-i.invariant.2 (omega arith) _ c.write_step.ensures,
+)
 
 pub returns : goal.returns
 returns c = wrote_all _ _ _ _ _ c.loop-i.invariant.2 (omega arith)

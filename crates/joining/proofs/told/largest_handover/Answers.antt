@@ -15,13 +15,13 @@ loop-k-init c = (omega arith, λ J n h. refl)
 
 pub loop-k-preserved : goal.loop-k-preserved
 loop-k-preserved c = (
-      omega arith,
-      λ J n h.
-          let inside : c.loop-k.k < length J.pools = omega arith in
-          c.longer-most.ensures
-          ∙ ap₂ max (h c.loop-k.k inside) (c.loop-k.invariant.1 J n h)
-          ∙ largest_next c.loop-k.k (handover J),
-    )
+  omega arith,
+  λ J n h.
+      let inside : c.loop-k.k < length J.pools = omega arith in
+      c.longer-most.ensures
+      ∙ ap₂ max (h c.loop-k.k inside) (c.loop-k.invariant.1 J n h)
+      ∙ largest_next c.loop-k.k (handover J),
+)
 
 pub returns : goal.returns
 returns c =

@@ -20,9 +20,9 @@ shape_of-sets-then-not-closed c =
 
 pub returns-then-not-closed : goal.returns-then-not-closed
 returns-then-not-closed c = (
-      kept_again 256 384 _ _ _ c.search.ensures c.begin.ensures.kept,
-      closed_when_empty _ _ _ _ c.begin.ensures,
-    )
+  kept_again 256 384 _ _ _ c.search.ensures c.begin.ensures.kept,
+  closed_when_empty _ _ _ _ c.begin.ensures,
+)
 
 pub shape_of-sets-else-not-closed : goal.shape_of-sets-else-not-closed
 shape_of-sets-else-not-closed c =

@@ -12,9 +12,9 @@ through-all-requires c = let h = c.requires in (h.0, omega arith)
 
 pub loop-i-preserved : goal.loop-i-preserved
 loop-i-preserved c = (
-      omega arith,
-      adders_on c.args.sets.now c.args.q _ _ _ c.through-all.ensures c.loop-i.invariant.1,
-    )
+  omega arith,
+  adders_on c.args.sets.now c.args.q _ _ _ c.through-all.ensures c.loop-i.invariant.1,
+)
 
 pub returns : goal.returns
 returns c =

@@ -30,9 +30,9 @@ shape_of-numbers-then-not-within c =
 
 pub returns-then-not-within : goal.returns-then-not-within
 returns-then-not-within c = (
-      kept_again _ 1220 _ _ _ c.search.ensures c.put.ensures.kept,
-      within_when_empty c.args.sets.now c.args.start _ _ c.args.actions _ c.put.ensures,
-    )
+  kept_again _ 1220 _ _ _ c.search.ensures c.put.ensures.kept,
+  within_when_empty c.args.sets.now c.args.start _ _ c.args.actions _ c.put.ensures,
+)
 
 pub shape_of-numbers-else-not-within : goal.shape_of-numbers-else-not-within
 shape_of-numbers-else-not-within c =

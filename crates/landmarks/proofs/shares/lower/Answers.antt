@@ -20,9 +20,9 @@ loop-p-smaller c = let next = c.next-p-in-loop-p.ensures.onward (omega arith) in
 
 pub loop-p-preserved : goal.loop-p-preserved
 loop-p-preserved c = (
-      c.next-p-in-loop-p.ensures.within,
-      kept_again _ 1220 _ _ _ c.loop-p.invariant.1 (kept_less c.args.at _ 1220 _ _ (omega arith) c.lower_at.ensures),
-    )
+  c.next-p-in-loop-p.ensures.within,
+  kept_again _ 1220 _ _ _ c.loop-p.invariant.1 (kept_less c.args.at _ 1220 _ _ (omega arith) c.lower_at.ensures),
+)
 
 pub shape_of-numbers : goal.shape_of-numbers
 shape_of-numbers c =

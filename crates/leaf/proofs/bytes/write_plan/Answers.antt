@@ -9,11 +9,11 @@ loop-k-init c = (omega arith, refl, wrote_none c.args.steps c.args.out.now)
 
 pub loop-k-preserved : goal.loop-k-preserved
 loop-k-preserved c = (
-      omega arith,
-      omega arith,
-      wrote_more c.args.steps _ _ c.loop-k.k c.loop-k.invariant.2 (omega arith) _
-          (λ J. c.write_step.ensures),
-    )
+  omega arith,
+  omega arith,
+  wrote_more c.args.steps _ _ c.loop-k.k c.loop-k.invariant.2 (omega arith) _
+      (λ J. c.write_step.ensures),
+)
 
 pub returns : goal.returns
 returns c =

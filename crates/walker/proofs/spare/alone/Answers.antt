@@ -29,10 +29,10 @@ added_while-other-requires c =
 
 pub loop-k-preserved : goal.loop-k-preserved
 loop-k-preserved c = (
-      omega arith,
-      alone_next _ _ c.args.steps c.args.b c.args.from c.args.stop c.loop-k.k c.loop-k.set _ _ c.loop-k.invariant.1
-          c.added_while-other.ensures c.difference-set.ensures.0,
-    )
+  omega arith,
+  alone_next _ _ c.args.steps c.args.b c.args.from c.args.stop c.loop-k.k c.loop-k.set _ _ c.loop-k.invariant.1
+      c.added_while-other.ensures c.difference-set.ensures.0,
+)
 
 pub returns : goal.returns
 returns c =
