@@ -44,12 +44,7 @@ fn duration(job: Job, action: u8) -> u8 {
 }
 
 // The steps in plan order.
-fn print_steps(
-    rt: &impl Print,
-    job: Job,
-    steps: usize,
-    plan: [u8; Plan::BYTES],
-) -> io::Result<()>
+fn print_steps(rt: &impl Print, job: Job, steps: usize, plan: [u8; Plan::BYTES]) -> io::Result<()>
     requires { steps ≤ 32 }
 {
     for i in 0..steps {
