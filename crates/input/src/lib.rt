@@ -24,8 +24,8 @@ pub fn tell(rt: &impl Eprint, line: &str) {
     let _ = rt.eprintln(line);
 }
 
-// Writes a line to standard error: what failed, a colon and the reason.
-fn tell_why(rt: &(impl Eprint + Alloc), what: &str, why: io::Error) {
+// Writes a line to standard error: what failed, a colon and the reason. Where that fails, there is nowhere else to say so.
+pub fn tell_why(rt: &(impl Eprint + Alloc), what: &str, why: io::Error) {
     let _ = line_of(rt, what, why);
 }
 

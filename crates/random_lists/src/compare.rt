@@ -1,12 +1,10 @@
 // Both lists of one job, at every place and at the one behind the last. Each plan is also checked, and so are its peaks
 // and the bytes that the lister leaves.
-use check::same;
 use compared::{Outcome, unless_differs};
 use job::Job;
 use lent::{first_steps, handed_out, refused};
 use second::list::Listed;
 use second::{Makespan, list};
-use std::num::wrapping_add_u32;
 use timeline::Plan;
 
 // The most plans of a list that is compared: 128 places of 97 bytes.
@@ -24,7 +22,7 @@ pub struct Compared {
 fn same_plan(job: Job, place: u32, plan: &[u8], end: u32) -> bool {
     let mut slice = [lent::FILL; Plan::BYTES];
     let day = lister::list(job, place, &mut slice);
-    handed_out(job, job.goal, &slice, day, end) & same(first_steps(&slice, day.steps), plan)
+    handed_out(job, job.goal, &slice, day, end) & (first_steps(&slice, day.steps) == plan)
 }
 
 // Whether the lister refuses the place by this number.
@@ -49,7 +47,7 @@ fn same_plans(job: Job, list: &[u8], plans: u32, end: u32) -> bool {
 // 1 where the first plan begins the second, which is another, and 0 where it doesn't.
 fn begins(first: &[u8], second: &[u8]) -> u32 {
     let longer = first.len() < second.len();
-    if longer & same(lent::front(second, first.len()), first) {
+    if longer & (lent::front(second, first.len()) == first) {
         return 1;
     }
     0
@@ -62,7 +60,7 @@ fn begin_next(list: &[u8], plans: u32) -> u32 {
     while place < plans {
         let plan = list::plan_at(list, place);
         place += 1;
-        sum = wrapping_add_u32(sum, begins(plan, list::plan_at(list, place)));
+        sum = sum.wrapping_add(begins(plan, list::plan_at(list, place)));
     }
     sum
 }

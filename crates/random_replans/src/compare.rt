@@ -1,6 +1,5 @@
 // Both planners on one begun day. The replanner's plan is also checked, and so are its kept steps, its peaks and the
 // bytes that it leaves.
-use check::same;
 use compared::{Outcome, unless_differs};
 use job::Job;
 use job::refusal::Verdict;
@@ -59,9 +58,9 @@ pub fn suffice(begun: Begun, steps: &[u8]) -> bool {
 // meet the goal.
 fn keeps(begun: Begun, kept: &[u8], plan: &[u8]) -> bool {
     if suffice(begun, kept) {
-        return same(plan, kept);
+        return plan == kept;
     }
-    same(steps_before(plan, begun.minute), kept)
+    steps_before(plan, begun.minute) == kept
 }
 
 // Where the second planner finds no plan: 24 for a foreign goal, and otherwise 35.
