@@ -14,8 +14,8 @@ mod true_days; // days that have run
 use lending::rest;
 use lent::front;
 use std::fs::File;
+use std::io;
 use std::io::Read;
-use std::{io, io};
 
 // The bytes of a record's head, and room for the longest body.
 const HEAD: usize = 16;

@@ -35,10 +35,7 @@ fn print_answer(rt: &impl Print, file: &[u8], plan: &[u8]) -> io::Result<()> {
 }
 
 // Reads the plan and answers.
-fn check_plan_for(
-    rt: &(impl Env + Files + Print + Eprint + Alloc),
-    file: &[u8],
-) -> io::Result<()> {
+fn check_plan_for(rt: &(impl Env + Files + Print + Eprint + Alloc), file: &[u8]) -> io::Result<()> {
     let mut plan = [0u8; PLAN];
     match load_named(rt, 2, &mut plan) {
         Some(length) => print_answer(rt, file, &plan[..length]),

@@ -100,7 +100,7 @@ fn counted(rt: &impl Print, counts: Counts, seed: u64) -> io::Result<Counts> {
     if !same {
         total(rt, b"differs, seed", seed)?;
     }
-    with(counts, job, found, same)
+    Ok(with(counts, job, found, same))
 }
 
 // The counts over the first so many seeds.
