@@ -52,14 +52,13 @@ fn keeps(current: &[u8], minute: u32, plan: &[u8]) -> bool {
 
 // How many steps at the front of a plan start before the minute.
 fn begun(plan: &[u8], minute: u32) -> u8 {
-    let mut count = 0u8;
-    while (count as usize) < Plan::STEPS {
+    let steps = Plan::STEPS as u8;
+    for count in 0..steps {
         if !is_begun(rest(plan, count as usize * Plan::STEP), minute) {
             return count;
         }
-        count += 1;
     }
-    count
+    steps
 }
 
 // Whether there is a first step, and it starts before the minute.

@@ -34,12 +34,10 @@ fn same_refusal(job: Job, place: u32, by: u8) -> bool {
 
 // Whether the lister has the same plans at the list's places, and 28 behind them.
 fn same_plans(job: Job, list: &[u8], plans: u32, end: u32) -> bool {
-    let mut place = 0;
-    while place < plans {
+    for place in 0..plans {
         if !same_plan(job, place, list::plan_at(list, place), end) {
             return false;
         }
-        place += 1;
     }
     same_refusal(job, plans, 28)
 }
@@ -55,12 +53,10 @@ fn begins(first: &[u8], second: &[u8]) -> u32 {
 
 // How many plans of the list begin the one behind them. Behind the last there are no steps.
 fn begin_next(list: &[u8], plans: u32) -> u32 {
-    let mut sum = 0;
-    let mut place = 0;
-    while place < plans {
+    let mut sum = 0u32;
+    for place in 0..plans {
         let plan = list::plan_at(list, place);
-        place += 1;
-        sum = sum.wrapping_add(begins(plan, list::plan_at(list, place)));
+        sum = sum.wrapping_add(begins(plan, list::plan_at(list, place + 1)));
     }
     sum
 }

@@ -25,8 +25,7 @@ fn starts_before(low: u8, high: u8, minute: u16) -> bool {
 
 // How many bytes the steps take that start before the minute. They stand first, since a plan is in order.
 fn size_before(plan: &[u8], minute: u16) -> usize {
-    let mut k = 0;
-    while k < Plan::STEPS {
+    for k in 0..Plan::STEPS {
         let at = k * Plan::STEP;
         if plan.len() <= at + 2 {
             return at;
@@ -34,7 +33,6 @@ fn size_before(plan: &[u8], minute: u16) -> usize {
         if !starts_before(plan[at + 1], plan[at + 2], minute) {
             return at;
         }
-        k += 1;
     }
     Plan::BYTES
 }

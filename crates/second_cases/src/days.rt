@@ -30,10 +30,8 @@ pub fn use_beyond(rt: &impl Print) -> io::Result<()> {
 // So many equal actions of length 1 with these needs. Fact 1, which is wanted, never holds.
 fn equal_actions(actions: usize, deadline: u16, needs: u64) -> Job {
     let mut job = parts::empty(2, deadline, 0b00, 0b10);
-    let mut i = 0;
-    while i < actions {
+    for _ in 0..actions {
         job = parts::with_action(job, parts::action(1, needs, 0b01, 0));
-        i += 1;
     }
     job
 }

@@ -118,10 +118,8 @@ fn clashes(rt: &impl Print) -> io::Result<()> {
 fn start_each_minute(plan: &mut [u8])
     requires { length plan.old ≡ 96 }
 {
-    let mut k: u8 = 0;
-    while k < 32 {
+    for k in 0..32u8 {
         plan[k as usize * 3 + 1] = k;
-        k += 1;
     }
 }
 
