@@ -4,7 +4,8 @@
 
 mod decimal; // numbers in decimal digits
 
-ghost use Rattle.std.specs.Prelude.{IfOk, IfSome};
+ghost use Rattle.std.specs.Prelude.{IfOk, IfSome, ◌<◌, length, take};
+ghost use Rattle.std.specs.Io.KnownBytes.{Consumes, IsAtEnd};
 ghost use Rattle.input.specs.Loaded.{IsPrefixLen};
 ghost use Rattle.input.specs.Decimal.{AtMost};
 
@@ -46,7 +47,9 @@ fn line_of(rt: &(impl Eprint + Alloc), what: &str, why: io::Error) -> io::Result
 // Reads from an open file to the front of the buffer, until the file ends or the buffer is full, and returns how many
 // bytes have come.
 pub fn load<R: Read>(file: &mut R, buffer: &mut [u8]) -> io::Result<usize>
-    ensures { IfOk result (λ length. IsPrefixLen length buffer.new) }
+    ensures bound { IfOk result (λ n. IsPrefixLen n buffer.new) }
+    ensures bytes { IfOk result (λ n. Consumes (R.remaining file.old) (R.remaining file.new) (take n buffer.new)) }
+    ensures whole { IfOk result (λ n. n < length buffer.new → IsAtEnd (R.remaining file.new)) }
 {
     let mut length = 0;
     while length < buffer.len() {
@@ -82,7 +85,7 @@ fn file_name<'a>(rt: &impl Env, i: usize, buffer: &'a mut [u8]) -> io::Result<&'
 }
 
 fn load_file(rt: &impl Files, name: &str, buffer: &mut [u8]) -> io::Result<usize>
-    ensures { IfOk result (λ length. IsPrefixLen length buffer.new) }
+    ensures { IfOk result (λ n. IsPrefixLen n buffer.new) }
 {
     let mut file = File::open(rt, name)?;
     load(&mut file, buffer)
@@ -95,7 +98,7 @@ pub fn load_named(
     i: usize,
     buffer: &mut [u8],
 ) -> Option<usize>
-    ensures { IfSome result (λ length. IsPrefixLen length buffer.new) }
+    ensures { IfSome result (λ n. IsPrefixLen n buffer.new) }
 {
     let mut bytes = [0u8; ARGUMENT];
     let name = match file_name(rt, i, &mut bytes) {
