@@ -30,7 +30,7 @@ fn counted(rt: &impl Print, mut counts: Counts, seed: u64) -> io::Result<Counts>
     let pooled = compare::compare(draw::pair_of(seed));
     let outcome = pooled.outcome;
     counts.pairs = counts.pairs.with(rt, seed, outcome)?;
-    with_end(counts, compare::end(outcome), pooled.alone)
+    Ok(with_end(counts, compare::end(outcome), pooled.alone))
 }
 
 // The counts over the first so many seeds.
