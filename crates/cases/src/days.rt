@@ -6,6 +6,7 @@ use job::Job;
 use job::refusal::Verdict;
 use lent::{first_steps, front};
 use output::{number, text};
+use std::io;
 use timeline::{Day, Plan};
 
 // The bytes of the first plan's length, which stands before it; the second plan stands behind it.
@@ -15,69 +16,68 @@ const LENGTH: usize = 1;
 const PLACE: usize = 4;
 
 // The join is lent a slice of so many bytes.
-pub fn print_joined(job: Job, record: Record, given: &[u8]) {
+pub fn print_joined(rt: &impl Print, job: Job, record: Record, given: &[u8]) -> io::Result<()> {
     let mut slice = [lent::FILL; lending::ROOM];
     let length = leading_number(given, LENGTH) as usize;
     let behind = rest(given, LENGTH);
     let first = front(behind, length);
     let second = rest(behind, length);
     let day = lending::join(&mut slice, record.room, job, first, second);
-    print_run(job, day);
+    print_run(rt, job, day)?;
     let steps = first_steps(&slice, day.steps);
-    choose(lent::kept(&slice, steps.len()), b"", b", wrong bytes");
-    print_steps(&slice, day);
+    choose(rt, lent::kept(&slice, steps.len()), b"", b", wrong bytes")?;
+    print_steps(rt, &slice, day)
 }
 
 // The planner of two halves is lent a slice of so many bytes.
-pub fn print_halves(job: Job, record: Record) {
+pub fn print_halves(rt: &impl Print, job: Job, record: Record) -> io::Result<()> {
     let mut slice = [lent::FILL; lending::ROOM];
     let day = lending::halves(&mut slice, record.room, job, record.set);
-    print_day(job, job.goal, &slice, day);
-    print_steps(&slice, day);
+    print_day(rt, job, job.goal, &slice, day)?;
+    print_steps(rt, &slice, day)
 }
 
 // The list is lent a slice of so many bytes.
-pub fn print_listed(job: Job, record: Record, given: &[u8]) {
+pub fn print_listed(rt: &impl Print, job: Job, record: Record, given: &[u8]) -> io::Result<()> {
     let mut slice = [lent::FILL; lending::ROOM];
     let place = leading_number(given, PLACE);
     let day = lending::list(&mut slice, record.room, job, place);
-    print_day(job, job.goal, &slice, day);
-    print_steps(&slice, day);
+    print_day(rt, job, job.goal, &slice, day)?;
+    print_steps(rt, &slice, day)
 }
 
 // The steps of the day at the front of the slice, where there is a day.
-fn print_steps(slice: &[u8], day: Day) {
+fn print_steps(rt: &impl Print, slice: &[u8], day: Day) -> io::Result<()> {
     let verdict = day.verdict;
     if let Verdict::Refused(_) = verdict {
-        return;
+        return Ok(());
     }
-    text(b":");
+    text(rt, b":")?;
     if day.steps == 0 {
-        text(b" no steps");
+        text(rt, b" no steps")?;
     }
-    print_all(first_steps(slice, day.steps));
+    print_all(rt, first_steps(slice, day.steps))
 }
 
 // Each step of a plan.
-fn print_all(plan: &[u8]) {
-    let mut k = 0;
-    while k < Plan::STEPS {
+fn print_all(rt: &impl Print, plan: &[u8]) -> io::Result<()> {
+    for k in 0..Plan::STEPS {
         let at = k * Plan::STEP;
         if plan.len() <= at {
-            return;
+            break;
         }
-        print_step(rest(plan, at));
-        k += 1;
+        print_step(rt, rest(plan, at))?;
     }
+    Ok(())
 }
 
 // The first of the steps.
-fn print_step(steps: &[u8]) {
+fn print_step(rt: &impl Print, steps: &[u8]) -> io::Result<()> {
     if steps.len() < Plan::STEP {
-        return;
+        return Ok(());
     }
-    text(b" ");
-    number(encoding::read_number(steps, 0, 1));
-    text(b"@");
-    number(encoding::read_number(steps, 1, 2));
+    text(rt, b" ")?;
+    number(rt, encoding::read_number(steps, 0, 1))?;
+    text(rt, b"@")?;
+    number(rt, encoding::read_number(steps, 1, 2))
 }

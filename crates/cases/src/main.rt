@@ -1,5 +1,7 @@
 // Runs the records in the file `records`, which tests/records makes from the tables in tests/tables: one call a record.
 // Prints a line for each, its title and the answer, under headings with the document's sentence.
+#![tactic(auto)]
+
 mod calls; // the calls and their answers
 mod days; // days whose every step is told
 mod lending; // the slices that are lent
@@ -11,6 +13,9 @@ mod true_days; // days that have run
 
 use lending::rest;
 use lent::front;
+use std::fs::File;
+use std::io;
+use std::io::Read;
 
 // The bytes of a record's head, and room for the longest body.
 const HEAD: usize = 16;
@@ -43,65 +48,69 @@ fn record_in(bytes: &[u8; HEAD]) -> Record {
 }
 
 // Reads so many bytes to the front of the buffer. False where the buffer or the file has fewer.
-fn load(fd: i32, buffer: &mut [u8], length: usize) -> bool {
+fn load(file: &mut impl Read, buffer: &mut [u8], length: usize) -> bool {
     if buffer.len() < length {
         return false;
     }
-    io::read_full(fd, &mut buffer[0..length]) == length
+    file.read_exact(&mut buffer[0..length]).is_ok()
 }
 
 // The line of a record, or its title alone where that is a heading.
-fn print(record: Record, title: &[u8], given: &[u8]) {
+fn print(rt: &impl Print, record: Record, title: &[u8], given: &[u8]) -> io::Result<()> {
     if record.call == b'h' {
-        output::heading(title);
-        return;
+        return output::heading(rt, title);
     }
-    output::name(title);
-    calls::answer(record, front(given, record.file), rest(given, record.file));
-    output::text(b"\n");
+    output::name(rt, title)?;
+    calls::answer(
+        rt,
+        record,
+        front(given, record.file),
+        rest(given, record.file),
+    )?;
+    output::text(rt, b"\n")
 }
 
 // The next record. False where the file ends.
-fn run(fd: i32) -> bool {
+fn run(rt: &impl Print, file: &mut impl Read) -> io::Result<bool> {
     let mut head = [0u8; HEAD];
-    if !load(fd, &mut head, HEAD) {
-        return false;
+    if !load(file, &mut head, HEAD) {
+        return Ok(false);
     }
-    run_body(fd, record_in(&head))
+    run_body(rt, file, record_in(&head))
 }
 
 // The record with this head.
-fn run_body(fd: i32, record: Record) -> bool {
+fn run_body(rt: &impl Print, file: &mut impl Read, record: Record) -> io::Result<bool> {
     let mut body = [0u8; BODY];
-    if !load(fd, &mut body, record.body) {
-        return false;
+    if !load(file, &mut body, record.body) {
+        return Ok(false);
     }
     let whole = front(&body, record.body);
     print(
+        rt,
         record,
         front(whole, record.title),
         rest(whole, record.title),
-    );
-    true
+    )?;
+    Ok(true)
 }
 
 // So many records, or fewer where the file ends.
-fn run_all(fd: i32, most: u16) {
-    let mut left = most;
-    while left > 0 {
-        if !run(fd) {
-            return;
+fn run_all(rt: &impl Print, file: &mut impl Read, most: u16) -> io::Result<()> {
+    for _ in 0..most {
+        if !run(rt, file)? {
+            break;
         }
-        left -= 1;
     }
+    Ok(())
 }
 
-fn main() {
-    let fd = os::open_read(b"records");
-    if fd < 0 {
-        os::fail(b"records");
-        return;
+fn main(rt: HostRuntime) -> io::Result<()> {
+    match File::open(&rt, "records") {
+        Ok(mut file) => run_all(&rt, &mut file, u16::MAX),
+        Err(why) => {
+            input::tell_why(&rt, "records", why);
+            Ok(())
+        }
     }
-    run_all(fd, u16::MAX);
-    libc::close(fd);
 }

@@ -9,59 +9,70 @@ use lent::front;
 use made_jobs::parts::same_everywhere;
 use output::{number, text};
 use pooling::Pooled;
+use std::io;
 
 // The bytes of the next file's length, which stands before it; the file of the pooled job stands behind it.
 const LENGTH: usize = 2;
 
-pub fn print(first: Job, record: Record, given: &[u8]) {
+pub fn print(rt: &impl Print, first: Job, record: Record, given: &[u8]) -> io::Result<()> {
     let length = leading_number(given, LENGTH) as usize;
     let behind = rest(given, LENGTH);
     let reading = reader::read(front(behind, length));
     let verdict = reading.verdict;
     let second = reading.job;
     match verdict {
-        Verdict::Pass => print_answer(pooling::pool(first, second), record, rest(behind, length)),
-        Verdict::Refused(why) => print_no_job(why, second),
+        Verdict::Pass => print_answer(
+            rt,
+            pooling::pool(first, second),
+            record,
+            rest(behind, length),
+        ),
+        Verdict::Refused(why) => print_no_job(rt, why, second),
     }
 }
 
-fn print_answer(answer: Pooled, record: Record, expected: &[u8]) {
+fn print_answer(
+    rt: &impl Print,
+    answer: Pooled,
+    record: Record,
+    expected: &[u8],
+) -> io::Result<()> {
     let verdict = answer.verdict;
     let job = answer.job;
     match verdict {
-        Verdict::Pass => print_pooled(job, record, expected),
-        Verdict::Refused(why) => print_no_job(why, job),
+        Verdict::Pass => print_pooled(rt, job, record, expected),
+        Verdict::Refused(why) => print_no_job(rt, why, job),
     }
 }
 
 // The pooled job is planned, or written into a slice of so many bytes.
-fn print_pooled(job: Job, record: Record, expected: &[u8]) {
+fn print_pooled(rt: &impl Print, job: Job, record: Record, expected: &[u8]) -> io::Result<()> {
     if record.call == b'd' {
-        print_plan(job, record.room);
+        print_plan(rt, job, record.room)
     } else {
-        print_written(job, record.room, expected);
+        print_written(rt, job, record.room, expected)
     }
 }
 
-fn print_written(job: Job, room: usize, expected: &[u8]) {
+fn print_written(rt: &impl Print, job: Job, room: usize, expected: &[u8]) -> io::Result<()> {
     let mut slice = [lent::FILL; lending::ROOM];
     match lending::write(&mut slice, room, job) {
         Written::Length(size) => {
-            number(size as u64);
-            text(b" bytes");
-            choose(is_file(&slice, size, expected), b"", b", wrong bytes");
-            choose(is_job(job, expected), b"", b", job different");
+            number(rt, size as u64)?;
+            text(rt, b" bytes")?;
+            choose(rt, is_file(&slice, size, expected), b"", b", wrong bytes")?;
+            choose(rt, is_job(job, expected), b"", b", job different")
         }
         Written::Refused(why) => {
-            refused(why);
-            choose(lent::kept(&slice, 0), b"", b", wrong bytes");
+            refused(rt, why)?;
+            choose(rt, lent::kept(&slice, 0), b"", b", wrong bytes")
         }
     }
 }
 
 // Whether the first bytes, so many, are the expected file, and the rest is as before.
 fn is_file(slice: &[u8], size: usize, expected: &[u8]) -> bool {
-    check::same(front(slice, size), expected) & lent::kept(slice, size)
+    (front(slice, size) == expected) & lent::kept(slice, size)
 }
 
 // Whether the job is in every place the one of the expected file.

@@ -6,52 +6,59 @@ use job::Job;
 use job::refusal::Verdict;
 use lent::{first_steps, front};
 use output::{number, text};
+use std::io;
 use timeline::{Day, Plan};
 
 // The bytes of the minute that stands before the current plan.
 const MINUTE: usize = 4;
 
 // The replanner is lent a slice of so many bytes.
-pub fn print(job: Job, record: Record, given: &[u8]) {
+pub fn print(rt: &impl Print, job: Job, record: Record, given: &[u8]) -> io::Result<()> {
     let mut slice = [lent::FILL; lending::ROOM];
     let current = rest(given, MINUTE);
     let minute = leading_number(given, MINUTE);
     let day = lending::replan(&mut slice, record.room, job, current, minute, record.set);
-    print_day(job, record.set, &slice, day);
-    print_kept(current, minute, first_steps(&slice, day.steps), day);
+    print_day(rt, job, record.set, &slice, day)?;
+    print_kept(rt, current, minute, first_steps(&slice, day.steps), day)
 }
 
 // How many steps are kept, where there is a day.
-fn print_kept(current: &[u8], minute: u32, plan: &[u8], day: Day) {
+fn print_kept(
+    rt: &impl Print,
+    current: &[u8],
+    minute: u32,
+    plan: &[u8],
+    day: Day,
+) -> io::Result<()> {
     let verdict = day.verdict;
     if let Verdict::Refused(_) = verdict {
-        return;
+        return Ok(());
     }
-    text(b", ");
-    number(begun(plan, minute) as u64);
-    text(b" kept");
+    text(rt, b", ")?;
+    number(rt, begun(plan, minute) as u64)?;
+    text(rt, b" kept")?;
     if !keeps(current, minute, plan) {
-        text(b", wrong bytes");
+        text(rt, b", wrong bytes")?;
     }
+    Ok(())
 }
 
 // Whether the steps that start before the minute are the same in both plans.
 fn keeps(current: &[u8], minute: u32, plan: &[u8]) -> bool {
     let kept = begun(plan, minute);
     let size = kept as usize * Plan::STEP;
-    (begun(current, minute) == kept) & check::same(front(current, size), front(plan, size))
+    (begun(current, minute) == kept) & (front(current, size) == front(plan, size))
 }
 
 // How many steps at the front of a plan start before the minute.
 fn begun(plan: &[u8], minute: u32) -> u8 {
-    let mut count = 0u8;
-    while (count as usize) < Plan::STEPS {
+    let steps = Plan::STEPS as u8;
+    for count in 0..steps {
         if !is_begun(rest(plan, count as usize * Plan::STEP), minute) {
             return count;
         }
-        count += 1;
     }
-    count
+    steps
 }
 
 // Whether there is a first step, and it starts before the minute.

@@ -1,11 +1,15 @@
 // Says whether the plan in one file is accepted for the job in another: the plan's end, or by which number
 // it is refused.
 // Arguments: the job file and the plan file, by name. A file that cannot be read gets a message on standard error.
-use input::load_named;
+#![tactic(auto)]
+
+use input::{argument_count, load_named, tell};
 use job::refusal::Verdict;
 use jobfile::Layout;
-use libc::STDERR_FILENO;
 use printing::{print_line, print_refusal};
+use std::env::Env;
+use std::io;
+use std::rt::Files;
 use timeline::{Day, Plan};
 
 // One byte more than the longest file, and than the longest plan: what fills it is too long.
@@ -14,48 +18,39 @@ const JOB: usize = Layout::FILE + 1;
 const PLAN: usize = Plan::BYTES + 1;
 
 // The end of a plan that is accepted, or why it is not.
-fn print_end(day: Day) {
-    let verdict = day.verdict;
-    match verdict {
-        Verdict::Pass => {
-            print_line(b"end ", day.end as u64);
-        }
-        Verdict::Refused(why) => {
-            print_refusal(why);
-        }
+fn print_end(rt: &impl Print, day: Day) -> io::Result<()> {
+    match day.verdict {
+        Verdict::Pass => print_line(rt, "end ", day.end as u64),
+        Verdict::Refused(why) => print_refusal(rt, why),
     }
 }
 
 // The answer to a plan for the job of a file.
-fn print_answer(file: &[u8], plan: &[u8]) {
+fn print_answer(rt: &impl Print, file: &[u8], plan: &[u8]) -> io::Result<()> {
     let reading = reader::read(file);
-    let verdict = reading.verdict;
-    if let Verdict::Refused(why) = verdict {
-        print_refusal(why);
-        return;
+    match reading.verdict {
+        Verdict::Pass => print_end(rt, checker::check(reading.job, plan)),
+        Verdict::Refused(why) => print_refusal(rt, why),
     }
-    print_end(checker::check(reading.job, plan));
 }
 
 // Reads the plan and answers.
-fn check_plan_for(file: &[u8]) {
+fn check_plan_for(rt: &(impl Env + Files + Print + Eprint + Alloc), file: &[u8]) -> io::Result<()> {
     let mut plan = [0u8; PLAN];
-    let loaded = load_named(2, &mut plan);
-    if loaded.whole {
-        let length = loaded.length;
-        print_answer(file, &plan[..length]);
+    match load_named(rt, 2, &mut plan) {
+        Some(length) => print_answer(rt, file, &plan[..length]),
+        None => Ok(()),
     }
 }
 
-fn main() {
-    if os::arg_count() != 3 {
-        io::write_all(STDERR_FILENO, b"usage: check_plan JOB PLAN\n");
-        return;
+fn main(rt: HostRuntime) -> io::Result<()> {
+    if argument_count(&rt) != 3 {
+        tell(&rt, "usage: check_plan JOB PLAN");
+        return Ok(());
     }
     let mut file = [0u8; JOB];
-    let loaded = load_named(1, &mut file);
-    if loaded.whole {
-        let length = loaded.length;
-        check_plan_for(&file[..length]);
+    match load_named(&rt, 1, &mut file) {
+        Some(length) => check_plan_for(&rt, &file[..length]),
+        None => Ok(()),
     }
 }

@@ -1,5 +1,7 @@
 // What two planners say of the same question, and totals over many questions.
-use std::num::wrapping_add_u64;
+#![tactic(auto)]
+
+use std::io;
 
 // What both say, or that they differ.
 #[derive(Clone, Copy)]
@@ -47,43 +49,43 @@ impl Totals {
     }
 
     // The totals with the question of one seed more. A difference is printed with its seed.
-    pub fn with(mut self, seed: u64, outcome: Outcome) -> Totals {
-        self.questions = wrapping_add_u64(self.questions, 1);
+    pub fn with(mut self, rt: &impl Print, seed: u64, outcome: Outcome) -> io::Result<Totals> {
+        self.questions = self.questions.wrapping_add(1);
         match outcome {
             Outcome::Ends(end) => {
-                self.plans = wrapping_add_u64(self.plans, 1);
-                self.ends = wrapping_add_u64(self.ends, end as u64);
+                self.plans = self.plans.wrapping_add(1);
+                self.ends = self.ends.wrapping_add(end as u64);
             }
             Outcome::NoPlan => {
-                self.no_plan = wrapping_add_u64(self.no_plan, 1);
+                self.no_plan = self.no_plan.wrapping_add(1);
             }
             Outcome::UseBeyond => {
-                self.use_beyond = wrapping_add_u64(self.use_beyond, 1);
+                self.use_beyond = self.use_beyond.wrapping_add(1);
             }
             Outcome::ForeignGoal => {
-                self.foreign_goal = wrapping_add_u64(self.foreign_goal, 1);
+                self.foreign_goal = self.foreign_goal.wrapping_add(1);
             }
             Outcome::Unlike => {
-                self.unlike = wrapping_add_u64(self.unlike, 1);
+                self.unlike = self.unlike.wrapping_add(1);
             }
             Outcome::TooLarge => {
-                self.too_large = wrapping_add_u64(self.too_large, 1);
+                self.too_large = self.too_large.wrapping_add(1);
             }
             Outcome::Differs => {
-                self.differences = wrapping_add_u64(self.differences, 1);
-                output::total(b"differs, seed", seed);
+                self.differences = self.differences.wrapping_add(1);
+                output::total(rt, b"differs, seed", seed)?;
             }
         }
-        self
+        Ok(self)
     }
 
     // A line for each total but the number of questions, 24 and 33.
-    pub fn print(self) {
-        output::total(b"with a plan", self.plans);
-        output::total(b"no plan", self.no_plan);
-        output::total(b"refused by 26", self.use_beyond);
-        output::total(b"too large", self.too_large);
-        output::total(b"differences", self.differences);
-        output::total(b"sum of the ends", self.ends);
+    pub fn print(self, rt: &impl Print) -> io::Result<()> {
+        output::total(rt, b"with a plan", self.plans)?;
+        output::total(rt, b"no plan", self.no_plan)?;
+        output::total(rt, b"refused by 26", self.use_beyond)?;
+        output::total(rt, b"too large", self.too_large)?;
+        output::total(rt, b"differences", self.differences)?;
+        output::total(rt, b"sum of the ends", self.ends)
     }
 }

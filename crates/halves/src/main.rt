@@ -1,54 +1,47 @@
 // Prints a day planned in two halves, the first for a halfway set, or by which number the question is refused.
 // Arguments: the job file, by name, and the halfway set, as a decimal number. What cannot be read, or is no such number,
 // gets a message on standard error.
-use input::{Number, load_named, number_in};
+#![tactic(auto)]
+
+use input::{Number, argument_count, load_named, number_in, tell};
 use job::Job;
 use job::refusal::Verdict;
 use jobfile::Layout;
-use libc::STDERR_FILENO;
 use printing::{print_day, print_refusal};
+use std::io;
 use timeline::Plan;
 
 // One byte more than the longest file: what fills it is too long.
 const JOB: usize = Layout::FILE + 1;
 
 // The day joined from both halves.
-fn print_plan(job: Job, halfway: u64) {
+fn print_plan(rt: &impl Print, job: Job, halfway: u64) -> io::Result<()> {
     let mut plan = [0u8; Plan::BYTES];
     let day = halving::halves(job, halfway, &mut plan);
-    print_day(job, day, plan);
+    print_day(rt, job, day, plan)
 }
 
 // The answer for the job of a file.
-fn print_answer(file: &[u8], halfway: u64) {
+fn print_answer(rt: &impl Print, file: &[u8], halfway: u64) -> io::Result<()> {
     let reading = reader::read(file);
-    let verdict = reading.verdict;
-    match verdict {
-        Verdict::Pass => {
-            print_plan(reading.job, halfway);
-        }
-        Verdict::Refused(why) => {
-            print_refusal(why);
-        }
+    match reading.verdict {
+        Verdict::Pass => print_plan(rt, reading.job, halfway),
+        Verdict::Refused(why) => print_refusal(rt, why),
     }
 }
 
-fn main() {
-    if os::arg_count() != 3 {
-        io::write_all(STDERR_FILENO, b"usage: halves JOB HALFWAY\n");
-        return;
+fn main(rt: HostRuntime) -> io::Result<()> {
+    if argument_count(&rt) != 3 {
+        tell(&rt, "usage: halves JOB HALFWAY");
+        return Ok(());
     }
-    let Number::Value(halfway) = number_in(
-        2,
-        u64::MAX,
-        b"halves: HALFWAY is not a decimal number of 64 bits\n",
-    ) else {
-        return;
+    let message = "halves: HALFWAY is not a decimal number of 64 bits";
+    let Number::Value(halfway) = number_in(&rt, 2, u64::MAX, message) else {
+        return Ok(());
     };
     let mut file = [0u8; JOB];
-    let loaded = load_named(1, &mut file);
-    if loaded.whole {
-        let length = loaded.length;
-        print_answer(&file[..length], halfway);
+    match load_named(&rt, 1, &mut file) {
+        Some(length) => print_answer(&rt, &file[..length], halfway),
+        None => Ok(()),
     }
 }

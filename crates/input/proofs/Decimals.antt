@@ -6,7 +6,7 @@ use mathlib.Core.List.{List, [], ◌∷◌}
 use native.Mathlib.Omega.{arith}
 use lib.ListN.{length, get_or, drop, drop_of_length-le}
 use lib.Seq.{drop-cons}
-use Rattle.input.specs.Decimal.{extended, value_from, Digits, ReadsFrom, Reads, AtMost}
+use Rattle.input.specs.Decimal.{extended, value_from, ReadsFrom, Reads, AtMost}
 use Rattle.input.specs.declared.decimal.Number.{Number}
 use Rattle.input.specs.declared.decimal.Number.TheVariants.{Value, Nothing}
 

@@ -1,11 +1,15 @@
 // Joins two plans for a job and prints the joined day, or by which number the question is refused.
 // Arguments: the job file and the files of both plans, by name. What cannot be read gets a message on standard error.
-use input::load_named;
+#![tactic(auto)]
+
+use input::{argument_count, load_named, tell};
 use job::Job;
 use job::refusal::Verdict;
 use jobfile::Layout;
-use libc::STDERR_FILENO;
 use printing::{print_day, print_refusal};
+use std::env::Env;
+use std::io;
+use std::rt::Files;
 use timeline::Plan;
 
 // One byte more than the longest file, and than the longest plan: what fills it is too long.
@@ -14,55 +18,51 @@ const JOB: usize = Layout::FILE + 1;
 const PLAN: usize = Plan::BYTES + 1;
 
 // The joined day.
-fn print_joined(job: Job, first: &[u8], second: &[u8]) {
+fn print_joined(rt: &impl Print, job: Job, first: &[u8], second: &[u8]) -> io::Result<()> {
     let mut plan = [0u8; Plan::BYTES];
     let day = joining::join(job, first, second, &mut plan);
-    print_day(job, day, plan);
+    print_day(rt, job, day, plan)
 }
 
 // The answer for the job of a file.
-fn print_answer(file: &[u8], first: &[u8], second: &[u8]) {
+fn print_answer(rt: &impl Print, file: &[u8], first: &[u8], second: &[u8]) -> io::Result<()> {
     let reading = reader::read(file);
-    let verdict = reading.verdict;
-    match verdict {
-        Verdict::Pass => {
-            print_joined(reading.job, first, second);
-        }
-        Verdict::Refused(why) => {
-            print_refusal(why);
-        }
+    match reading.verdict {
+        Verdict::Pass => print_joined(rt, reading.job, first, second),
+        Verdict::Refused(why) => print_refusal(rt, why),
     }
 }
 
 // Reads the second plan and answers.
-fn join_second(file: &[u8], first: &[u8]) {
+fn join_second(
+    rt: &(impl Env + Files + Print + Eprint + Alloc),
+    file: &[u8],
+    first: &[u8],
+) -> io::Result<()> {
     let mut plan = [0u8; PLAN];
-    let loaded = load_named(3, &mut plan);
-    if loaded.whole {
-        let length = loaded.length;
-        print_answer(file, first, &plan[..length]);
+    match load_named(rt, 3, &mut plan) {
+        Some(length) => print_answer(rt, file, first, &plan[..length]),
+        None => Ok(()),
     }
 }
 
 // Reads the first plan, then the second.
-fn join_plans(file: &[u8]) {
+fn join_plans(rt: &(impl Env + Files + Print + Eprint + Alloc), file: &[u8]) -> io::Result<()> {
     let mut plan = [0u8; PLAN];
-    let loaded = load_named(2, &mut plan);
-    if loaded.whole {
-        let length = loaded.length;
-        join_second(file, &plan[..length]);
+    match load_named(rt, 2, &mut plan) {
+        Some(length) => join_second(rt, file, &plan[..length]),
+        None => Ok(()),
     }
 }
 
-fn main() {
-    if os::arg_count() != 4 {
-        io::write_all(STDERR_FILENO, b"usage: join JOB FIRST SECOND\n");
-        return;
+fn main(rt: HostRuntime) -> io::Result<()> {
+    if argument_count(&rt) != 4 {
+        tell(&rt, "usage: join JOB FIRST SECOND");
+        return Ok(());
     }
     let mut file = [0u8; JOB];
-    let loaded = load_named(1, &mut file);
-    if loaded.whole {
-        let length = loaded.length;
-        join_plans(&file[..length]);
+    match load_named(&rt, 1, &mut file) {
+        Some(length) => join_plans(&rt, &file[..length]),
+        None => Ok(()),
     }
 }

@@ -1,12 +1,14 @@
 // Prints the plan at a place of the list of all the shortest days, or by which number the question is refused.
 // Arguments: the job file, by name, and the place, counted from 0, as a decimal number. What cannot be read, or is no such
 // number, gets a message on standard error.
-use input::{Number, load_named, number_in};
+#![tactic(auto)]
+
+use input::{Number, argument_count, load_named, number_in, tell};
 use job::Job;
 use job::refusal::Verdict;
 use jobfile::Layout;
-use libc::STDERR_FILENO;
 use printing::{print_day, print_refusal};
+use std::io;
 use timeline::Plan;
 
 // One byte more than the longest file: what fills it is too long.
@@ -16,43 +18,34 @@ const JOB: usize = Layout::FILE + 1;
 const LAST_PLACE: u64 = u32::MAX as u64;
 
 // The plan at the place.
-fn print_plan(job: Job, place: u32) {
+fn print_plan(rt: &impl Print, job: Job, place: u32) -> io::Result<()> {
     let mut plan = [0u8; Plan::BYTES];
     let day = lister::list(job, place, &mut plan);
-    print_day(job, day, plan);
+    print_day(rt, job, day, plan)
 }
 
 // The answer for the job of a file.
-fn print_answer(file: &[u8], place: u32) {
+fn print_answer(rt: &impl Print, file: &[u8], place: u32) -> io::Result<()> {
     let reading = reader::read(file);
-    let verdict = reading.verdict;
-    match verdict {
-        Verdict::Pass => {
-            print_plan(reading.job, place);
-        }
-        Verdict::Refused(why) => {
-            print_refusal(why);
-        }
+    match reading.verdict {
+        Verdict::Pass => print_plan(rt, reading.job, place),
+        Verdict::Refused(why) => print_refusal(rt, why),
     }
 }
 
-fn main() {
-    if os::arg_count() != 3 {
-        io::write_all(STDERR_FILENO, b"usage: list JOB PLACE\n");
-        return;
+fn main(rt: HostRuntime) -> io::Result<()> {
+    if argument_count(&rt) != 3 {
+        tell(&rt, "usage: list JOB PLACE");
+        return Ok(());
     }
-    let Number::Value(place) = number_in(
-        2,
-        LAST_PLACE,
-        b"list: PLACE is not a decimal number of 32 bits\n",
-    ) else {
-        return;
+    let message = "list: PLACE is not a decimal number of 32 bits";
+    let Number::Value(place) = number_in(&rt, 2, LAST_PLACE, message) else {
+        return Ok(());
     };
     let place = place as u32;
     let mut file = [0u8; JOB];
-    let loaded = load_named(1, &mut file);
-    if loaded.whole {
-        let length = loaded.length;
-        print_answer(&file[..length], place);
+    match load_named(&rt, 1, &mut file) {
+        Some(length) => print_answer(&rt, &file[..length], place),
+        None => Ok(()),
     }
 }

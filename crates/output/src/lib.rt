@@ -1,30 +1,32 @@
 // What the test programs print: headings, the beginnings of a case's line, totals.
-use libc::STDOUT_FILENO;
+#![tactic(auto)]
 
-pub fn text(bytes: &[u8]) {
-    io::write_all(STDOUT_FILENO, bytes);
+use std::io;
+
+pub fn text(rt: &impl Print, bytes: &[u8]) -> io::Result<()> {
+    rt.write_all(bytes)
 }
 
-pub fn number(n: u64) {
-    io::print_decimal(STDOUT_FILENO, n);
+pub fn number(rt: &impl Print, n: u64) -> io::Result<()> {
+    rt.print(n)
 }
 
 // The line above the cases that belong to it.
-pub fn heading(sentence: &[u8]) {
-    text(sentence);
-    text(b"\n");
+pub fn heading(rt: &impl Print, sentence: &[u8]) -> io::Result<()> {
+    text(rt, sentence)?;
+    text(rt, b"\n")
 }
 
 // The beginning of a line: the name of a case and a colon.
-pub fn name(case: &[u8]) {
-    text(b"  ");
-    text(case);
-    text(b": ");
+pub fn name(rt: &impl Print, case: &[u8]) -> io::Result<()> {
+    text(rt, b"  ")?;
+    text(rt, case)?;
+    text(rt, b": ")
 }
 
 // A count, a sum or a seed.
-pub fn total(of: &[u8], n: u64) {
-    name(of);
-    number(n);
-    text(b"\n");
+pub fn total(rt: &impl Print, of: &[u8], n: u64) -> io::Result<()> {
+    name(rt, of)?;
+    number(rt, n)?;
+    text(rt, b"\n")
 }

@@ -1,77 +1,68 @@
 // Pools the jobs of two files to one: writes the file of the pooled job to standard output, or prints by which number
 // they are refused.
 // Arguments: the two job files, by name. A file that cannot be read gets a message on standard error.
-use input::load_named;
+#![tactic(auto)]
+
+use input::{argument_count, load_named, tell};
 use job::Job;
 use job::refusal::Verdict;
 use jobfile::{Layout, Written};
-use libc::{STDERR_FILENO, STDOUT_FILENO};
 use printing::print_refusal;
+use std::env::Env;
+use std::io;
+use std::rt::Files;
 
 // One byte more than the longest file: what fills it is too long.
 const JOB: usize = Layout::FILE + 1;
 
 // The file of the job.
-fn print_file(job: Job) {
+fn print_file(rt: &impl Print, job: Job) -> io::Result<()> {
     let mut file = [0u8; Layout::FILE];
-    let written = writer::write(job, &mut file);
-    match written {
-        Written::Length(length) => {
-            io::write_all(STDOUT_FILENO, &file[..length]);
-        }
-        Written::Refused(why) => {
-            print_refusal(why);
-        }
+    match writer::write(job, &mut file) {
+        Written::Length(length) => rt.write_all(&file[..length]),
+        Written::Refused(why) => print_refusal(rt, why),
     }
 }
 
 // The answer for two jobs.
-fn print_pooled(first: Job, second: Job) {
+fn print_pooled(rt: &impl Print, first: Job, second: Job) -> io::Result<()> {
     let pooled = pooling::pool(first, second);
-    let verdict = pooled.verdict;
-    if let Verdict::Refused(why) = verdict {
-        print_refusal(why);
-        return;
+    match pooled.verdict {
+        Verdict::Pass => print_file(rt, pooled.job),
+        Verdict::Refused(why) => print_refusal(rt, why),
     }
-    print_file(pooled.job);
 }
 
 // The answer for the jobs of two files.
-fn print_answer(first: &[u8], second: &[u8]) {
+fn print_answer(rt: &impl Print, first: &[u8], second: &[u8]) -> io::Result<()> {
     let mine = reader::read(first);
-    let mine_read = mine.verdict;
-    if let Verdict::Refused(why) = mine_read {
-        print_refusal(why);
-        return;
+    if let Verdict::Refused(why) = mine.verdict {
+        return print_refusal(rt, why);
     }
     let other = reader::read(second);
-    let other_read = other.verdict;
-    if let Verdict::Refused(why) = other_read {
-        print_refusal(why);
-        return;
+    if let Verdict::Refused(why) = other.verdict {
+        return print_refusal(rt, why);
     }
-    print_pooled(mine.job, other.job);
+    print_pooled(rt, mine.job, other.job)
 }
 
 // Reads the second file and answers.
-fn pool_with(first: &[u8]) {
+fn pool_with(rt: &(impl Env + Files + Print + Eprint + Alloc), first: &[u8]) -> io::Result<()> {
     let mut file = [0u8; JOB];
-    let loaded = load_named(2, &mut file);
-    if loaded.whole {
-        let length = loaded.length;
-        print_answer(first, &file[..length]);
+    match load_named(rt, 2, &mut file) {
+        Some(length) => print_answer(rt, first, &file[..length]),
+        None => Ok(()),
     }
 }
 
-fn main() {
-    if os::arg_count() != 3 {
-        io::write_all(STDERR_FILENO, b"usage: pool FIRST SECOND\n");
-        return;
+fn main(rt: HostRuntime) -> io::Result<()> {
+    if argument_count(&rt) != 3 {
+        tell(&rt, "usage: pool FIRST SECOND");
+        return Ok(());
     }
     let mut file = [0u8; JOB];
-    let loaded = load_named(1, &mut file);
-    if loaded.whole {
-        let length = loaded.length;
-        pool_with(&file[..length]);
+    match load_named(&rt, 1, &mut file) {
+        Some(length) => pool_with(&rt, &file[..length]),
+        None => Ok(()),
     }
 }

@@ -1,7 +1,6 @@
 // A day in two halves by the call and by the second planner: the first plan of its list for the halfway set, the first
 // from what that leaves, and both joined plainly.
 use crate::draw::Asked;
-use check::same;
 use compared::{Outcome, unless_differs};
 use lent::{FILL, handed_out, refused};
 use second::{Makespan, join, list};
@@ -27,7 +26,7 @@ fn holds_both(slice: &[u8], first: &[u8], steps: usize, second: &[u8], minutes: 
     let mut plan = [FILL; Plan::BYTES];
     join::write_later(&mut plan, 0, first, 0);
     join::write_later(&mut plan, steps, second, minutes);
-    same(&plan, slice)
+    plan.as_slice() == slice
 }
 
 // Both halves are planned. The joined day is that of the plans' bytes, and is accepted, or 34.

@@ -1,7 +1,6 @@
 // A random small job and a halfway set.
 use job::Job;
 use random_jobs::draw;
-use std::num::wrapping_add_u16;
 
 // The place of the draw of a halfway set. No other draw of a seed has it.
 const HALFWAY: u64 = 67;
@@ -32,7 +31,7 @@ pub fn asked_of(seed: u64) -> Asked {
     let mut job = random_jobs::random_job(seed);
     if 0 < seed % 8 {
         job = random_jobs::roomy_job(seed);
-        job.deadline = wrapping_add_u16(job.deadline, draw::number(set, 4, 4) as u16);
+        job.deadline = job.deadline.wrapping_add(draw::number(set, 4, 4) as u16);
     }
     Asked {
         job,

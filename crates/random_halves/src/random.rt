@@ -3,7 +3,7 @@
 use crate::compare::Halved;
 use crate::{compare, draw};
 use compared::Totals;
-use std::num::wrapping_add_u64;
+use std::io;
 
 // What is counted over many days.
 #[derive(Clone, Copy)]
@@ -14,46 +14,45 @@ struct Counts {
 }
 
 // The counts with the day of one seed more.
-fn counted(mut counts: Counts, seed: u64) -> Counts {
+fn counted(rt: &impl Print, mut counts: Counts, seed: u64) -> io::Result<Counts> {
     let halved = compare::compare(draw::asked_of(seed));
     match halved {
         Halved::TooLong => {
-            counts.too_long = wrapping_add_u64(counts.too_long, 1);
+            counts.too_long = counts.too_long.wrapping_add(1);
         }
         Halved::Empty(outcome) => {
-            counts.empty = wrapping_add_u64(counts.empty, 1);
-            counts.days = counts.days.with(seed, outcome);
+            counts.empty = counts.empty.wrapping_add(1);
+            counts.days = counts.days.with(rt, seed, outcome)?;
         }
         Halved::Other(outcome) => {
-            counts.days = counts.days.with(seed, outcome);
+            counts.days = counts.days.with(rt, seed, outcome)?;
         }
     }
-    counts
+    Ok(counts)
 }
 
 // The counts over the first so many seeds.
-fn run(seeds: u64) -> Counts {
+fn run(rt: &impl Print, seeds: u64) -> io::Result<Counts> {
     let mut counts = Counts {
         days: Totals::none(),
         empty: 0,
         too_long: 0,
     };
-    let mut seed: u64 = 0;
-    while seed < seeds {
-        counts = counted(counts, seed);
-        seed += 1;
+    for seed in 0..seeds {
+        counts = counted(rt, counts, seed)?;
     }
-    counts
+    Ok(counts)
 }
 
-pub fn halves() {
+pub fn halves(rt: &impl Print) -> io::Result<()> {
     output::heading(
+        rt,
         b"Random small days in two halves, by the call and by the second planner: seeds 0 to 1,999.",
-    );
-    let counts = run(2_000);
+    )?;
+    let counts = run(rt, 2_000)?;
     let days = counts.days;
-    days.print();
-    output::total(b"refused by 24", days.foreign_goal);
-    output::total(b"refused by 34", counts.too_long);
-    output::total(b"with an empty half", counts.empty);
+    days.print(rt)?;
+    output::total(rt, b"refused by 24", days.foreign_goal)?;
+    output::total(rt, b"refused by 34", counts.too_long)?;
+    output::total(rt, b"with an empty half", counts.empty)
 }

@@ -1,5 +1,4 @@
 // Three plans joined both ways: the first with the second and then the third, and the first with what the other two give.
-use check::same;
 use job::Job;
 use job::refusal::{Verdict, number};
 use lent::{FILL, first_steps, front, kept, same_peaks};
@@ -79,7 +78,7 @@ pub fn both_ways(job: Job, a: &[u8], b: &[u8], c: &[u8]) -> Compared {
     let left = from_the_left(job, a, b, c, &mut slice);
     let mut other = [FILL; SLICE];
     let right = from_the_right(job, a, b, c, &mut other);
-    let alike = same(&slice, &other) & same_day(left.last, right.last);
+    let alike = (slice == other) & same_day(left.last, right.last);
     let day = left.last;
     Compared {
         left,
@@ -95,6 +94,6 @@ pub fn empty_changes_nothing(job: Job, plan: &[u8]) -> bool {
     let before = joining::join(job, front(plan, 0), plan, &mut slice);
     let mut other = [FILL; SLICE];
     let behind = joining::join(job, plan, front(plan, 0), &mut other);
-    let alike = same(&slice, &other) & same_day(before, behind);
-    alike & same(first_steps(&slice, before.steps), plan) & rest_kept(&slice, before)
+    let alike = (slice == other) & same_day(before, behind);
+    alike & (first_steps(&slice, before.steps) == plan) & rest_kept(&slice, before)
 }

@@ -68,14 +68,12 @@ pub fn plan(job: Job, seed: u64) -> Drawn {
     let steps = draw::number(seed, STEPS, 18) as usize;
     let apart = 1 + draw::number(seed, MINUTES, 6) as usize;
     let mut start: usize = 0;
-    let mut k = 0;
-    while k < Plan::STEPS {
+    for k in 0..Plan::STEPS {
         if k < steps {
             bytes[k * Plan::STEP] = draw::number(draw::part(seed, k as u64), ACTION, actions);
             bytes[k * Plan::STEP + 1] = start as u8;
         }
         start = (start + apart) % VALUES;
-        k += 1;
     }
     Drawn { bytes, steps }
 }

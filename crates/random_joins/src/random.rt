@@ -5,7 +5,7 @@ use job::Job;
 use lent::first_steps;
 use output::total;
 use random_jobs::draw::part;
-use std::num::wrapping_add_u64;
+use std::io;
 use timeline::Plan;
 
 // 34 in document 02.
@@ -39,7 +39,7 @@ fn none() -> Counts {
 }
 
 fn one_more(n: u64, test: bool) -> u64 {
-    if test { wrapping_add_u64(n, 1) } else { n }
+    if test { n.wrapping_add(1) } else { n }
 }
 
 // The counts with a triple more.
@@ -85,7 +85,7 @@ fn empty_changes_nothing(job: Job, a: &[u8; Plan::BYTES], first: usize) -> bool 
 }
 
 // The counts with the triple of one seed more. A difference is printed with its seed.
-fn counted(counts: Counts, seed: u64) -> Counts {
+fn counted(rt: &impl Print, counts: Counts, seed: u64) -> io::Result<Counts> {
     let mut job = draw::job(seed);
     let first = draw::plan(job, part(seed, 1));
     let a = first.bytes;
@@ -98,34 +98,33 @@ fn counted(counts: Counts, seed: u64) -> Counts {
     let found = joined(job, &a, first.steps, &b, second.steps, &c, third.steps);
     let same = whole.same & found.same & empty_changes_nothing(job, &a, first.steps);
     if !same {
-        total(b"differs, seed", seed);
+        total(rt, b"differs, seed", seed)?;
     }
-    with(counts, job, found, same)
+    Ok(with(counts, job, found, same))
 }
 
 // The counts over the first so many seeds.
-fn run(seeds: u64) -> Counts {
+fn run(rt: &impl Print, seeds: u64) -> io::Result<Counts> {
     let mut counts = none();
-    let mut seed: u64 = 0;
-    while seed < seeds {
-        counts = counted(counts, seed);
-        seed += 1;
+    for seed in 0..seeds {
+        counts = counted(rt, counts, seed)?;
     }
-    counts
+    Ok(counts)
 }
 
-pub fn joins() {
+pub fn joins(rt: &impl Print) -> io::Result<()> {
     output::heading(
+        rt,
         b"Random plans joined in threes, from the left and from the right: seeds 0 to 5,999.",
-    );
-    let counts = run(6_000);
-    total(b"days", counts.days);
-    total(b"of 32 steps", counts.full);
-    total(b"that end at the deadline", counts.late);
-    total(b"refused by 34", counts.refused);
-    total(b"where the first two are joined", counts.first_two);
-    total(b"where the last two are joined", counts.last_two);
-    total(b"both ways", counts.both);
-    total(b"refused by another number", counts.other);
-    total(b"differences", counts.differences);
+    )?;
+    let counts = run(rt, 6_000)?;
+    total(rt, b"days", counts.days)?;
+    total(rt, b"of 32 steps", counts.full)?;
+    total(rt, b"that end at the deadline", counts.late)?;
+    total(rt, b"refused by 34", counts.refused)?;
+    total(rt, b"where the first two are joined", counts.first_two)?;
+    total(rt, b"where the last two are joined", counts.last_two)?;
+    total(rt, b"both ways", counts.both)?;
+    total(rt, b"refused by another number", counts.other)?;
+    total(rt, b"differences", counts.differences)
 }

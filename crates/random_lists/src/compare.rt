@@ -1,12 +1,10 @@
 // Both lists of one job, at every place and at the one behind the last. Each plan is also checked, and so are its peaks
 // and the bytes that the lister leaves.
-use check::same;
 use compared::{Outcome, unless_differs};
 use job::Job;
 use lent::{first_steps, handed_out, refused};
 use second::list::Listed;
 use second::{Makespan, list};
-use std::num::wrapping_add_u32;
 use timeline::Plan;
 
 // The most plans of a list that is compared: 128 places of 97 bytes.
@@ -24,7 +22,7 @@ pub struct Compared {
 fn same_plan(job: Job, place: u32, plan: &[u8], end: u32) -> bool {
     let mut slice = [lent::FILL; Plan::BYTES];
     let day = lister::list(job, place, &mut slice);
-    handed_out(job, job.goal, &slice, day, end) & same(first_steps(&slice, day.steps), plan)
+    handed_out(job, job.goal, &slice, day, end) & (first_steps(&slice, day.steps) == plan)
 }
 
 // Whether the lister refuses the place by this number.
@@ -36,12 +34,10 @@ fn same_refusal(job: Job, place: u32, by: u8) -> bool {
 
 // Whether the lister has the same plans at the list's places, and 28 behind them.
 fn same_plans(job: Job, list: &[u8], plans: u32, end: u32) -> bool {
-    let mut place = 0;
-    while place < plans {
+    for place in 0..plans {
         if !same_plan(job, place, list::plan_at(list, place), end) {
             return false;
         }
-        place += 1;
     }
     same_refusal(job, plans, 28)
 }
@@ -49,7 +45,7 @@ fn same_plans(job: Job, list: &[u8], plans: u32, end: u32) -> bool {
 // 1 where the first plan begins the second, which is another, and 0 where it doesn't.
 fn begins(first: &[u8], second: &[u8]) -> u32 {
     let longer = first.len() < second.len();
-    if longer & same(lent::front(second, first.len()), first) {
+    if longer & (lent::front(second, first.len()) == first) {
         return 1;
     }
     0
@@ -57,12 +53,10 @@ fn begins(first: &[u8], second: &[u8]) -> u32 {
 
 // How many plans of the list begin the one behind them. Behind the last there are no steps.
 fn begin_next(list: &[u8], plans: u32) -> u32 {
-    let mut sum = 0;
-    let mut place = 0;
-    while place < plans {
+    let mut sum = 0u32;
+    for place in 0..plans {
         let plan = list::plan_at(list, place);
-        place += 1;
-        sum = wrapping_add_u32(sum, begins(plan, list::plan_at(list, place)));
+        sum = sum.wrapping_add(begins(plan, list::plan_at(list, place + 1)));
     }
     sum
 }

@@ -3,7 +3,7 @@
 use crate::compare;
 use compared::Totals;
 use job::Job;
-use std::num::wrapping_add_u64;
+use std::io;
 
 // What is counted over many jobs.
 #[derive(Clone, Copy)]
@@ -28,22 +28,22 @@ fn job_of(seed: u64) -> Job {
 }
 
 // The counts with the job of one seed more.
-fn counted(mut counts: Counts, seed: u64) -> Counts {
+fn counted(rt: &impl Print, mut counts: Counts, seed: u64) -> io::Result<Counts> {
     let compared = compare::compare(job_of(seed));
     let outcome = compared.outcome;
     let plans = compared.plans as u64;
-    counts.jobs = counts.jobs.with(seed, outcome);
-    counts.plans = wrapping_add_u64(counts.plans, plans);
+    counts.jobs = counts.jobs.with(rt, seed, outcome)?;
+    counts.plans = counts.plans.wrapping_add(plans);
     if 1 < plans {
-        counts.several = wrapping_add_u64(counts.several, 1);
+        counts.several = counts.several.wrapping_add(1);
     }
     counts.most = larger(counts.most, plans);
-    counts.begin_next = wrapping_add_u64(counts.begin_next, compared.begin_next as u64);
-    counts
+    counts.begin_next = counts.begin_next.wrapping_add(compared.begin_next as u64);
+    Ok(counts)
 }
 
 // The counts over the first so many seeds.
-fn run(seeds: u64) -> Counts {
+fn run(rt: &impl Print, seeds: u64) -> io::Result<Counts> {
     let mut counts = Counts {
         jobs: Totals::none(),
         plans: 0,
@@ -51,24 +51,23 @@ fn run(seeds: u64) -> Counts {
         most: 0,
         begin_next: 0,
     };
-    let mut seed: u64 = 0;
-    while seed < seeds {
-        counts = counted(counts, seed);
-        seed += 1;
+    for seed in 0..seeds {
+        counts = counted(rt, counts, seed)?;
     }
-    counts
+    Ok(counts)
 }
 
-pub fn lists() {
+pub fn lists(rt: &impl Print) -> io::Result<()> {
     output::heading(
+        rt,
         b"Random small jobs, all their shortest days by the lister and by the second planner: seeds 0 to 2,999.",
-    );
-    let counts = run(3_000);
+    )?;
+    let counts = run(rt, 3_000)?;
     let jobs = counts.jobs;
-    output::total(b"jobs", jobs.questions);
-    jobs.print();
-    output::total(b"plans listed", counts.plans);
-    output::total(b"jobs with several", counts.several);
-    output::total(b"the longest list", counts.most);
-    output::total(b"plans that begin the next", counts.begin_next);
+    output::total(rt, b"jobs", jobs.questions)?;
+    jobs.print(rt)?;
+    output::total(rt, b"plans listed", counts.plans)?;
+    output::total(rt, b"jobs with several", counts.several)?;
+    output::total(rt, b"the longest list", counts.most)?;
+    output::total(rt, b"plans that begin the next", counts.begin_next)
 }

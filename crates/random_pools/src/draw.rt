@@ -65,13 +65,11 @@ fn has_plan(job: Job) -> bool {
 
 // The first of some small jobs that has a plan, or another where none has.
 fn job(seed: u64) -> Job {
-    let mut k: u64 = 0;
-    while k < DRAWS {
+    for k in 0..DRAWS {
         let job = small(draw::part(seed, k));
         if has_plan(job) {
             return job;
         }
-        k += 1;
     }
     small(seed)
 }

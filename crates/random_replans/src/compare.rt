@@ -1,6 +1,5 @@
 // Both planners on one begun day. The replanner's plan is also checked, and so are its kept steps, its peaks and the
 // bytes that it leaves.
-use check::same;
 use compared::{Outcome, unless_differs};
 use job::Job;
 use job::refusal::Verdict;
@@ -26,8 +25,7 @@ fn starts_before(low: u8, high: u8, minute: u16) -> bool {
 
 // How many bytes the steps take that start before the minute. They stand first, since a plan is in order.
 fn size_before(plan: &[u8], minute: u16) -> usize {
-    let mut k = 0;
-    while k < Plan::STEPS {
+    for k in 0..Plan::STEPS {
         let at = k * Plan::STEP;
         if plan.len() <= at + 2 {
             return at;
@@ -35,7 +33,6 @@ fn size_before(plan: &[u8], minute: u16) -> usize {
         if !starts_before(plan[at + 1], plan[at + 2], minute) {
             return at;
         }
-        k += 1;
     }
     Plan::BYTES
 }
@@ -59,9 +56,9 @@ pub fn suffice(begun: Begun, steps: &[u8]) -> bool {
 // meet the goal.
 fn keeps(begun: Begun, kept: &[u8], plan: &[u8]) -> bool {
     if suffice(begun, kept) {
-        return same(plan, kept);
+        return plan == kept;
     }
-    same(steps_before(plan, begun.minute), kept)
+    steps_before(plan, begun.minute) == kept
 }
 
 // Where the second planner finds no plan: 24 for a foreign goal, and otherwise 35.

@@ -3,7 +3,7 @@
 use crate::compare::Begun;
 use crate::{compare, draw};
 use compared::Totals;
-use std::num::wrapping_add_u64;
+use std::io;
 use timeline::Plan;
 
 // What is counted over many days.
@@ -15,7 +15,7 @@ struct Counts {
 }
 
 // The counts with the day of one seed more.
-fn counted(mut counts: Counts, seed: u64) -> Counts {
+fn counted(rt: &impl Print, mut counts: Counts, seed: u64) -> io::Result<Counts> {
     let job = random_jobs::random_job(seed);
     let mut slice = [0u8; Plan::BYTES];
     let steps = draw::current_steps(seed, job, &mut slice);
@@ -28,45 +28,44 @@ fn counted(mut counts: Counts, seed: u64) -> Counts {
     let kept = compare::steps_before(current, begun.minute);
     let outcome = compare::compare(begun, current);
     if kept.len() == 0 {
-        counts.nothing = counts.nothing.with(seed, outcome);
-        return counts;
+        counts.nothing = counts.nothing.with(rt, seed, outcome)?;
+        return Ok(counts);
     }
     if compare::suffice(begun, kept) {
-        counts.alone = wrapping_add_u64(counts.alone, 1);
+        counts.alone = counts.alone.wrapping_add(1);
     }
-    counts.kept = counts.kept.with(seed, outcome);
-    counts
+    counts.kept = counts.kept.with(rt, seed, outcome)?;
+    Ok(counts)
 }
 
 // The counts over the first so many seeds.
-fn run(seeds: u64) -> Counts {
+fn run(rt: &impl Print, seeds: u64) -> io::Result<Counts> {
     let mut counts = Counts {
         nothing: Totals::none(),
         kept: Totals::none(),
         alone: 0,
     };
-    let mut seed: u64 = 0;
-    while seed < seeds {
-        counts = counted(counts, seed);
-        seed += 1;
+    for seed in 0..seeds {
+        counts = counted(rt, counts, seed)?;
     }
-    counts
+    Ok(counts)
 }
 
-fn print(totals: Totals) {
-    output::total(b"days", totals.questions);
-    totals.print();
-    output::total(b"refused by 24", totals.foreign_goal);
+fn print(rt: &impl Print, totals: Totals) -> io::Result<()> {
+    output::total(rt, b"days", totals.questions)?;
+    totals.print(rt)?;
+    output::total(rt, b"refused by 24", totals.foreign_goal)
 }
 
-pub fn replans() {
+pub fn replans(rt: &impl Print) -> io::Result<()> {
     output::heading(
+        rt,
         b"Random small days already begun, by the replanner and by the second planner: seeds 0 to 5,999.",
-    );
-    let counts = run(6_000);
-    output::heading(b"No step is kept.");
-    print(counts.nothing);
-    output::heading(b"Some step is kept.");
-    print(counts.kept);
-    output::total(b"kept steps alone", counts.alone);
+    )?;
+    let counts = run(rt, 6_000)?;
+    output::heading(rt, b"No step is kept.")?;
+    print(rt, counts.nothing)?;
+    output::heading(rt, b"Some step is kept.")?;
+    print(rt, counts.kept)?;
+    output::total(rt, b"kept steps alone", counts.alone)
 }

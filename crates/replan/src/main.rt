@@ -2,12 +2,16 @@
 // for a goal set, or by which number the question is refused.
 // Arguments: the job file and the file of the current plan, by name, the minute and the goal set, as decimal numbers.
 // What cannot be read, or is no such number, gets a message on standard error.
-use input::{Number, load_named, number_in};
+#![tactic(auto)]
+
+use input::{Number, argument_count, load_named, number_in, tell};
 use job::Job;
 use job::refusal::Verdict;
 use jobfile::Layout;
-use libc::STDERR_FILENO;
 use printing::{print_day, print_refusal};
+use std::env::Env;
+use std::io;
+use std::rt::Files;
 use timeline::Plan;
 
 // One byte more than the longest file, and than the longest plan: what fills it is too long.
@@ -26,65 +30,69 @@ struct Question {
 }
 
 // A shortest plan that keeps the begun steps.
-fn print_plan(job: Job, current: &[u8], question: Question) {
+fn print_plan(
+    rt: &impl Print,
+    job: Job,
+    current: &[u8],
+    question: Question,
+) -> io::Result<()> {
     let mut plan = [0u8; Plan::BYTES];
     let day = replanner::replan(job, current, question.minute, question.goal, &mut plan);
-    print_day(job, day, plan);
+    print_day(rt, job, day, plan)
 }
 
 // The answer for the job of a file.
-fn print_answer(file: &[u8], current: &[u8], question: Question) {
+fn print_answer(
+    rt: &impl Print,
+    file: &[u8],
+    current: &[u8],
+    question: Question,
+) -> io::Result<()> {
     let reading = reader::read(file);
-    let verdict = reading.verdict;
-    match verdict {
-        Verdict::Pass => {
-            print_plan(reading.job, current, question);
-        }
-        Verdict::Refused(why) => {
-            print_refusal(why);
-        }
+    match reading.verdict {
+        Verdict::Pass => print_plan(rt, reading.job, current, question),
+        Verdict::Refused(why) => print_refusal(rt, why),
     }
 }
 
 // Reads the current plan and answers.
-fn replan_job(file: &[u8], question: Question) {
+fn replan_job(
+    rt: &(impl Env + Files + Print + Eprint + Alloc),
+    file: &[u8],
+    question: Question,
+) -> io::Result<()> {
     let mut plan = [0u8; PLAN];
-    let loaded = load_named(2, &mut plan);
-    if loaded.whole {
-        let length = loaded.length;
-        print_answer(file, &plan[..length], question);
+    match load_named(rt, 2, &mut plan) {
+        Some(length) => print_answer(rt, file, &plan[..length], question),
+        None => Ok(()),
     }
 }
 
 // Reads the job and answers.
-fn replan_files(question: Question) {
+fn replan_files(
+    rt: &(impl Env + Files + Print + Eprint + Alloc),
+    question: Question,
+) -> io::Result<()> {
     let mut file = [0u8; JOB];
-    let loaded = load_named(1, &mut file);
-    if loaded.whole {
-        let length = loaded.length;
-        replan_job(&file[..length], question);
+    match load_named(rt, 1, &mut file) {
+        Some(length) => replan_job(rt, &file[..length], question),
+        None => Ok(()),
     }
 }
 
-fn main() {
-    if os::arg_count() != 5 {
-        io::write_all(STDERR_FILENO, b"usage: replan JOB PLAN MINUTE GOAL\n");
-        return;
+fn main(rt: HostRuntime) -> io::Result<()> {
+    if argument_count(&rt) != 5 {
+        tell(&rt, "usage: replan JOB PLAN MINUTE GOAL");
+        return Ok(());
     }
-    let Number::Value(minute) = number_in(
-        3,
-        LAST_MINUTE,
-        b"replan: MINUTE is not a decimal number of 32 bits\n",
-    ) else {
-        return;
+    let message = "replan: MINUTE is not a decimal number of 32 bits";
+    let Number::Value(minute) = number_in(&rt, 3, LAST_MINUTE, message) else {
+        return Ok(());
     };
-    let Number::Value(goal) = number_in(
-        4,
-        u64::MAX,
-        b"replan: GOAL is not a decimal number of 64 bits\n",
-    ) else {
-        return;
+    let message = "replan: GOAL is not a decimal number of 64 bits";
+    let Number::Value(goal) = number_in(&rt, 4, u64::MAX, message) else {
+        return Ok(());
     };
     let minute = minute as u32;
-    replan_files(Question { minute, goal });
+    replan_files(&rt, Question { minute, goal })
 }

@@ -3,7 +3,7 @@ use job::Job;
 use job::refusal::{Refusal, Verdict};
 use job::validate::validate;
 use second::Makespan;
-use std::num::wrapping_add_u64;
+use std::io;
 
 // What is counted over many jobs. No sum comes near 64 bits.
 #[derive(Clone, Copy)]
@@ -29,20 +29,20 @@ fn invalid(job: Job) -> u64 {
 
 // The totals with one job more.
 fn counted(mut totals: Totals, job: Job) -> Totals {
-    totals.invalid = wrapping_add_u64(totals.invalid, invalid(job));
+    totals.invalid = totals.invalid.wrapping_add(invalid(job));
     match second::shortest(job) {
         Makespan::Ends(end) => {
-            totals.plans = wrapping_add_u64(totals.plans, 1);
-            totals.ends = wrapping_add_u64(totals.ends, end as u64);
+            totals.plans = totals.plans.wrapping_add(1);
+            totals.ends = totals.ends.wrapping_add(end as u64);
         }
         Makespan::NoPlan => {
-            totals.no_plan = wrapping_add_u64(totals.no_plan, 1);
+            totals.no_plan = totals.no_plan.wrapping_add(1);
         }
         Makespan::UseBeyond => {
-            totals.beyond = wrapping_add_u64(totals.beyond, 1);
+            totals.beyond = totals.beyond.wrapping_add(1);
         }
         Makespan::TooLarge => {
-            totals.too_large = wrapping_add_u64(totals.too_large, 1);
+            totals.too_large = totals.too_large.wrapping_add(1);
         }
     }
     totals
@@ -58,21 +58,19 @@ fn run(seeds: u64) -> Totals {
         too_large: 0,
         ends: 0,
     };
-    let mut seed: u64 = 0;
-    while seed < seeds {
+    for seed in 0..seeds {
         totals = counted(totals, random_jobs::random_job(seed));
-        seed += 1;
     }
     totals
 }
 
-pub fn jobs() {
-    output::heading(b"Random small jobs: seeds 0 to 599.");
+pub fn jobs(rt: &impl Print) -> io::Result<()> {
+    output::heading(rt, b"Random small jobs: seeds 0 to 599.")?;
     let totals = run(600);
-    output::total(b"invalid", totals.invalid);
-    output::total(b"with a plan", totals.plans);
-    output::total(b"no plan", totals.no_plan);
-    output::total(b"refused by 26", totals.beyond);
-    output::total(b"too large", totals.too_large);
-    output::total(b"sum of the ends", totals.ends);
+    output::total(rt, b"invalid", totals.invalid)?;
+    output::total(rt, b"with a plan", totals.plans)?;
+    output::total(rt, b"no plan", totals.no_plan)?;
+    output::total(rt, b"refused by 26", totals.beyond)?;
+    output::total(rt, b"too large", totals.too_large)?;
+    output::total(rt, b"sum of the ends", totals.ends)
 }

@@ -3,16 +3,17 @@
 use job::Job;
 use output::text;
 use second::Makespan;
+use std::io;
 
-fn print(answer: Makespan) {
+fn print(rt: &impl Print, answer: Makespan) -> io::Result<()> {
     match answer {
         Makespan::Ends(end) => {
-            text(b"ends ");
-            output::number(end as u64);
+            text(rt, b"ends ")?;
+            output::number(rt, end as u64)
         }
-        Makespan::NoPlan => text(b"no plan"),
-        Makespan::UseBeyond => text(b"refused by 26"),
-        Makespan::TooLarge => text(b"too large"),
+        Makespan::NoPlan => text(rt, b"no plan"),
+        Makespan::UseBeyond => text(rt, b"refused by 26"),
+        Makespan::TooLarge => text(rt, b"too large"),
     }
 }
 
@@ -26,28 +27,28 @@ fn code(answer: Makespan) -> u64 {
     }
 }
 
-pub fn answer(case: &[u8], found: Makespan, expected: Makespan) {
-    output::name(case);
-    print(found);
+pub fn answer(rt: &impl Print, case: &[u8], found: Makespan, expected: Makespan) -> io::Result<()> {
+    output::name(rt, case)?;
+    print(rt, found)?;
     if code(found) != code(expected) {
-        text(b", expected ");
-        print(expected);
+        text(rt, b", expected ")?;
+        print(rt, expected)?;
     }
-    text(b"\n");
+    text(rt, b"\n")
 }
 
-pub fn ends(case: &[u8], job: Job, end: u32) {
-    answer(case, second::shortest(job), Makespan::Ends(end));
+pub fn ends(rt: &impl Print, case: &[u8], job: Job, end: u32) -> io::Result<()> {
+    answer(rt, case, second::shortest(job), Makespan::Ends(end))
 }
 
-pub fn no_plan(case: &[u8], job: Job) {
-    answer(case, second::shortest(job), Makespan::NoPlan);
+pub fn no_plan(rt: &impl Print, case: &[u8], job: Job) -> io::Result<()> {
+    answer(rt, case, second::shortest(job), Makespan::NoPlan)
 }
 
-pub fn use_beyond(case: &[u8], job: Job) {
-    answer(case, second::shortest(job), Makespan::UseBeyond);
+pub fn use_beyond(rt: &impl Print, case: &[u8], job: Job) -> io::Result<()> {
+    answer(rt, case, second::shortest(job), Makespan::UseBeyond)
 }
 
-pub fn too_large(case: &[u8], job: Job) {
-    answer(case, second::shortest(job), Makespan::TooLarge);
+pub fn too_large(rt: &impl Print, case: &[u8], job: Job) -> io::Result<()> {
+    answer(rt, case, second::shortest(job), Makespan::TooLarge)
 }

@@ -8,6 +8,7 @@ use job::same::same;
 use made_jobs::parts;
 use output::text;
 use price::{Priced, Rates};
+use std::io;
 use timeline::{Day, Plan};
 
 // The shortest day of this job is action 0 at 0 and 1 at 3.
@@ -48,33 +49,33 @@ pub fn day_with_action() -> Job {
     parts::with_counts(three, 1, 1, 2)
 }
 
-fn show(word: &[u8], number: u64) {
-    text(word);
-    output::number(number);
+fn show(rt: &impl Print, word: &[u8], number: u64) -> io::Result<()> {
+    text(rt, word)?;
+    output::number(rt, number)
 }
 
-fn show_peak(word: &[u8], peak: u32) {
-    show(word, peak as u64);
+fn show_peak(rt: &impl Print, word: &[u8], peak: u32) -> io::Result<()> {
+    show(rt, word, peak as u64)
 }
 
 // The peaks in all four places.
-fn show_peaks(day: Day) {
+fn show_peaks(rt: &impl Print, day: Day) -> io::Result<()> {
     let peaks = day.peaks;
-    show_peak(b", peaks ", peaks[0]);
-    show_peak(b" ", peaks[1]);
-    show_peak(b" ", peaks[2]);
-    show_peak(b" ", peaks[3]);
+    show_peak(rt, b", peaks ", peaks[0])?;
+    show_peak(rt, b" ", peaks[1])?;
+    show_peak(rt, b" ", peaks[2])?;
+    show_peak(rt, b" ", peaks[3])
 }
 
 // What a call that returns a day answers.
-pub fn show_day(call: &[u8], day: Day) {
-    text(call);
+pub fn show_day(rt: &impl Print, call: &[u8], day: Day) -> io::Result<()> {
+    text(rt, call)?;
     let verdict = day.verdict;
     match verdict {
-        Verdict::Pass => show(b" ends ", day.end as u64),
-        Verdict::Refused(why) => show(b" refused ", number(why) as u64),
-    }
-    show_peaks(day);
+        Verdict::Pass => show(rt, b" ends ", day.end as u64),
+        Verdict::Refused(why) => show(rt, b" refused ", number(why) as u64),
+    }?;
+    show_peaks(rt, day)
 }
 
 fn planned(job: Job) -> Day {
@@ -110,87 +111,99 @@ fn rates() -> Rates {
     }
 }
 
-fn priced(answer: Priced) {
+fn priced(rt: &impl Print, answer: Priced) -> io::Result<()> {
     match answer {
-        Priced::Cents(cents) => show(b", price ", cents),
-        Priced::Refused(why) => show(b", price refused ", number(why) as u64),
+        Priced::Cents(cents) => show(rt, b", price ", cents),
+        Priced::Refused(why) => show(rt, b", price refused ", number(why) as u64),
     }
 }
 
-fn timed(answer: EarliestTime) {
+fn timed(rt: &impl Print, answer: EarliestTime) -> io::Result<()> {
     match answer {
-        EarliestTime::At(minute) => show(b", earliest ", minute as u64),
-        EarliestTime::Unreachable => text(b", unreachable"),
-        EarliestTime::Refused(why) => show(b", earliest refused ", number(why) as u64),
+        EarliestTime::At(minute) => show(rt, b", earliest ", minute as u64),
+        EarliestTime::Unreachable => text(rt, b", unreachable"),
+        EarliestTime::Refused(why) => show(rt, b", earliest refused ", number(why) as u64),
     }
 }
 
 // The days that the planner hands out: the shortest, the first two of the list, and one by way of fact 1.
-fn days(job: Job) {
-    show_day(b", plan", planned(job));
-    show_day(b", list", listed(job, 0));
-    show_day(b", next", listed(job, 1));
-    show_day(b", halves", halved(job, 0b010));
+fn days(rt: &impl Print, job: Job) -> io::Result<()> {
+    show_day(rt, b", plan", planned(job))?;
+    show_day(rt, b", list", listed(job, 0))?;
+    show_day(rt, b", next", listed(job, 1))?;
+    show_day(rt, b", halves", halved(job, 0b010))
 }
 
 // What is answered to the job, with this plan for the checker, the join and the price, and the goal for the earliest
 // time.
-pub fn answers(case: &[u8], job: Job, plan: &[u8]) {
-    output::name(case);
-    show_day(b"check", checker::check(job, plan));
-    show_day(b", join", joined(job, plan));
-    days(job);
-    priced(price::price(job, rates(), plan));
-    timed(earliest::earliest(job, job.goal));
-    text(b"\n");
+pub fn answers(rt: &impl Print, case: &[u8], job: Job, plan: &[u8]) -> io::Result<()> {
+    output::name(rt, case)?;
+    show_day(rt, b"check", checker::check(job, plan))?;
+    show_day(rt, b", join", joined(job, plan))?;
+    days(rt, job)?;
+    priced(rt, price::price(job, rates(), plan))?;
+    timed(rt, earliest::earliest(job, job.goal))?;
+    text(rt, b"\n")
 }
 
-pub fn ignored() {
-    output::heading(b"What is beyond its counts is ignored.");
+pub fn ignored(rt: &impl Print) -> io::Result<()> {
+    output::heading(rt, b"What is beyond its counts is ignored.")?;
     let plan = [0u8, 0, 0, 1, 3, 0];
-    answers(b"zeros beyond", day(), &plan);
-    answers(b"9 of 0 beyond", day_with(0, 9), &plan);
+    answers(rt, b"zeros beyond", day(), &plan)?;
+    answers(rt, b"9 of 0 beyond", day_with(0, 9), &plan)?;
     answers(
+        rt,
         b"4,000,000,000 beyond",
         day_with(4_000_000_000, 4_000_000_000),
         &plan,
-    );
-    answers(b"length 0 beyond", day_with_action(), &plan);
+    )?;
+    answers(rt, b"length 0 beyond", day_with_action(), &plan)?;
     answers(
+        rt,
         b"a step beyond",
         day_with_action(),
         &[0, 0, 0, 1, 3, 0, 2, 5, 0],
-    );
-    answers(b"two pools, 9 of 0 beyond", day_with_two_pools(), &plan);
+    )?;
+    answers(rt, b"two pools, 9 of 0 beyond", day_with_two_pools(), &plan)
 }
 
 // Whether two values hold the same job.
-pub fn compare(case: &[u8], a: Job, b: Job) {
-    output::name(case);
+pub fn compare(rt: &impl Print, case: &[u8], a: Job, b: Job) -> io::Result<()> {
+    output::name(rt, case)?;
     if same(a, b) {
-        text(b"same\n");
+        text(rt, b"same\n")
     } else {
-        text(b"different\n");
+        text(rt, b"different\n")
     }
 }
 
-pub fn same_jobs() {
-    output::heading(b"Two jobs are the same if their counts and all within them agree.");
-    compare(b"9 of 0 beyond", day(), day_with(0, 9));
+pub fn same_jobs(rt: &impl Print) -> io::Result<()> {
+    output::heading(
+        rt,
+        b"Two jobs are the same if their counts and all within them agree.",
+    )?;
+    compare(rt, b"9 of 0 beyond", day(), day_with(0, 9))?;
     compare(
+        rt,
         b"4,000,000,000 beyond",
         day(),
         day_with(4_000_000_000, 4_000_000_000),
-    );
-    compare(b"length 0 beyond", day(), day_with_action());
-    compare(b"a pool of 0 more", day(), parts::with_pool(day(), 0));
-    compare(b"a pool of 3 for 2", day(), jobs::with_first_pool(day(), 3));
+    )?;
+    compare(rt, b"length 0 beyond", day(), day_with_action())?;
+    compare(rt, b"a pool of 0 more", day(), parts::with_pool(day(), 0))?;
     compare(
+        rt,
+        b"a pool of 3 for 2",
+        day(),
+        jobs::with_first_pool(day(), 3),
+    )?;
+    compare(
+        rt,
         b"deadline 11 for 10",
         day(),
         jobs::with_head(day(), 3, 11, 0b001, 0b110),
-    );
-    compare(b"another use by action 1", day(), other_use());
+    )?;
+    compare(rt, b"another use by action 1", day(), other_use())
 }
 
 fn other_use() -> Job {

@@ -7,6 +7,7 @@ use made_jobs::parts;
 use output::text;
 use pooling::Pooled;
 use price::{Priced, Rates};
+use std::io;
 use timeline::Day;
 
 // The bytes of the longest slice that is lent.
@@ -58,61 +59,75 @@ fn rates_over() -> Rates {
 }
 
 // The planner and the list, lent the same slice.
-fn lend_planners(job: Job, slice: &mut [u8]) {
-    show_day(b", plan ", planner::plan(job, slice));
-    show_day(b", list ", lister::list(job, u32::MAX, slice));
+fn lend_planners(rt: &impl Print, job: Job, slice: &mut [u8]) -> io::Result<()> {
+    show_day(rt, b", plan ", planner::plan(job, slice))?;
+    show_day(rt, b", list ", lister::list(job, u32::MAX, slice))
 }
 
 // The writer too.
-fn lend_alone(job: Job, slice: &mut [u8]) {
-    show(b"write ", written(writer::write(job, slice)));
-    lend_planners(job, slice);
+fn lend_alone(rt: &impl Print, job: Job, slice: &mut [u8]) -> io::Result<()> {
+    show(rt, b"write ", written(writer::write(job, slice)))?;
+    lend_planners(rt, job, slice)
 }
 
 // The join of this plan with itself, and the halves by way of this set, lent the same slice.
-fn lend_halves(job: Job, slice: &mut [u8], plan: &[u8], set: u64) {
-    show_day(b", join ", joining::join(job, plan, plan, slice));
-    show_day(b", halves ", halving::halves(job, set, slice));
+fn lend_halves(
+    rt: &impl Print,
+    job: Job,
+    slice: &mut [u8],
+    plan: &[u8],
+    set: u64,
+) -> io::Result<()> {
+    show_day(rt, b", join ", joining::join(job, plan, plan, slice))?;
+    show_day(rt, b", halves ", halving::halves(job, set, slice))
 }
 
 // All of these calls, lent the same slice.
-fn lend(job: Job, slice: &mut [u8], plan: &[u8], set: u64) {
-    lend_alone(job, slice);
-    lend_halves(job, slice, plan, set);
+fn lend(rt: &impl Print, job: Job, slice: &mut [u8], plan: &[u8], set: u64) -> io::Result<()> {
+    lend_alone(rt, job, slice)?;
+    lend_halves(rt, job, slice, plan, set)
 }
 
 // The same with the first bytes of a slice, so many.
-fn lend_front(job: Job, slice: &mut [u8], length: usize, plan: &[u8], set: u64) {
+fn lend_front(
+    rt: &impl Print,
+    job: Job,
+    slice: &mut [u8],
+    length: usize,
+    plan: &[u8],
+    set: u64,
+) -> io::Result<()> {
     if length <= slice.len() {
-        lend(job, &mut slice[0..length], plan, set);
+        lend(rt, job, &mut slice[0..length], plan, set)
     } else {
-        lend(job, slice, plan, set);
+        lend(rt, job, slice, plan, set)
     }
 }
 
 // The same, and whether the slice is as before.
-fn lend_filled(job: Job, length: usize, plan: &[u8], set: u64) {
+fn lend_filled(rt: &impl Print, job: Job, length: usize, plan: &[u8], set: u64) -> io::Result<()> {
     let mut slice = [lent::FILL; ROOM];
-    lend_front(job, &mut slice, length, plan, set);
+    lend_front(rt, job, &mut slice, length, plan, set)?;
     if lent::kept(&slice, 0) {
-        text(b", slice kept");
+        text(rt, b", slice kept")
     } else {
-        text(b", slice changed");
+        text(rt, b", slice changed")
     }
 }
 
-fn show(call: &[u8], number: u8) {
-    text(call);
-    output::number(number as u64);
+fn show(rt: &impl Print, call: &[u8], number: u8) -> io::Result<()> {
+    text(rt, call)?;
+    output::number(rt, number as u64)
 }
 
 // The refusal of a day, beside which the peaks are all zero.
-fn show_day(call: &[u8], day: Day) {
+fn show_day(rt: &impl Print, call: &[u8], day: Day) -> io::Result<()> {
     let verdict = day.verdict;
-    show(call, judged(verdict));
+    show(rt, call, judged(verdict))?;
     if !no_peaks(day) {
-        text(b" with peaks");
+        text(rt, b" with peaks")?;
     }
+    Ok(())
 }
 
 // A job of 64 facts under the rule of the coming season: pooled with another, 32 and 33 hold.
@@ -121,24 +136,36 @@ fn partner() -> Job {
 }
 
 // The refusal of a pooling, beside which the job is all zero.
-pub fn show_pooled(call: &[u8], answer: Pooled) {
+pub fn show_pooled(rt: &impl Print, call: &[u8], answer: Pooled) -> io::Result<()> {
     let verdict = answer.verdict;
-    show(call, judged(verdict));
+    show(rt, call, judged(verdict))?;
     if !parts::same_everywhere(answer.job, Job::zero()) {
-        text(b" with a job");
+        text(rt, b" with a job")?;
     }
+    Ok(())
 }
 
 // The refusal of each call: with a slice of so many bytes, this plan and this set.
-pub fn refusals(case: &[u8], job: Job, length: usize, plan: &[u8], set: u64) {
-    output::name(case);
-    lend_filled(job, length, plan, set);
-    show_day(b", check ", checker::check(job, plan));
-    show_day(b", check for ", checker::check_for(job, set, plan));
-    show(b", price ", priced(price::price(job, rates_over(), plan)));
-    show_day(b", true day ", true_day::true_day(job, plan, &[0]));
-    show(b", earliest ", timed(earliest::earliest(job, set)));
-    show_pooled(b", pool first ", pooling::pool(job, partner()));
-    show_pooled(b", pool second ", pooling::pool(partner(), job));
-    text(b"\n");
+pub fn refusals(
+    rt: &impl Print,
+    case: &[u8],
+    job: Job,
+    length: usize,
+    plan: &[u8],
+    set: u64,
+) -> io::Result<()> {
+    output::name(rt, case)?;
+    lend_filled(rt, job, length, plan, set)?;
+    show_day(rt, b", check ", checker::check(job, plan))?;
+    show_day(rt, b", check for ", checker::check_for(job, set, plan))?;
+    show(
+        rt,
+        b", price ",
+        priced(price::price(job, rates_over(), plan)),
+    )?;
+    show_day(rt, b", true day ", true_day::true_day(job, plan, &[0]))?;
+    show(rt, b", earliest ", timed(earliest::earliest(job, set)))?;
+    show_pooled(rt, b", pool first ", pooling::pool(job, partner()))?;
+    show_pooled(rt, b", pool second ", pooling::pool(partner(), job))?;
+    text(rt, b"\n")
 }

@@ -74,10 +74,8 @@ fn with_filled_action(job: Job, at: u8, beyond: u32) -> Job {
 // A job of so many pools, stores and actions. `beyond` stands in each place beyond the counts.
 pub fn filled(pools: usize, stores: usize, actions: usize, beyond: u32) -> Job {
     let mut job = filled_resources(pools, stores, actions, beyond);
-    let mut at: u8 = 0;
-    while at < 64 {
+    for at in 0..64u8 {
         job = with_filled_action(job, at, beyond);
-        at += 1;
     }
     job
 }

@@ -6,6 +6,7 @@ use crate::trips::named;
 use job::{Form, Job};
 use made_jobs::parts::with_shortest;
 use output::text;
+use std::io;
 
 // The shortest lengths of two actions, and 200 in the places beyond.
 fn of_two(first: u8, second: u8) -> [u8; Job::ACTIONS] {
@@ -24,40 +25,52 @@ pub fn five(job: Job, first: u8, second: u8) -> Job {
     with_shortest(job, Form::Five, of_two(first, second))
 }
 
-pub fn refused() {
-    output::heading(b"29, a shortest length 0 or over the longest; after 8 and before 9.");
+pub fn refused(rt: &impl Print) -> io::Result<()> {
+    output::heading(
+        rt,
+        b"29, a shortest length 0 or over the longest; after 8 and before 9.",
+    )?;
     let over = six(jobs::base(), 255, 2);
     let idle = jobs::action(0, 2, 1, 0, 3, 7);
     let foreign = jobs::action(1, 4, 1, 0, 3, 7);
-    alone(b"29, shortest 0", six(jobs::base(), 0, 1));
-    alone(b"29, shortest 2 of 1", over);
-    alone(b"8 and 29", jobs::with_action(over, 1, idle));
-    alone(b"29 and 9", jobs::with_action(over, 1, foreign));
+    alone(rt, b"29, shortest 0", six(jobs::base(), 0, 1))?;
+    alone(rt, b"29, shortest 2 of 1", over)?;
+    alone(rt, b"8 and 29", jobs::with_action(over, 1, idle))?;
+    alone(rt, b"29 and 9", jobs::with_action(over, 1, foreign))?;
     alone(
+        rt,
         b"9, 0 beyond the form",
         jobs::with_action(five(jobs::base(), 0, 0), 1, foreign),
-    );
+    )
 }
 
-pub fn ignored() {
+pub fn ignored(rt: &impl Print) -> io::Result<()> {
     output::heading(
+        rt,
         b"Older forms have shortest equal to longest, whatever the value holds. Plans are made with the longest lengths.",
-    );
+    )?;
     let plan = [0u8, 0, 0, 1, 3, 0];
-    answers(b"five entries, 0 beyond", five(day(), 0, 0), &plan);
-    answers(b"six entries, shortest 1 1", six(day(), 1, 1), &plan);
+    answers(rt, b"five entries, 0 beyond", five(day(), 0, 0), &plan)?;
+    answers(rt, b"six entries, shortest 1 1", six(day(), 1, 1), &plan)?;
     compare(
+        rt,
         b"five entries, 0 beyond",
         five(day(), 3, 2),
         five(day(), 0, 0),
-    );
+    )?;
     compare(
+        rt,
         b"six entries, 0 beyond the actions",
         six(day(), 1, 1),
         with_zeros(1, 1),
-    );
-    compare(b"shortest 2 for 1", six(day(), 1, 1), six(day(), 1, 2));
-    compare(b"six entries for five", five(day(), 3, 2), six(day(), 3, 2));
+    )?;
+    compare(rt, b"shortest 2 for 1", six(day(), 1, 1), six(day(), 1, 2))?;
+    compare(
+        rt,
+        b"six entries for five",
+        five(day(), 3, 2),
+        six(day(), 3, 2),
+    )
 }
 
 // The day with these shortest lengths, and 0 in the places beyond.
@@ -68,36 +81,45 @@ fn with_zeros(first: u8, second: u8) -> Job {
     with_shortest(day(), Form::Six, lengths)
 }
 
-pub fn trips() {
-    output::heading(b"A job written and read is the same job, its shortest lengths included.");
+pub fn trips(rt: &impl Print) -> io::Result<()> {
+    output::heading(
+        rt,
+        b"A job written and read is the same job, its shortest lengths included.",
+    )?;
     named(
+        rt,
         b"five entries, 200 beyond",
         five(day(), 200, 200),
         with_shortest(day(), Form::Five, [0; Job::ACTIONS]),
-    );
+    )?;
     named(
+        rt,
         b"six entries, 200 beyond",
         six(day(), 3, 1),
         with_zeros(3, 1),
-    );
+    )
 }
 
 // What the day of action 0 at 0 and action 1 at 3 was, with these lengths.
-fn run(case: &[u8], job: Job, first: u8, second: u8) {
-    output::name(case);
+fn run(rt: &impl Print, case: &[u8], job: Job, first: u8, second: u8) -> io::Result<()> {
+    output::name(rt, case)?;
     show_day(
+        rt,
         b"true day",
         true_day::true_day(job, &[0, 0, 0, 1, 3, 0], &[first, second]),
-    );
-    text(b"\n");
+    )?;
+    text(rt, b"\n")
 }
 
-pub fn true_days() {
-    output::heading(b"True lengths outside their range are 30; older forms have one length.");
-    run(b"six entries, 1 and 1", six(day(), 1, 1), 1, 1);
-    run(b"six entries, 3 and 2", six(day(), 1, 1), 3, 2);
-    run(b"30, 3 and 3", six(day(), 1, 1), 3, 3);
-    run(b"30, 1 of 2 to 3", six(day(), 2, 1), 1, 1);
-    run(b"five entries, 3 and 2", five(day(), 1, 1), 3, 2);
-    run(b"30, five entries, 2 and 2", five(day(), 1, 1), 2, 2);
+pub fn true_days(rt: &impl Print) -> io::Result<()> {
+    output::heading(
+        rt,
+        b"True lengths outside their range are 30; older forms have one length.",
+    )?;
+    run(rt, b"six entries, 1 and 1", six(day(), 1, 1), 1, 1)?;
+    run(rt, b"six entries, 3 and 2", six(day(), 1, 1), 3, 2)?;
+    run(rt, b"30, 3 and 3", six(day(), 1, 1), 3, 3)?;
+    run(rt, b"30, 1 of 2 to 3", six(day(), 2, 1), 1, 1)?;
+    run(rt, b"five entries, 3 and 2", five(day(), 1, 1), 3, 2)?;
+    run(rt, b"30, five entries, 2 and 2", five(day(), 1, 1), 2, 2)
 }

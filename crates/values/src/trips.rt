@@ -8,6 +8,7 @@ use lent::front;
 use made_jobs::days;
 use made_jobs::parts::same_everywhere;
 use output::text;
+use std::io;
 
 // The length of the file that is written; 0 where the writer refuses.
 fn write(job: Job, out: &mut [u8]) -> usize {
@@ -17,69 +18,72 @@ fn write(job: Job, out: &mut [u8]) -> usize {
     }
 }
 
-pub fn same(is_same: bool) {
+pub fn same(rt: &impl Print, is_same: bool) -> io::Result<()> {
     if is_same {
-        text(b"same");
+        text(rt, b"same")
     } else {
-        text(b"different");
+        text(rt, b"different")
     }
 }
 
 // What is read is `clean`: the same job, with zeros beyond its counts.
-fn trip(job: Job, clean: Job) {
+fn trip(rt: &impl Print, job: Job, clean: Job) -> io::Result<()> {
     let mut file = [0u8; ROOM];
     let length = write(job, &mut file);
     let reading = reader::read(front(&file, length));
     let back = reading.job;
     let mut again = [0u8; ROOM];
     let length_again = write(back, &mut again);
-    output::number(length as u64);
-    text(b" bytes, job ");
-    same(same_everywhere(back, clean));
-    text(b", file ");
-    same(check::same(front(&file, length), front(&again, length_again)));
-    text(b"\n");
+    output::number(rt, length as u64)?;
+    text(rt, b" bytes, job ")?;
+    same(rt, same_everywhere(back, clean))?;
+    text(rt, b", file ")?;
+    same(rt, front(&file, length) == front(&again, length_again))?;
+    text(rt, b"\n")
 }
 
-pub fn named(case: &[u8], job: Job, clean: Job) {
-    output::name(case);
-    trip(job, clean);
+pub fn named(rt: &impl Print, case: &[u8], job: Job, clean: Job) -> io::Result<()> {
+    output::name(rt, case)?;
+    trip(rt, job, clean)
 }
 
 // A job of so many pools, stores and actions, with 4,000,000,000 in each place beyond.
-fn trip_filled(pools: usize, stores: usize, actions: usize) {
+fn trip_filled(rt: &impl Print, pools: usize, stores: usize, actions: usize) -> io::Result<()> {
     trip(
+        rt,
         filled(pools, stores, actions, 4_000_000_000),
         filled(pools, stores, actions, 0),
-    );
+    )
 }
 
-pub fn largest() {
-    output::heading(b"Written, read and written again, with 4,000,000,000 beyond the counts.");
-    named(b"base", jobs::base(), jobs::base());
-    named(b"base against case 6", jobs::base(), days::case_6(3));
-    output::name(b"largest job");
-    trip_filled(4, 4, 64);
-    output::name(b"4 pools, 64 actions");
-    trip_filled(4, 0, 64);
-    output::name(b"4 stores, 64 actions");
-    trip_filled(0, 4, 64);
+pub fn largest(rt: &impl Print) -> io::Result<()> {
+    output::heading(
+        rt,
+        b"Written, read and written again, with 4,000,000,000 beyond the counts.",
+    )?;
+    named(rt, b"base", jobs::base(), jobs::base())?;
+    named(rt, b"base against case 6", jobs::base(), days::case_6(3))?;
+    output::name(rt, b"largest job")?;
+    trip_filled(rt, 4, 4, 64)?;
+    output::name(rt, b"4 pools, 64 actions")?;
+    trip_filled(rt, 4, 0, 64)?;
+    output::name(rt, b"4 stores, 64 actions")?;
+    trip_filled(rt, 0, 4, 64)
 }
 
 // Every number of pools and stores, with two actions.
-pub fn every_count() {
-    let mut i = 0;
-    while i < 25 {
-        with_counts(i / 5, i % 5);
-        i += 1;
+pub fn every_count(rt: &impl Print) -> io::Result<()> {
+    for i in 0..25usize {
+        with_counts(rt, i / 5, i % 5)?;
     }
+    Ok(())
 }
 
-fn with_counts(pools: usize, stores: usize) {
-    text(b"  ");
-    output::number(pools as u64);
-    text(b" pools, ");
-    output::number(stores as u64);
-    text(b" stores: ");
-    trip_filled(pools, stores, 2);
+fn with_counts(rt: &impl Print, pools: usize, stores: usize) -> io::Result<()> {
+    text(rt, b"  ")?;
+    output::number(rt, pools as u64)?;
+    text(rt, b" pools, ")?;
+    output::number(rt, stores as u64)?;
+    text(rt, b" stores: ")?;
+    trip_filled(rt, pools, stores, 2)
 }
