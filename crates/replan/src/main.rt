@@ -30,12 +30,7 @@ struct Question {
 }
 
 // A shortest plan that keeps the begun steps.
-fn print_plan(
-    rt: &impl Print,
-    job: Job,
-    current: &[u8],
-    question: Question,
-) -> io::Result<()> {
+fn print_plan(rt: &impl Print, job: Job, current: &[u8], question: Question) -> io::Result<()> {
     let mut plan = [0u8; Plan::BYTES];
     let day = replanner::replan(job, current, question.minute, question.goal, &mut plan);
     print_day(rt, job, day, plan)

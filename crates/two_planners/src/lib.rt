@@ -1,4 +1,6 @@
 // Both planners on one job. The planner's plan is also checked, and so are its peaks and the bytes that it leaves.
+#![tactic(auto)]
+
 use compared::{Outcome, unless_differs};
 use job::Job;
 use lent::{handed_out, refused};
