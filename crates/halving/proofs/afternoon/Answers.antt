@@ -9,8 +9,8 @@ use Rattle.solver.specs.declared.Task.{Task}
 use Rattle.halving.proofs.AfternoonTask.{day_of_afternoon}
 use Rattle.halving.proofs.afternoon.Goals as goal
 
-abbrev asTask : ℕ → List ℕ → ℕ → Steps → Task
-asTask start stocks goal kept = record { start = start; stocks = stocks; goal = goal; first = 0; kept = kept }
+abbrev as_task : ℕ → List ℕ → ℕ → Steps → Task
+as_task start stocks goal kept = record { start = start; stocks = stocks; goal = goal; first = 0; kept = kept }
 
 pub returns : goal.returns
 returns c =
@@ -25,6 +25,6 @@ returns c =
       kept = c.none.result;
     } in
     record {
-      whole = ap (λ (kept : Steps). asTask task.start task.stocks job.goal kept) c.none.ensures;
+      whole = ap (λ (kept : Steps). as_task task.start task.stocks job.goal kept) c.none.ensures;
       day = day_of_afternoon job plan task start c.left-stocks.ensures;
     }

@@ -6,7 +6,7 @@ use Rattle.timeline.specs.Value.{step_at, steps_of}
 use Rattle.timeline.proofs.Peaks.{peak_at_start}
 use Rattle.checker.proofs.Loops.{largest_more}
 use native.Mathlib.Omega.{arith}
-use Rattle.checker.proofs.pools.peak.Invariants.{usedAt}
+use Rattle.checker.proofs.pools.peak.Invariants.{used_at}
 use Rattle.checker.proofs.pools.peak.Goals as goal
 
 pub loop-i-init : goal.loop-i-init
@@ -18,7 +18,7 @@ loop-i-preserved c = (
   omega arith,
   λ J e.
       c.larger-most.ensures ∙ ap₂ max (c.loop-i.invariant.1 J e) (c.in_use.ensures J e)
-      ∙ sym (largest_more (step_at c.args.plan) (usedAt J c.args.plan c.args.pool) c.loop-i.i),
+      ∙ sym (largest_more (step_at c.args.plan) (used_at J c.args.plan c.args.pool) c.loop-i.i),
 )
 
 pub returns : goal.returns

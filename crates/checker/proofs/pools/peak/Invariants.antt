@@ -11,13 +11,13 @@ use Rattle.timeline.specs.declared.Plan.{Plan}
 use Rattle.checker.proofs.pools.peak.Given as goal
 
 -- what is in use of the pool where a step starts
-abbrev pub usedAt : Job → Plan → ℕ → Step → ℕ
-usedAt J plan pool x = in_use J pool x.start (steps_of plan)
+abbrev pub used_at : Job → Plan → ℕ → Step → ℕ
+used_at J plan pool x = in_use J pool x.start (steps_of plan)
 
 abbrev pub invariant-loop-i : goal.invariant-loop-i
 invariant-loop-i l =
     (l.i ≤ l.plan.length)
-    × ((J : Job) → handover J l.pool ≡ l.handover → l.most ≡ largest (usedAt J l.plan l.pool) (tabulate l.i (step_at l.plan)))
+    × ((J : Job) → handover J l.pool ≡ l.handover → l.most ≡ largest (used_at J l.plan l.pool) (tabulate l.i (step_at l.plan)))
 
 abbrev pub decreases-loop-i : goal.decreases-loop-i
 decreases-loop-i l = l.plan.length - l.i

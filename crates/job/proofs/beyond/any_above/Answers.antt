@@ -4,7 +4,7 @@ use mathlib.Core.Bool.{Bool, ◌||◌, or_comm}
 use Rattle.lists.specs.Lists.{any_below}
 use Rattle.lists.proofs.Below.{below_more, below_cut}
 use native.Mathlib.Omega.{arith}
-use Rattle.job.proofs.beyond.any_above.Invariants.{aboveAt, countsAt}
+use Rattle.job.proofs.beyond.any_above.Invariants.{above_at, counts_at}
 use Rattle.job.proofs.beyond.any_above.Goals as goal
 
 pub loop-k-init : goal.loop-k-init
@@ -14,7 +14,7 @@ pub loop-k-preserved : goal.loop-k-preserved
 loop-k-preserved c =
     let a = c.args in
     let l = c.loop-k in
-    let test = countsAt a.n a.limits a.amounts in (
+    let test = counts_at a.n a.limits a.amounts in (
       omega arith,
       ap (λ (b : Bool). b || test l.k) l.invariant.1
           ∙ or_comm (any_below l.k test) (test l.k)
@@ -26,4 +26,4 @@ returns c =
     let a = c.args in
     let l = c.loop-k in
     let e : l.k ≡ 4 = omega arith in
-    (rw e at l.invariant.1) ∙ below_cut a.n 4 (aboveAt a.limits a.amounts) (omega arith)
+    (rw e at l.invariant.1) ∙ below_cut a.n 4 (above_at a.limits a.amounts) (omega arith)

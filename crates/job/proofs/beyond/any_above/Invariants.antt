@@ -10,15 +10,15 @@ use Rattle.job.specs.Valid.{over}
 use Rattle.job.proofs.beyond.any_above.Given as goal
 
 -- the amount at place k is over its limit
-abbrev pub aboveAt : List ℕ → List ℕ → ℕ → Bool
-aboveAt limits amounts k = over (get_or limits k 0) (get_or amounts k 0)
+abbrev pub above_at : List ℕ → List ℕ → ℕ → Bool
+above_at limits amounts k = over (get_or limits k 0) (get_or amounts k 0)
 
 -- and it is one of the first n
-abbrev pub countsAt : ℕ → List ℕ → List ℕ → ℕ → Bool
-countsAt n limits amounts k = ltb k n && aboveAt limits amounts k
+abbrev pub counts_at : ℕ → List ℕ → List ℕ → ℕ → Bool
+counts_at n limits amounts k = ltb k n && above_at limits amounts k
 
 abbrev pub invariant-loop-k : goal.invariant-loop-k
-invariant-loop-k l = (l.k ≤ 4) × (l.found ≡ any_below l.k (countsAt l.n l.limits l.amounts))
+invariant-loop-k l = (l.k ≤ 4) × (l.found ≡ any_below l.k (counts_at l.n l.limits l.amounts))
 
 abbrev pub decreases-loop-k : goal.decreases-loop-k
 decreases-loop-k l = 4 - l.k

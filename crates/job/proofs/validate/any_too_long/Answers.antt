@@ -6,7 +6,7 @@ use Rattle.lists.specs.Lists.{any_below}
 use Rattle.lists.proofs.Below.{below_more, below_cut, any_below_lem}
 use Rattle.job.specs.Valid.{over}
 use native.Mathlib.Omega.{arith}
-use Rattle.job.proofs.validate.any_too_long.Invariants.{countsAt}
+use Rattle.job.proofs.validate.any_too_long.Invariants.{counts_at}
 use Rattle.job.proofs.validate.any_too_long.Goals as goal
 
 pub loop-k-init : goal.loop-k-init
@@ -16,7 +16,7 @@ pub loop-k-preserved : goal.loop-k-preserved
 loop-k-preserved c =
     let a = c.args in
     let l = c.loop-k in
-    let test = countsAt a.n a.handovers in (
+    let test = counts_at a.n a.handovers in (
       omega arith,
       ap (λ (b : Bool). b || test l.k) l.invariant.1
           ∙ or_comm (any_below l.k test) (test l.k)

@@ -10,11 +10,11 @@ use Rattle.job.specs.Valid.{over}
 use Rattle.job.proofs.validate.any_too_long.Given as goal
 
 -- the handover at place k is one of the first n, and too long
-abbrev pub countsAt : ℕ → List ℕ → ℕ → Bool
-countsAt n handovers k = ltb k n && over 30 (get_or handovers k 0)
+abbrev pub counts_at : ℕ → List ℕ → ℕ → Bool
+counts_at n handovers k = ltb k n && over 30 (get_or handovers k 0)
 
 abbrev pub invariant-loop-k : goal.invariant-loop-k
-invariant-loop-k l = (l.k ≤ 4) × (l.found ≡ any_below l.k (countsAt l.n l.handovers))
+invariant-loop-k l = (l.k ≤ 4) × (l.found ≡ any_below l.k (counts_at l.n l.handovers))
 
 abbrev pub decreases-loop-k : goal.decreases-loop-k
 decreases-loop-k l = 4 - l.k

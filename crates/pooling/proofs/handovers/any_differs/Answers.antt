@@ -6,7 +6,7 @@ use lib.ListN.{get_or}
 use Rattle.lists.specs.Lists.{any_below}
 use Rattle.lists.proofs.Below.{below_more, below_cut}
 use native.Mathlib.Omega.{arith}
-use Rattle.pooling.proofs.handovers.any_differs.Invariants.{countsAt}
+use Rattle.pooling.proofs.handovers.any_differs.Invariants.{counts_at}
 use Rattle.pooling.proofs.handovers.any_differs.Goals as goal
 
 pub loop-k-init : goal.loop-k-init
@@ -16,7 +16,7 @@ pub loop-k-preserved : goal.loop-k-preserved
 loop-k-preserved c =
     let a = c.args in
     let l = c.loop-k in
-    let test = countsAt a.n a.a a.b in (
+    let test = counts_at a.n a.a a.b in (
       omega arith,
       ap (λ (b : Bool). b || test l.k) l.invariant.1
           ∙ or_comm (any_below l.k test) (test l.k)
