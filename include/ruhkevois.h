@@ -1,8 +1,8 @@
 /*
  * Ruhkevois 0.2.0: shortest field days, with a machine-checked proof. The calls for C.
  *
- * Link libcalls.a (`rt staticlib calls` writes target/staticlib/libcalls.a, for x86-64 Linux). No call allocates, keeps
- * a pointer, reads or writes a file, or has any state: all are safe from several threads at once.
+ * Link libcalls.a (`include/build` writes target/staticlib/libcalls.a, for x86-64 Linux). No call allocates, keeps a
+ * pointer, reads or writes a file, or has any state: all are safe from several threads at once.
  *
  * Slices. A slice is two parameters, a pointer and a number of bytes. The caller owns every slice; a call borrows it
  * until it returns. Bytes behind a pointer to const are only read. A slice that is written must overlap no other slice
