@@ -1,8 +1,8 @@
 -- A job of which a listed plan begins another: "only single steps are dropped". Shown of the definitions.
 -- Assumes nothing.
 use Prim.Native.Nat.{ℕ}
-use mathlib.Core.Path.{◌≡◌, refl}
-use mathlib.Core.Bool.{true, false}
+use mathlib.Core.Path.{◌≡◌, refl, ap}
+use mathlib.Core.Bool.{Bool, true, false}
 use mathlib.Core.List.{List, [], ◌∷◌}
 use Rattle.job.specs.Passed.{Passed}
 use Rattle.job.specs.Resources.{handover, store_amount, store_cap}
@@ -21,12 +21,12 @@ use Rattle.timeline.specs.Step.{Step, step_of, steps_in, plan_bytes}
 use Rattle.timeline.specs.Timeline.{free}
 use Rattle.timeline.specs.Accepted.{Accepted, step_rows, plan_rows}
 use Rattle.timeline.proofs.Tests.{not_both}
-use Rattle.makespan.specs.Makespan.{makespan_from}
+use Rattle.makespan.specs.Makespan.{is_pass, makespan_from}
 use Rattle.makespan.proofs.LeastEnds.{least_end_of_makespan, nothing_begun}
 use Rattle.listing.specs.Shortest.{ShortestEnd}
 use Rattle.listing.specs.Listed.{Listed, comes_first}
 use Rattle.listing.proofs.ListedPlans.{shortest_of_least}
-use Rattle.listing.proofs.Exists.{drops_of_none, drops_with, accepts, accepts_when}
+use Rattle.listing.proofs.Exists.{drops_of_none, drops_with}
 
 abbrev act : ℕ → ℕ → ℕ → ℕ → Action
 act duration needs adds deletes =
@@ -67,16 +67,18 @@ unfolding tabulate any has union difference subset meets first free handover sto
     makespan_from
 least_end = shortest_of_least job 5 3 (least_end_of_makespan job 5 0 [] job_passes (nothing_begun job) 3 refl)
 
-refused : (P : List Step) → accepts job 5 P ≡ false → Accepted job 5 (plan_bytes P) → ⊥
-refused P e h = not_both (accepts_when job 5 P h) e
+accepts : List Step → Bool
+accepts P = is_pass (first (plan_rows job 5 (plan_bytes P)))
 
-short_spares_none : (x : Step) (Q : List Step) → Place x Q short → accepts job 5 Q ≡ false
+refused : (P : List Step) → accepts P ≡ false → Accepted job 5 (plan_bytes P) → ⊥
+unfolding accepts
+refused P e h = not_both (ap is_pass h) e
+
+short_spares_none : (x : Step) (Q : List Step) → Place x Q short → accepts Q ≡ false
 unfolding tabulate any has union difference subset meets from_bytes to_bytes first steps_in plan_bytes free handover
     store_amount
     store_cap step_rows plan_rows accepts
-short_spares_none =
-    let a : Step = step_of job 0 0 in
-    drops_with (accepts job 5) a [] refl (drops_of_none (λ Q. accepts job 5 (a ∷ Q)))
+short_spares_none = drops_with accepts (step_of job 0 0) [] refl (drops_of_none (λ Q. accepts (step_of job 0 0 ∷ Q)))
 
 pub short_is_listed : Listed job 5 short
 unfolding tabulate any has union difference subset meets from_bytes to_bytes first steps_in plan_bytes free handover
@@ -90,7 +92,7 @@ short_is_listed =
       none_spare = λ x Q i. refused Q (short_spares_none x Q i);
     }
 
-long_spares_none : (x : Step) (Q : List Step) → Place x Q long → accepts job 5 Q ≡ false
+long_spares_none : (x : Step) (Q : List Step) → Place x Q long → accepts Q ≡ false
 unfolding tabulate any has union difference subset meets from_bytes to_bytes first steps_in plan_bytes free handover
     store_amount
     store_cap step_rows plan_rows accepts
@@ -98,9 +100,9 @@ long_spares_none =
     let a : Step = step_of job 0 0 in
     let b : Step = step_of job 1 0 in
     let c : Step = step_of job 2 1 in
-    drops_with (accepts job 5) a (b ∷ c ∷ []) refl
-    (drops_with (λ Q. accepts job 5 (a ∷ Q)) b (c ∷ []) refl
-    (drops_with (λ Q. accepts job 5 (a ∷ b ∷ Q)) c [] refl (drops_of_none (λ Q. accepts job 5 (a ∷ b ∷ c ∷ Q)))))
+    drops_with accepts a (b ∷ c ∷ []) refl
+    (drops_with (λ Q. accepts (a ∷ Q)) b (c ∷ []) refl
+    (drops_with (λ Q. accepts (a ∷ b ∷ Q)) c [] refl (drops_of_none (λ Q. accepts (a ∷ b ∷ c ∷ Q)))))
 
 pub long_is_listed : Listed job 5 long
 unfolding tabulate any has union difference subset meets from_bytes to_bytes first steps_in plan_bytes free handover

@@ -1,7 +1,7 @@
 -- From a plan no single step can be dropped exactly if each of its steps adds a critical fact.
 -- Assumes nothing.
 use Prim.Native.Nat.{ℕ, zero, suc, ◌<◌, pred}
-use mathlib.Core.Path.{◌≡◌, refl, sym, ap, ◌∙◌, subst}
+use mathlib.Core.Path.{◌≡◌, refl, sym, ap, ◌∙◌}
 use mathlib.Core.Bool.{true, false, not, ◌&&◌}
 use mathlib.Core.Logic.{⊎_elim}
 use mathlib.Core.List.{List}
@@ -36,7 +36,7 @@ abbrev pub AllCritical : Job → ℕ → ℕ → List Step → Type 0
 AllCritical J goal T P = EachStep (λ x. critical J goal T P x ≡ true) P
 
 -- before a step stops, nothing holds without it that does not hold with it
-held_without_before_stop : (S : ℕ) {x : Step} {Q P : List Step} → Place x Q P → (t : ℕ) → t < x.stop
+pub held_without_before_stop : (S : ℕ) {x : Step} {Q P : List Step} → Place x Q P → (t : ℕ) → t < x.stop
     → Subset (held S Q t) (held S P t)
 held_without_before_stop S i zero l n h = h
 held_without_before_stop S {Q = Q} {P = P} i (suc t) l n h =
@@ -45,29 +45,6 @@ held_without_before_stop S {Q = Q} {P = P} i (suc t) l n h =
     held_when_kept S P t n (held_without_before_stop S i t (omega arith) n c.0)
     (not_deleted_with i (suc t) n c.1 (λ e d. omega arith)))
     (held_comes_from S Q t n h)
-
--- a critical fact is added by the step alone, did not hold a minute before its stop, and is wanted then
-pub critical_fact : (J : Job) (goal T : ℕ) (P : List Step) (x : Step) (t : ℕ) → x.stop ≡ suc t
-    → critical J goal T P x ≡ true
-    → (n : ℕ) × (has x.action.adds n ≡ true) × (has (held J.start P t) n ≡ false)
-    × (has (wanted_at goal P T x.stop) n ≡ true) × (has (union_of (added_beside x) P) n ≡ false)
-unfolding critical
-critical_fact J goal T P x t e c =
-    let before = held J.start P (pred x.stop) in
-    let found = meets_some (added_alone J.start P x) (wanted_at goal P T x.stop) c in
-    let n : ℕ = found.0 in
-    let one = in_difference_parts (difference x.action.adds before) (union_of (added_beside x) P) n found.1 in
-    let two = in_difference_parts x.action.adds before n one.0 in
-    (n, two.0, ap (λ (m : ℕ). has (held J.start P (pred m)) n) (sym e) ∙ two.1, found.2, one.1)
-
--- a step of another action that stops together with y adds beside y
-pub adds_beside : (y : Step) {z : Step} {R P : List Step} → Place z R P → z.stop ≡ y.stop
-    → (z.number ≡ y.number → ⊥) → (n : ℕ) → has z.action.adds n ≡ true
-    → has (union_of (added_beside y) P) n ≡ true
-adds_beside y {z} j same other n adds =
-    in_union_of (added_beside y) n j
-    (in_cond (eqb z.stop y.stop && not (eqb z.number y.number)) z.action.adds n
-    (and_both (eq-eqb z.stop y.stop same) (ap not (ne_eqb z.number y.number other))) adds)
 
 module _ (J : Job) (goal T : ℕ) {x : Step} {Q P : List Step} (i : Place x Q P) (keeps : Keeps J T goal P) where
   -- what the rest adds at x's stop, a step adds beside x
@@ -79,29 +56,41 @@ module _ (J : Job) (goal T : ℕ) {x : Step} {Q P : List Step} (i : Place x Q P)
       let l = keeps.lasting x Q i in
       let m = keeps.lasting y w.0 w.1 in
       let able = no_clash_of_test P keeps.no_clash x Q i y a.rest a.place (omega arith) (omega arith) in
-      adds_beside x w.1 stops (λ e. able.different (omega arith)) n a.adds
+      let other : not (eqb y.number x.number) ≡ true
+      = ap not (ne_eqb y.number x.number (λ e. able.different (omega arith))) in
+      in_union_of (added_beside x) n w.1
+      (in_cond (eqb y.stop x.stop && not (eqb y.number x.number)) y.action.adds n
+      (and_both (eq-eqb y.stop x.stop stops) other)
+      a.adds)
 
-  -- a fact that x adds alone, and that does not hold a minute before, does not hold at x's stop without x
-  alone_not_held : (t n : ℕ) → x.stop ≡ suc t → has (held J.start P t) n ≡ false
-      → has (union_of (added_beside x) P) n ≡ false → has (held J.start Q (suc t)) n ≡ true → ⊥
-  alone_not_held t n e new alone h =
-      ⊎_elim (λ a. not_both (added_by_rest n (rw (← e) at a)) alone)
-      (λ c. not_both (held_without_before_stop J.start i t (omega arith) n c.0) new)
-      (held_comes_from J.start Q t n h)
-
-  not_dropped_when_critical : critical J goal T P x ≡ true → Keeps J T goal Q → ⊥
-  not_dropped_when_critical c rest = go x.stop refl
+  -- a fact that x adds alone does not hold at x's stop without x
+  alone_not_held : (n : ℕ) → has (added_alone J.start P x) n ≡ true → has (held J.start Q x.stop) n ≡ true → ⊥
+  alone_not_held n alone h = go x.stop refl h
     where
-      go : (t : ℕ) → x.stop ≡ t → ⊥
-      go zero e = let l = keeps.lasting x Q i in omega arith
-      go (suc t) e =
-          let f = critical_fact J goal T P x t e c in
-          let in_time = keeps.in_time x Q i in
-          let same = wanted_from_stop_on goal T i (keeps.lasting x Q i) x.stop (omega arith) in_time in
-          alone_not_held t f.0 e f.2 f.4
-          (subst (λ (m : ℕ). has (held J.start Q m) f.0 ≡ true) e
-          (wanted_holds J T goal Q rest x.stop in_time f.0
-          (sym (ap (λ (set : ℕ). has set f.0) same) ∙ f.3)))
+      go : (t : ℕ) → x.stop ≡ t → has (held J.start Q t) n ≡ true → ⊥
+      go zero e h = let l = keeps.lasting x Q i in omega arith
+      go (suc t) e h =
+          let before = held J.start P (pred x.stop) in
+          let one = in_difference_parts (difference x.action.adds before) (union_of (added_beside x) P) n alone in
+          let two = in_difference_parts x.action.adds before n one.0 in
+          ⊎_elim
+          (λ a. not_both (added_by_rest n (rw (← e) at a)) one.1)
+          (λ c.
+          let unheld : has (held J.start P t) n ≡ false
+          = ap (λ (m : ℕ). has (held J.start P (pred m)) n) (sym e) ∙ two.1 in
+          not_both (held_without_before_stop J.start i t (omega arith) n c.0) unheld)
+          (held_comes_from J.start Q t n h)
+
+  pub not_dropped_when_critical : critical J goal T P x ≡ true → Keeps J T goal Q → ⊥
+  unfolding critical
+  not_dropped_when_critical c rest =
+      let in_time = keeps.in_time x Q i in
+      let found = meets_some (added_alone J.start P x) (wanted_at goal P T x.stop) c in
+      let n : ℕ = found.0 in
+      let same = wanted_from_stop_on goal T i (keeps.lasting x Q i) x.stop (omega arith) in_time in
+      let wanted : has (wanted_at goal Q T x.stop) n
+      ≡ true = sym (ap (λ (set : ℕ). has set n) same) ∙ found.2 in
+      alone_not_held n found.1 (wanted_holds J T goal Q rest x.stop in_time n wanted)
 
 -- no single step can be dropped exactly if each adds a critical fact
 pub critical_exactly : (J : Job) (goal T : ℕ) (P : List Step) → Keeps J T goal P

@@ -9,6 +9,7 @@ use native.Mathlib.Omega.{arith}
 use lib.ListN.{length, length-append}
 use Rattle.job.specs.Passed.{Passed}
 use Rattle.timeline.specs.Places.{Place, here, there, Member, EachStep}
+use Rattle.timeline.specs.Keeps.{OfJob}
 use Rattle.job.specs.Job.{Job}
 use Rattle.job.specs.Refusal.{first}
 use Rattle.timeline.specs.Step.{Step, step_of, steps_in, plan_bytes}
@@ -16,8 +17,8 @@ use Rattle.timeline.specs.Timeline.{end}
 use Rattle.timeline.specs.Accepted.{Accepted, plan_rows}
 use Rattle.timeline.proofs.Tests.{decided, not_both, le_or_lt}
 use Rattle.timeline.proofs.JobSteps.{steps_of_accepted}
-use Rattle.timeline.proofs.Places.{each_step, each_cons, each_append, each_wider, length_place, largest_at_most}
-use Rattle.timeline.proofs.PlanBytes.{accepted_bytes_of_steps, few_steps_of_accepted}
+use Rattle.timeline.proofs.Places.{each_step, each_cons, each_wider, append_cases, length_place, largest_at_most}
+use Rattle.timeline.proofs.PlanBytes.{bytes_of_steps, accepted_bytes_of_steps, few_steps_of_accepted}
 use Rattle.times.proofs.PlanSteps.{plan_of_accepted}
 use Rattle.makespan.specs.Makespan.{is_pass}
 use Rattle.makespan.proofs.Search.{pass_of_test}
@@ -25,9 +26,9 @@ use Rattle.listing.specs.Shortest.{ShortestEnd}
 use Rattle.listing.specs.Listed.{Listed}
 use Rattle.listing.specs.Place.{OneOf, ListOf, WholeList, AtPlace, EndsBefore}
 use Rattle.listing.specs.Begins.{Begins, GoesOn, BeforePlace}
-use Rattle.listing.proofs.Lists.{list_of_none, list_of_one}
-use Rattle.listing.proofs.ListedPlans.{Fits, fits_of_plan, read_back}
-use Rattle.listing.proofs.Walk.{list_of_begins, none_behind_32, list_of_next_action, whole_list_of_begins}
+use Rattle.listing.proofs.Lists.{list_of_same, list_of_none, list_of_one}
+use Rattle.listing.proofs.ListedPlans.{least_by_deadline, listed_by_steps}
+use Rattle.listing.proofs.Walk.{list_of_begins, list_of_next_action}
 use Rattle.listing.proofs.Walk.{list_of_nothing_first, list_of_next_minute, list_of_all_minutes}
 use Rattle.listing.proofs.Places.{at_place_or_ended}
 
@@ -57,10 +58,10 @@ some_drop test (y ∷ k) =
     ⊎_elim (λ none. inl (drops_with test y k e none)) (λ r. inr (r.0, y ∷ r.1, there r.2, r.3)) rest)
     (decided (test k))
 
-unfoldable pub accepts : Job → ℕ → List Step → Bool
+accepts : Job → ℕ → List Step → Bool
 accepts J goal P = is_pass (first (plan_rows J goal (plan_bytes P)))
 
-pub accepts_when : (J : Job) (goal : ℕ) (P : List Step) → Accepted J goal (plan_bytes P) → accepts J goal P ≡ true
+accepts_when : (J : Job) (goal : ℕ) (P : List Step) → Accepted J goal (plan_bytes P) → accepts J goal P ≡ true
 unfolding accepts
 accepts_when J goal P h = ap is_pass h
 
@@ -69,21 +70,33 @@ unfolding accepts
 accepts_reads J goal P h = pass_of_test _ h
 
 module _ (J : Job) (goal T : ℕ) (passed : Passed J) (minimum : ShortestEnd J goal T) where
+  -- a step of the job that starts before the least end
+  abbrev Fits : Step → Type 0
+  Fits x = OfJob J x × (x.number < length J.actions) × (x.start < T)
+
   -- the listed plans that are F, as a list
   abbrev PartOf : (List Step → Type 0) → Type 0
   PartOf F = (L : List (List Step)) × ListOf J goal F L
 
-  listed_when : (k : List Step) → EachStep (Fits J T) k → accepts J goal k ≡ true → end k ≤ T
+  read_back : (k : List Step) → EachStep Fits k → steps_in J (plan_bytes k) ≡ k
+  read_back k fits =
+      let actions = passed.few_actions in
+      let deadline = passed.deadline in
+      let last = least_by_deadline J goal T passed minimum in
+      bytes_of_steps J k (λ x Q i. (fits x Q i).0) (λ x Q i. let l = (fits x Q i).1 in omega arith)
+      (λ x Q i. let l = (fits x Q i).2 in omega arith)
+
+  listed_when : (k : List Step) → EachStep Fits k → accepts J goal k ≡ true → end k ≤ T
       → ((x : Step) (Q : List Step) → Place x Q k → accepts J goal Q ≡ false) → Listed J goal k
   listed_when k fits passes soon none =
       record {
-        in_bytes = read_back J goal T passed minimum k fits;
+        in_bytes = read_back k fits;
         accepted = accepts_reads J goal k passes;
         least = λ bytes other. let l = minimum.least bytes other in omega arith;
         none_spare = λ x Q i other. not_both (accepts_when J goal Q other) (none x Q i);
       }
 
-  listed_or_not : (k : List Step) → EachStep (Fits J T) k → Listed J goal k ⊎ (Listed J goal k → ⊥)
+  listed_or_not : (k : List Step) → EachStep Fits k → Listed J goal k ⊎ (Listed J goal k → ⊥)
   listed_or_not k fits =
       ⊎_elim
       (λ passes.
@@ -104,7 +117,7 @@ module _ (J : Job) (goal T : ℕ) (passed : Passed J) (minimum : ShortestEnd J g
 
   -- ---- some plan is listed
   -- steps of an accepted plan are dropped while the rest is accepted
-  listed_within : (n : ℕ) (k : List Step) → length k ≤ n → EachStep (Fits J T) k → EachStep (λ x. x.stop ≤ T) k
+  listed_within : (n : ℕ) (k : List Step) → length k ≤ n → EachStep Fits k → EachStep (λ x. x.stop ≤ T) k
       → accepts J goal k ≡ true → (P : List Step) × Listed J goal P
   listed_within zero k few fits soon passes =
       ⊎_elim (λ none. (k, listed_when k fits passes (largest_at_most (λ x. x.stop) T k soon) none))
@@ -114,8 +127,8 @@ module _ (J : Job) (goal T : ℕ) (passed : Passed J) (minimum : ShortestEnd J g
       ⊎_elim (λ none. (k, listed_when k fits passes (largest_at_most (λ x. x.stop) T k soon) none))
       (λ r.
       let l = length_place r.2 in
-      listed_within n r.1 (omega arith) (each_wider (Fits J T) r.2 fits)
-      (each_wider (λ x. x.stop ≤ T) r.2 soon) r.3)
+      listed_within n r.1 (omega arith) (each_wider Fits r.2 fits) (each_wider (λ x. x.stop ≤ T) r.2 soon)
+      r.3)
       (some_drop (accepts J goal) k)
 
   pub some_listed : (P : List Step) × Listed J goal P
@@ -127,7 +140,11 @@ module _ (J : Job) (goal T : ℕ) (passed : Passed J) (minimum : ShortestEnd J g
       let accepted = accepted_bytes_of_steps J goal k passed plan.own (few_steps_of_accepted J goal p.0 p.1)
       (steps_of_accepted J goal p.0 p.1) in
       listed_within (length k) k (omega arith)
-      (fits_of_plan J goal T k plan) plan.keeps.in_time (accepts_when J goal k accepted.0)
+      (λ x Q i.
+      let a = plan.keeps.lasting x Q i in
+      let b = plan.keeps.in_time x Q i in
+      (plan.own x Q i, plan.known x Q i, omega arith))
+      plan.keeps.in_time (accepts_when J goal k accepted.0)
 
   -- so the list has a first plan
   pub not_ended_at_first : EndsBefore J goal 0 → ⊥
@@ -140,14 +157,14 @@ module _ (J : Job) (goal T : ℕ) (passed : Passed J) (minimum : ShortestEnd J g
 
   -- ---- the walk
   -- k itself
-  part_of_one : (k : List Step) → EachStep (Fits J T) k → PartOf (λ P. P ≡ k)
+  part_of_one : (k : List Step) → EachStep Fits k → PartOf (λ P. P ≡ k)
   part_of_one k fits =
       ⊎_elim (λ l. (k ∷ [], list_of_one J goal k l))
       (λ none. ([], list_of_none J goal (λ P. P ≡ k) (λ P l e. none (subst (Listed J goal) e l))))
       (listed_or_not k fits)
 
   -- the plans that go on behind k, from those that go on with each step
-  module _ (k : List Step) (next : (y : Step) → Fits J T y → PartOf (Begins (k ++ (y ∷ [])))) where
+  module _ (k : List Step) (next : (y : Step) → Fits y → PartOf (Begins (k ++ (y ∷ [])))) where
     part_of_actions : (u : ℕ) → u < T → (a : ℕ) → a ≤ length J.actions → PartOf (GoesOn k (BeforePlace u 0))
         → PartOf (GoesOn k (BeforePlace u a))
     part_of_actions u l zero m p = p
@@ -167,16 +184,27 @@ module _ (J : Job) (goal T : ℕ) (passed : Passed J) (minimum : ShortestEnd J g
         let p = part_of_minutes T (omega arith) in
         (p.0, list_of_all_minutes J goal k T passed minimum p.0 p.1)
 
-  fits_more : (k : List Step) (y : Step) → EachStep (Fits J T) k → Fits J T y → EachStep (Fits J T) (k ++ (y ∷ []))
-  fits_more k y fits fit =
-      each_append (Fits J T) k (y ∷ []) fits (each_cons (Fits J T) y [] fit (each_step (Fits J T) [] tt))
+  -- a listed plan has no step behind 32 others
+  pub none_behind_32 : (k : List Step) → 32 ≤ length k → (P : List Step) → Listed J goal P → GoesOn k (λ x. Unit) P → ⊥
+  none_behind_32 k long P listed g =
+      let few = (listed_by_steps J goal T passed minimum P listed).few_steps in
+      let e : length P ≡ length (k ++ (g.step ∷ g.rest)) = ap (λ (Q : List Step). length Q) g.whole in
+      let l = length-append k (g.step ∷ g.rest) in
+      omega arith
+
+  fits_more : (k : List Step) (y : Step) → EachStep Fits k → Fits y → EachStep Fits (k ++ (y ∷ []))
+  fits_more k y fits own x Q i =
+      ⊎_elim (λ r. fits x r.0 r.1)
+      (λ r. each_cons Fits y [] own (each_step Fits [] tt) x r.0 r.1)
+      (append_cases k (y ∷ []) i)
 
   -- the plans that begin with k, which lacks at most so many steps of 32
-  part_of_begins : (lacking : ℕ) (k : List Step) → EachStep (Fits J T) k → 32 ≤ length k + lacking → PartOf (Begins k)
+  part_of_begins : (lacking : ℕ) (k : List Step) → EachStep Fits k → 32 ≤ length k + lacking → PartOf (Begins k)
   part_of_begins zero k fits long =
       let own = part_of_one k fits in (
         own.0 ++ [],
-        list_of_begins J goal k own.0 [] own.1 (none_behind_32 J goal k (omega arith)),
+        list_of_begins J goal k own.0 [] own.1
+            (list_of_none J goal (GoesOn k (λ x. Unit)) (none_behind_32 k (omega arith))),
       )
   part_of_begins (suc lacking) k fits long =
       let own = part_of_one k fits in
@@ -188,8 +216,10 @@ module _ (J : Job) (goal T : ℕ) (passed : Passed J) (minimum : ShortestEnd J g
 
   pub whole_list_exists : (L : List (List Step)) × WholeList J goal L
   whole_list_exists =
-      let all = part_of_begins 32 [] (each_step (Fits J T) [] tt) (omega arith) in
-      (all.0, whole_list_of_begins J goal all.0 all.1)
+      let all = part_of_begins 32 [] (each_step Fits [] tt) (omega arith) in (
+        all.0,
+        list_of_same J goal (Begins []) (λ P. Unit) all.0 (λ P listed b. tt) (λ P listed b. (P, refl)) all.1,
+      )
 
   pub plan_at_place_or_ended : (place : ℕ) → ((P : List Step) × AtPlace J goal place P) ⊎ EndsBefore J goal place
   plan_at_place_or_ended = let all = whole_list_exists in at_place_or_ended J goal all.0 all.1

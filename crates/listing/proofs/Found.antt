@@ -2,24 +2,26 @@
 -- from the same among those that begin with one step more; at the root it is the plan at the place.
 -- Assumes nothing.
 use Prim.Native.Nat.{ℕ, ◌+◌}
-use mathlib.Core.Path.{◌≡◌, refl, sym, ◌∙◌, subst}
+use mathlib.Core.Path.{◌≡◌, refl, sym, ap, ◌∙◌, subst}
 use mathlib.Core.Bool.{true}
 use mathlib.Core.Logic.{◌⊎◌, inl, inr, ⊎_elim}
 use mathlib.Core.List.{List, [], ◌∷◌, ◌++◌, append-nil}
 use native.Mathlib.Omega.{arith}
 use lib.ListN.{length, length-append}
+use lib.Seq.{append_snoc}
+use Rattle.timeline.specs.Places.{Place, here}
 use Rattle.job.specs.Job.{Job}
 use Rattle.timeline.specs.Step.{Step, step_of}
+use Rattle.timeline.proofs.Places.{place_after}
 use Rattle.timeline.proofs.JobSteps.{same_step_lem}
 use Rattle.timeline.proofs.Rising.{before_reads, before_when}
 use Rattle.listing.specs.Listed.{Listed, comes_first}
 use Rattle.listing.specs.Place.{ListOf, AtPlace}
 use Rattle.listing.specs.Begins.{Begins, GoesOn, BeforePlace, FoundAt}
-use Rattle.listing.proofs.Order.{first_irreflexive, first_trans, same_or_before}
-use Rattle.listing.proofs.Beginnings.{begins_when, begins_cases, goes_on_as, next_step_place, own_first}
-use Rattle.listing.proofs.Beginnings.{earlier_step_first, goes_on_with, begins_with}
+use Rattle.listing.proofs.Order.{first_irreflexive, first_trans, same_or_before, begun_comes_first}
+use Rattle.listing.proofs.Order.{earlier_next_step_first}
 use Rattle.listing.proofs.Lists.{list_of_same, list_of_none, list_of_either}
-use Rattle.listing.proofs.ListedPlans.{listed_own}
+use Rattle.listing.proofs.Walk.{listed_own}
 
 module _ (J : Job) (goal : ℕ) where
   -- F come before G, and what else is H comes after P
@@ -55,53 +57,78 @@ module _ (J : Job) (goal : ℕ) where
         among = ([], sym (append-nil k));
         earlier = [];
         those = list_of_none J goal (λ R. Begins k R × (comes_first R k ≡ true))
-            (λ R other h. not_first R (begins_cases k R h.0) h.1);
+            (λ R other h. not_first h.0.0 (subst (λ (Q : List Step). comes_first Q k ≡ true) h.0.1 h.1));
         count = refl;
       }
     where
-      not_first : (R : List Step) → (R ≡ k) ⊎ GoesOn k (λ x. Unit) R → comes_first R k ≡ true → ⊥
-      not_first R (inl e) h = first_irreflexive k (subst (λ (Q : List Step). comes_first Q k ≡ true) e h)
-      not_first R (inr g) h = first_irreflexive k (first_trans k R k (own_first k refl g) h)
+      not_first : (N : List Step) → comes_first (k ++ N) k ≡ true → ⊥
+      not_first [] h = first_irreflexive k (subst (λ (Q : List Step). comes_first Q k ≡ true) (append-nil k) h)
+      not_first (x ∷ N) h =
+          first_irreflexive k (first_trans k (k ++ (x ∷ N)) k (begun_comes_first k x N) h)
 
   -- A has k if it is listed, B the plans that go on with an earlier step, and P was found behind one step more
   module _ (k : List Step) (u a : ℕ) where
     abbrev Earlier : List Step → Type 0
     Earlier R = (R ≡ k) ⊎ GoesOn k (BeforePlace u a) R
 
-    abbrev y : Step
-    y = step_of J a u
-
     abbrev Behind : List Step → Type 0
-    Behind R = Begins (k ++ (y ∷ [])) R
+    Behind R = Begins (k ++ (step_of J a u ∷ [])) R
+
+    begun_with : (R : List Step) → (b : Behind R) → R ≡ k ++ (step_of J a u ∷ b.0)
+    begun_with R b = b.1 ∙ append_snoc k (step_of J a u) b.0
+
+    own_first : (R Q : List Step) → R ≡ k → GoesOn k (BeforePlace u a) Q → comes_first R Q ≡ true
+    own_first R Q e g =
+        subst (λ (K : List Step). comes_first K Q ≡ true) (sym e)
+        (subst (λ (K : List Step). comes_first k K ≡ true) (sym g.whole) (begun_comes_first k g.step g.rest))
 
     earlier_first : (R Q : List Step) → Earlier R → Behind Q → comes_first R Q ≡ true
-    earlier_first R Q (inl e) b = own_first k e (goes_on_with k y b)
+    earlier_first R Q (inl e) b =
+        subst (λ (K : List Step). comes_first K Q ≡ true) (sym e)
+        (subst (λ (K : List Step). comes_first k K ≡ true) (sym (begun_with Q b))
+        (begun_comes_first k (step_of J a u) b.0))
     earlier_first R Q (inr g) b =
-        earlier_step_first k g (goes_on_with k y b) (before_when g.step y g.each)
+        subst (λ (K : List Step). comes_first K Q ≡ true) (sym g.whole)
+        (subst (λ (K : List Step). comes_first (k ++ (g.step ∷ g.rest)) K ≡ true) (sym (begun_with Q b))
+        (earlier_next_step_first k g.step (step_of J a u) g.rest b.0
+        (before_when g.step (step_of J a u) g.each)))
 
     -- a plan that begins with k is one of the earlier ones, begins with the step too, or comes after all that do
     cases : (P : List Step) → Behind P → (R : List Step) → Listed J goal R → Begins k R
         → Earlier R ⊎ (Behind R ⊎ (comes_first P R ≡ true))
-    cases P p R listed b =
-        ⊎_elim (λ e. inl (inl e))
-        (λ g.
-        let x = g.step in
-        ⊎_elim
-        (λ s.
-        let own = listed_own J goal listed x (k ++ g.rest) (next_step_place k g) in
-        inr (inl (begins_with k y (goes_on_as k g (same_step_lem J x y own refl s.1 s.0)))))
-        (⊎_elim (λ l. inl (inr (goes_on_as k g (before_reads x y l))))
-        (λ l. inr (inr (earlier_step_first k (goes_on_with k y p) g l))))
-        (same_or_before x y))
-        (begins_cases k R b)
+    cases P p R listed b = go b.0 b.1
+      where
+        y : Step
+        y = step_of J a u
+
+        go : (N : List Step) → R ≡ k ++ N → Earlier R ⊎ (Behind R ⊎ (comes_first P R ≡ true))
+        go [] e = inl (inl (e ∙ append-nil k))
+        go (x ∷ N) e =
+            let place : Place x (k ++ N) R
+            = subst (λ (K : List Step). Place x (k ++ N) K) (sym e) (place_after k here) in
+            ⊎_elim
+            (λ s.
+            let q : x ≡ y = same_step_lem J x y (listed_own J goal listed x (k ++ N) place) refl s.1 s.0 in
+            inr (inl (N, e ∙ ap (λ (z : Step). k ++ (z ∷ N)) q ∙ sym (append_snoc k y N))))
+            (⊎_elim
+            (λ l. inl (inr (record { step = x; rest = N; whole = e; each = before_reads x y l })))
+            (λ l.
+            inr (inr
+            (subst (λ (K : List Step). comes_first K R ≡ true) (sym (begun_with P p))
+            (subst (λ (K : List Step). comes_first (k ++ (y ∷ p.0)) K ≡ true) (sym e)
+            (earlier_next_step_first k y x p.0 N l))))))
+            (same_or_before x y)
 
     pub found_behind_action : (A B : List (List Step)) (m : ℕ) (P : List Step) → ListOf J goal (λ R. R ≡ k) A
         → ListOf J goal (GoesOn k (BeforePlace u a)) B → FoundAt J goal Behind m P
         → FoundAt J goal (Begins k) (length (A ++ B) + m) P
     found_behind_action A B m P l more found =
         found_behind Earlier Behind (Begins k) (A ++ B) m P
-        (list_of_either J goal (λ R. R ≡ k) (GoesOn k (BeforePlace u a)) A B (λ R Q. own_first k) l more) found
-        earlier_first (λ R. begins_when k) (λ R b. begins_when k (inr (goes_on_with k y b))) (cases P found.among)
+        (list_of_either J goal (λ R. R ≡ k) (GoesOn k (BeforePlace u a)) A B own_first l more) found earlier_first
+        (λ R.
+        ⊎_elim (λ e. ([], e ∙ sym (append-nil k))) (λ g. (g.step ∷ g.rest, g.whole)))
+        (λ R b. (step_of J a u ∷ b.0, begun_with R b))
+        (cases P found.among)
 
   -- at the root
   pub at_place_when_found : (place : ℕ) (P : List Step) → FoundAt J goal (Begins []) place P → AtPlace J goal place P

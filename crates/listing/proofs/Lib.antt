@@ -3,7 +3,6 @@ pub mod ListedPlans
 pub mod InOrder
 pub mod Order
 pub mod Lists
-pub mod Beginnings
 pub mod Places
 pub mod RisingParts
 pub mod NextStep

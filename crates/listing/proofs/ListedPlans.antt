@@ -7,16 +7,17 @@ use mathlib.Core.List.{List, []}
 use native.Mathlib.Omega.{arith}
 use lib.ListN.{length}
 use Rattle.job.specs.Passed.{Passed}
-use Rattle.timeline.specs.Places.{Place, here, there, EachStep}
+use Rattle.timeline.specs.Places.{Place, here, there}
 use Rattle.timeline.specs.Keeps.{Keeps, OfJob, PlanOf}
 use Rattle.job.specs.Job.{Job}
 use Rattle.timeline.specs.Step.{Step, before, strictly_rising, steps_in, plan_bytes}
 use Rattle.timeline.specs.Timeline.{end}
 use Rattle.timeline.specs.Accepted.{Accepted}
-use Rattle.timeline.proofs.Places.{each_wider, length_place, largest_at_most}
+use Rattle.timeline.proofs.Places.{place_wider, each_wider, length_place}
+use Rattle.timeline.proofs.Places.{largest_at_most}
 use Rattle.timeline.proofs.AcceptedSteps.{accepted_steps}
 use Rattle.timeline.proofs.Keeps.{accepted_of_keeps}
-use Rattle.timeline.proofs.JobSteps.{steps_in_bytes, steps_of_accepted, keeps_of_bytes}
+use Rattle.timeline.proofs.JobSteps.{steps_of_accepted, keeps_of_bytes}
 use Rattle.timeline.proofs.PlanBytes.{bytes_of_steps, accepted_bytes_of_steps, few_steps_of_accepted}
 use Rattle.timeline.proofs.Rising.{rising_rest, rising_before, rising_cons}
 use Rattle.times.proofs.PlanSteps.{plan_of_accepted}
@@ -42,46 +43,15 @@ shortest_of_least J goal T l =
       least = λ bytes accepted. l.least bytes accepted (every_plan_counts J bytes);
     }
 
--- a step of the job that starts before minute T
-abbrev pub Fits : Job → ℕ → Step → Type 0
-Fits J T x = OfJob J x × (x.number < length J.actions) × (x.start < T)
-
-pub fits_of_plan : (J : Job) (goal T : ℕ) (P : List Step) → PlanOf J T goal P → EachStep (Fits J T) P
-fits_of_plan J goal T P plan x Q i =
-    let lasts = plan.keeps.lasting x Q i in
-    let in_time = plan.keeps.in_time x Q i in
-    (plan.own x Q i, plan.known x Q i, omega arith)
-
--- ---- the steps of a listed plan
-module _ (J : Job) (goal : ℕ) {P : List Step} (listed : Listed J goal P) where
-  pub listed_own : EachStep (OfJob J) P
-  listed_own = subst (EachStep (OfJob J)) listed.in_bytes (steps_in_bytes J (plan_bytes P))
-
-  pub listed_known : EachStep (λ x. x.number < length J.actions) P
-  listed_known =
-      subst (EachStep (λ x. x.number < length J.actions)) listed.in_bytes
-      (accepted_steps J goal _ (steps_of_accepted J goal (plan_bytes P) listed.accepted)).known
-
-  pub listed_rising : strictly_rising P ≡ true
-  listed_rising =
-      subst (λ (Q : List Step). strictly_rising Q ≡ true) listed.in_bytes
-      (accepted_steps J goal _ (steps_of_accepted J goal (plan_bytes P) listed.accepted)).rising
-
-  pub listed_few : length P ≤ 32
-  listed_few =
-      subst (λ (Q : List Step). length Q ≤ 32) listed.in_bytes
-      (few_steps_of_accepted J goal (plan_bytes P) listed.accepted)
-
--- ---- and what they are, where T is the least end
 -- rising steps still rise without one of them
-rising_without : {x : Step} {Q P : List Step} → Place x Q P → strictly_rising P ≡ true → strictly_rising Q ≡ true
+pub rising_without : {x : Step} {Q P : List Step} → Place x Q P → strictly_rising P ≡ true → strictly_rising Q ≡ true
 rising_without {x} (here {Q}) h = rising_rest x Q h
 rising_without (there {y} {Q} {P} i) h =
     rising_cons y Q (each_wider (λ z. before y z ≡ true) i (rising_before y P h))
     (rising_without i (rising_rest y P h))
 
 module _ (J : Job) (goal T : ℕ) (passed : Passed J) (least : ShortestEnd J goal T) where
-  least_by_deadline : T ≤ J.deadline
+  pub least_by_deadline : T ≤ J.deadline
   least_by_deadline =
       let p = least.plan in let l = ends_by_deadline J goal p.0 p.1 in let e = p.2 in omega arith
 
@@ -97,8 +67,8 @@ module _ (J : Job) (goal T : ℕ) (passed : Passed J) (least : ShortestEnd J goa
       record {
         plan = plan;
         all_critical = (critical_exactly J goal T P plan.keeps).0 none_spare_lem;
-        rising = listed_rising J goal listed;
-        few_steps = listed_few J goal listed;
+        rising = rising;
+        few_steps = few;
       }
     where
       by_least_end : end (steps_in J (plan_bytes P)) ≤ T
@@ -113,10 +83,19 @@ module _ (J : Job) (goal T : ℕ) (passed : Passed J) (least : ShortestEnd J goa
           subst (PlanOf J T goal) listed.in_bytes
           (plan_of_accepted J goal (plan_bytes P) T passed listed.accepted by_least_end)
 
+      rising : strictly_rising P ≡ true
+      rising =
+          subst (λ (Q : List Step). strictly_rising Q ≡ true) listed.in_bytes
+          (accepted_steps J goal _ (steps_of_accepted J goal (plan_bytes P) listed.accepted)).rising
+
+      few : length P ≤ 32
+      few =
+          subst (λ (Q : List Step). length Q ≤ 32) listed.in_bytes
+          (few_steps_of_accepted J goal (plan_bytes P) listed.accepted)
+
       none_spare_lem : NoneSpare J goal T P
       none_spare_lem x Q i keeps =
           let shorter = length_place i in
-          let few = listed_few J goal listed in
           listed.none_spare x Q i
           (accepted_plan Q
           (record {
@@ -124,19 +103,23 @@ module _ (J : Job) (goal T : ℕ) (passed : Passed J) (least : ShortestEnd J goa
             own = each_wider (OfJob J) i plan.own;
             known = each_wider (λ y. y.number < length J.actions) i plan.known;
           })
-          (rising_without i (listed_rising J goal listed)) (omega arith)).0
+          (rising_without i rising) (omega (arith, few))).0
 
-  pub fits_of_listed : (P : List Step) → Listed J goal P → EachStep (Fits J T) P
-  fits_of_listed P listed = fits_of_plan J goal T P (listed_by_steps P listed).plan
-
-  -- such steps are read back from their bytes
-  pub read_back : (P : List Step) → EachStep (Fits J T) P → steps_in J (plan_bytes P) ≡ P
-  read_back P fits =
+  -- steps of a plan of the job are read back from their bytes
+  read_back : (P : List Step) → PlanOf J T goal P → {x : Step} {Q : List Step} → Place x Q P
+      → steps_in J (plan_bytes Q) ≡ Q
+  read_back P plan {x} {Q} i =
       let actions = passed.few_actions in
       let deadline = passed.deadline in
       let last = least_by_deadline in
-      bytes_of_steps J P (λ x Q i. (fits x Q i).0) (λ x Q i. let l = (fits x Q i).1 in omega arith)
-      (λ x Q i. let l = (fits x Q i).2 in omega arith)
+      bytes_of_steps J Q (each_wider (OfJob J) i plan.own)
+      (λ y R j.
+      let w = place_wider i j in let a = plan.known y w.0 w.1 in omega arith)
+      (λ y R j.
+      let w = place_wider i j in
+      let a = plan.keeps.lasting y w.0 w.1 in
+      let b = plan.keeps.in_time y w.0 w.1 in
+      omega arith)
 
   pub listed_of_steps : (P : List Step) → ListedBy J goal T P → Listed J goal P
   listed_of_steps P by =
@@ -148,7 +131,7 @@ module _ (J : Job) (goal T : ℕ) (passed : Passed J) (least : ShortestEnd J goa
         accepted = accepted.0;
         least = λ bytes other. let l = least.least bytes other in omega arith;
         none_spare = λ x Q i other.
-            let same = read_back Q (each_wider (Fits J T) i (fits_of_plan J goal T P plan)) in
+            let same = read_back P plan i in
             let soon : end Q ≤ T
             = largest_at_most (λ y. y.stop) T Q (each_wider (λ y. y.stop ≤ T) i plan.keeps.in_time) in
             (critical_exactly J goal T P plan.keeps).1 by.all_critical x Q i

@@ -42,12 +42,8 @@ pub one_of_right : {P : List Step} (A B : Plans) → OneOf P B → OneOf P (A ++
 one_of_right [] B o = o
 one_of_right (R ∷ A) B o = further (one_of_right A B o)
 
-pub one_of_cons : {R P : List Step} {L : Plans} → OneOf R (P ∷ L) → (R ≡ P) ⊎ OneOf R L
-one_of_cons first = inl refl
-one_of_cons (further o) = inr o
-
 -- ---- in order
-in_order_append : (A B : Plans) → InOrder A → InOrder B
+pub in_order_append : (A B : Plans) → InOrder A → InOrder B
     → ((P R : List Step) → OneOf P A → OneOf R B → comes_first P R ≡ true) → InOrder (A ++ B)
 in_order_append [] B a b h = b
 in_order_append (P ∷ A) B a b h = (
@@ -60,7 +56,11 @@ in_order_append (P ∷ A) B a b h = (
 -- L without P
 without : {P : List Step} (L : Plans) → OneOf P L
     → (K : Plans) × (length L ≡ suc (length K)) × ((R : List Step) → OneOf R L → (R ≡ P) ⊎ OneOf R K)
-without (P ∷ L) first = (L, refl, λ R o. one_of_cons o)
+without (P ∷ L) first = (L, refl, λ R o. split o)
+  where
+    split : {R P : List Step} {L : Plans} → OneOf R (P ∷ L) → (R ≡ P) ⊎ OneOf R L
+    split first = inl refl
+    split (further o) = inr o
 without {P} (Q ∷ L) (further o) =
     let r = without L o in
     (Q ∷ r.0, ap suc r.1, λ R o. split (r.2 R) o)

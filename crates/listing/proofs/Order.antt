@@ -23,13 +23,13 @@ use Rattle.listing.specs.Listed.{same_step, comes_first}
 abbrev pub Same : Step → Step → Type 0
 Same x y = (x.start ≡ y.start) × (x.number ≡ y.number)
 
-same_reads : (x y : Step) → same_step x y ≡ true → Same x y
+pub same_reads : (x y : Step) → same_step x y ≡ true → Same x y
 same_reads x y h = (
   eqb-true x.start y.start (and_left _ _ h),
   eqb-true x.number y.number (and_right (eqb x.start y.start) _ h),
 )
 
-same_when : (x y : Step) → Same x y → same_step x y ≡ true
+pub same_when : (x y : Step) → Same x y → same_step x y ≡ true
 same_when x y s = and_both (eq-eqb x.start y.start s.0) (eq-eqb x.number y.number s.1)
 
 pub same_or_before : (x y : Step) → Same x y ⊎ ((before x y ≡ true) ⊎ (before y x ≡ true))
@@ -42,14 +42,19 @@ same_or_before x y =
     (⊎_elim (λ l. inr (inl (before_when x y (inl l)))) (λ l. inr (inr (before_when y x (inl l)))))
     (trichotomy x.start y.start)
 
--- steps of the same starts and actions stand alike
-before_alike : (x y z w : Step) → Same x y → before y z ≡ true → Same z w → before x w ≡ true
-before_alike x y z w s h t =
+pub before_same : (x y z : Step) → before x y ≡ true → Same y z → before x z ≡ true
+before_same x y z h s =
     let a = s.0 in
     let b = s.1 in
-    let c = t.0 in
-    let d = t.1 in
-    before_when x w
+    before_when x z
+    (⊎_elim (λ l. inl (omega arith)) (λ l. let e = l.0 in let m = l.1 in inr (omega arith, omega arith))
+    (before_reads x y h))
+
+pub same_before : (x y z : Step) → Same x y → before y z ≡ true → before x z ≡ true
+same_before x y z s h =
+    let a = s.0 in
+    let b = s.1 in
+    before_when x z
     (⊎_elim (λ l. inl (omega arith)) (λ l. let e = l.0 in let m = l.1 in inr (omega arith, omega arith))
     (before_reads y z h))
 
@@ -59,13 +64,13 @@ same_same x y z s t =
 
 -- ---- two plans
 module _ (x y : Step) (P R : List Step) where
-  first_by_step : before x y ≡ true → comes_first (x ∷ P) (y ∷ R) ≡ true
+  pub first_by_step : before x y ≡ true → comes_first (x ∷ P) (y ∷ R) ≡ true
   first_by_step h = rw h
 
-  first_by_rest : Same x y → comes_first P R ≡ true → comes_first (x ∷ P) (y ∷ R) ≡ true
+  pub first_by_rest : Same x y → comes_first P R ≡ true → comes_first (x ∷ P) (y ∷ R) ≡ true
   first_by_rest s h = rw (and_both (same_when x y s) h) (or-true (before x y))
 
-  first_reads : comes_first (x ∷ P) (y ∷ R) ≡ true
+  pub first_reads : comes_first (x ∷ P) (y ∷ R) ≡ true
       → (before x y ≡ true) ⊎ (Same x y × (comes_first P R ≡ true))
   first_reads h =
       ⊎_elim (λ b. inl b)
@@ -88,10 +93,10 @@ first_trans (x ∷ P) (y ∷ R) (z ∷ K) h k =
     ⊎_elim
     (λ a.
     ⊎_elim (λ b. first_by_step x z P K (before_trans x y z a b))
-    (λ b. first_by_step x z P K (before_alike x x y z (refl, refl) a b.0))
+    (λ b. first_by_step x z P K (before_same x y z a b.0))
     (first_reads y z R K k))
     (λ a.
-    ⊎_elim (λ b. first_by_step x z P K (before_alike x y z z a.0 b (refl, refl)))
+    ⊎_elim (λ b. first_by_step x z P K (same_before x y z a.0 b))
     (λ b. first_by_rest x z P K (same_same x y z a.0 b.0) (rest a.1 b.1))
     (first_reads y z R K k))
     (first_reads x y P R h)

@@ -13,9 +13,9 @@ use Rattle.timeline.proofs.Tests.{le_or_lt}
 use Rattle.listing.specs.Listed.{comes_first}
 use Rattle.listing.specs.Place.{InOrder, OneOf, first, further, ListOf, WholeList, AtPlace, EndsBefore}
 use Rattle.listing.proofs.Order.{first_irreflexive, first_trans, first_total}
-use Rattle.listing.proofs.Lists.{one_of_each, one_of_append, one_of_left, one_of_right, one_of_cons}
-use Rattle.listing.proofs.Lists.{no_more_in_order, each_one_of, list_of_one, list_of_either}
-use Rattle.listing.proofs.ListedPlans.{listed_own}
+use Rattle.listing.proofs.Lists.{one_of_each, one_of_append, one_of_left, one_of_right, no_more_in_order}
+use Rattle.listing.proofs.Lists.{each_one_of, list_of_one, list_of_either}
+use Rattle.listing.proofs.Walk.{listed_own}
 
 module _ (J : Job) (goal : ℕ) where
   -- the plans before P, and P
@@ -108,6 +108,10 @@ module _ (J : Job) (goal : ℕ) where
         count = refl;
       }
     where
+      split : {R P : List Step} {L : List (List Step)} → OneOf R (P ∷ L) → (R ≡ P) ⊎ OneOf R L
+      split first = inl refl
+      split (further o) = inr o
+
       behind : (R : List Step) → comes_first R P ≡ true → OneOf R (P ∷ B) → ⊥
       behind R h o =
           ⊎_elim (λ e. first_irreflexive P (subst (λ (K : List Step). comes_first K P ≡ true) e h))
@@ -115,7 +119,7 @@ module _ (J : Job) (goal : ℕ) where
           first_irreflexive P
           (first_trans P R P
           (one_of_each (λ K. comes_first P K ≡ true) B (in_order_second_part A (P ∷ B) whole.in_order).0 r) h))
-          (one_of_cons o)
+          (split o)
 
   -- where there is a whole list, each place has a plan or is past the end
   pub at_place_or_ended : (L : List (List Step)) → WholeList J goal L → (place : ℕ)

@@ -16,26 +16,19 @@ use Rattle.listing.specs.Listed.{Listed}
 use Rattle.listing.specs.Shortest.{ShortestEnd}
 use Rattle.listing.specs.Place.{ListOf}
 use Rattle.listing.specs.Begins.{Begins, GoesOn, BeforePlace, place_of, Earlier, FoundAt}
-use Rattle.listing.proofs.Walk.{goes_on_same, list_of_none_yet, list_of_nothing_first, list_of_next_action}
-use Rattle.listing.proofs.ListedPlans.{listed_known, fits_of_listed}
+use Rattle.listing.proofs.Walk.{listed_known, goes_on_same, list_of_none_yet, list_of_nothing_first}
+use Rattle.listing.proofs.Walk.{list_of_next_action}
+use Rattle.listing.proofs.ListedPlans.{listed_by_steps}
 use Rattle.listing.proofs.Found.{found_behind_action}
 
--- a place's minute and number
-module _ (place : ℕ) where
-  pub minute_and_number : place / 64 * 64 + place % 64 ≡ place
-  minute_and_number = let d = div-add-mod place 64 in omega arith
-
-  pub number_below_64 : place % 64 < 64
-  number_below_64 = mod-lt place (omega arith)
-
 -- the place of a step with a number below 64, and the place of minute u and action a
-pub earlier_reads : (x : Step) (u a : ℕ) → x.number < 64 → a ≤ 64 → place_of x < u * 64 + a → BeforePlace u a x
+earlier_reads : (x : Step) (u a : ℕ) → x.number < 64 → a ≤ 64 → place_of x < u * 64 + a → BeforePlace u a x
 earlier_reads x u a n l h =
     ⊎_elim (λ e. inr (e, let z : x.start * 64 ≡ u * 64 = (rw e) in omega arith))
     (⊎_elim (λ b. inl b) (λ b. absurd (omega arith)))
     (trichotomy x.start u)
 
-pub earlier_when : (x : Step) (u a : ℕ) → x.number < 64 → BeforePlace u a x → place_of x < u * 64 + a
+earlier_when : (x : Step) (u a : ℕ) → x.number < 64 → BeforePlace u a x → place_of x < u * 64 + a
 earlier_when x u a n (inl b) = omega arith
 earlier_when x u a n (inr b) = let e = b.0 in let c = b.1 in omega arith
 
@@ -68,6 +61,12 @@ module _ (J : Job) (goal : ℕ) (few : length J.actions ≤ 64) (k : List Step) 
   none_before_first = to_places 0 0 (omega arith) [] (list_of_nothing_first J goal k)
 
   module _ (place : ℕ) where
+    split_place_number : place / 64 * 64 + place % 64 ≡ place
+    split_place_number = let d = div-add-mod place 64 in omega arith
+
+    small_number : place % 64 < 64
+    small_number = mod-lt place (omega arith)
+
     -- one place further
     pub list_of_next_place : (A B : List (List Step)) → ListOf J goal (GoesOn k (Earlier place)) A
         → ListOf J goal (Begins (k ++ (step_of J (place % 64) (place / 64) ∷ []))) B
@@ -75,8 +74,8 @@ module _ (J : Job) (goal : ℕ) (few : length J.actions ≤ 64) (k : List Step) 
     list_of_next_place A B a b =
         let u = place / 64 in
         let n = place % 64 in
-        let s = minute_and_number place in
-        let l = number_below_64 place in
+        let s = split_place_number in
+        let l = small_number in
         let next : u * 64 + suc n ≡ suc place = omega arith in
         subst (λ (p : ℕ). ListOf J goal (GoesOn k (Earlier p)) (A ++ B)) next
         (to_places u (suc n) (omega arith) (A ++ B)
@@ -89,8 +88,8 @@ module _ (J : Job) (goal : ℕ) (few : length J.actions ≤ 64) (k : List Step) 
         → FoundAt J goal (Begins (k ++ (step_of J (place % 64) (place / 64) ∷ []))) m P
         → FoundAt J goal (Begins k) (length (A ++ B) + m) P
     found_behind_place A B m P a b found =
-        let s = minute_and_number place in
-        let l = number_below_64 place in
+        let s = split_place_number in
+        let l = small_number in
         found_behind_action J goal k (place / 64) (place % 64) A B m P a
         (from_places (place / 64) (place % 64) (omega arith) B
         (subst (λ (p : ℕ). ListOf J goal (GoesOn k (Earlier p)) B) (sym s) b))
@@ -102,7 +101,9 @@ module _ (J : Job) (goal : ℕ) (few : length J.actions ≤ 64) (k : List Step) 
   list_of_all_places T passed least place l A a =
       goes_on_same J goal k (Earlier place) (λ x. Unit) A (λ P listed x Q i b. tt)
       (λ P listed x Q i b.
-      let early = (fits_of_listed J goal T passed least P listed x Q i).2 in
+      let keeps = (listed_by_steps J goal T passed least P listed).plan.keeps in
+      let lasts = keeps.lasting x Q i in
+      let in_time = keeps.in_time x Q i in
       let n = small P listed x Q i in
       omega arith)
       a

@@ -1,29 +1,48 @@
 -- Every step of a plan from which none can be dropped adds a fact that does not hold where the step starts, that no other
 -- step adds while it runs, and that is of use in time: its tail is over by the horizon.
 -- Assumes nothing.
-use Prim.Native.Nat.{ℕ, zero, suc, ◌+◌, ◌-◌, ◌<◌, ◌≤◌}
-use mathlib.Core.Path.{◌≡◌, refl, ap, subst}
-use mathlib.Core.Bool.{true, false}
+use Prim.Native.Nat.{ℕ, zero, suc, ◌+◌, ◌-◌, ◌<◌, ◌≤◌, pred}
+use mathlib.Core.Path.{◌≡◌, refl, sym, ap, ◌∙◌, subst}
+use mathlib.Core.Bool.{true, false, not, ◌&&◌}
 use mathlib.Core.Logic.{◌⊎◌, inl, inr, ⊎_elim}
 use mathlib.Core.List.{List}
 use native.Mathlib.Nat.{eq-or-lt_of_le}
 use native.Mathlib.Omega.{arith}
-use Rattle.facts.specs.FactSet.{has}
+use lib.Dec.{eqb}
+use borrow.Author.Tests.{eq-eqb, ne_eqb}
+use Rattle.facts.specs.FactSet.{has, difference}
+use Rattle.facts.proofs.Membership.{meets_some}
+use Rattle.facts.proofs.SetLaws.{in_difference_parts}
 use Rattle.job.specs.Job.{Action, Job}
 use Rattle.timeline.specs.Step.{Step, union_of}
 use Rattle.timeline.specs.Timeline.{held}
 use Rattle.timeline.specs.Places.{Place, EachStep}
 use Rattle.timeline.specs.Keeps.{Keeps, PlanOf}
-use Rattle.timeline.proofs.Tests.{not_both, false_unless}
+use Rattle.timeline.proofs.Tests.{not_both, false_unless, and_both}
 use Rattle.timeline.proofs.Places.{split_place}
 use Rattle.timeline.proofs.HeldFacts.{held_when_added, held_when_kept}
 use Rattle.timeline.proofs.Clashes.{no_clash_of_test}
 use Rattle.times.proofs.PlanSteps.{own_action, own_stop}
 use Rattle.regression.specs.Wanted.{wanted_at}
-use Rattle.regression.specs.Normal.{added_beside}
+use Rattle.regression.specs.Normal.{added_beside, added_alone, critical}
+use Rattle.regression.proofs.Gathered.{in_cond, in_union_of}
 use Rattle.regression.proofs.WantedFacts.{Needed, wanted_at_horizon, wanted_comes_from}
 use Rattle.listing.specs.Tails.{Tails}
-use Rattle.listing.proofs.CriticalExactly.{AllCritical, adds_beside, critical_fact}
+use Rattle.listing.proofs.CriticalExactly.{AllCritical}
+
+-- a critical fact is added by the step alone, did not hold a minute before its stop, and is wanted then
+critical_fact : (J : Job) (goal T : ℕ) (P : List Step) (x : Step) (t : ℕ) → x.stop ≡ suc t
+    → critical J goal T P x ≡ true
+    → (n : ℕ) × (has x.action.adds n ≡ true) × (has (held J.start P t) n ≡ false)
+    × (has (wanted_at goal P T x.stop) n ≡ true) × (has (union_of (added_beside x) P) n ≡ false)
+unfolding critical
+critical_fact J goal T P x t e c =
+    let before = held J.start P (pred x.stop) in
+    let found = meets_some (added_alone J.start P x) (wanted_at goal P T x.stop) c in
+    let n : ℕ = found.0 in
+    let one = in_difference_parts (difference x.action.adds before) (union_of (added_beside x) P) n found.1 in
+    let two = in_difference_parts x.action.adds before n one.0 in
+    (n, two.0, ap (λ (m : ℕ). has (held J.start P (pred m)) n) (sym e) ∙ two.1, found.2, one.1)
 
 -- what a step adds, once it holds while the step runs, holds on up to its stop: nothing that shares a minute with it
 -- deletes it
@@ -55,7 +74,13 @@ not_added_while_running J goal T {y} {Q} {P} i keeps s e n adds new alone z R j 
     false_unless (has z.action.adds n)
     (λ added.
     ⊎_elim
-    (λ same. not_both (adds_beside y j same other n added) alone)
+    (λ same.
+    not_both
+    (in_union_of (added_beside y) n j
+    (in_cond (eqb z.stop y.stop && not (eqb z.number y.number)) z.action.adds n
+    (and_both (eq-eqb z.stop y.stop same) (ap not (ne_eqb z.number y.number other)))
+    added))
+    alone)
     (λ before. go z.stop refl before added)
     (eq-or-lt_of_le by))
   where

@@ -1,59 +1,99 @@
 -- A walk over the plans that begin with the steps k meets the listed ones in the list's order, each once: k itself
 -- first, then, step by step in rising order of start and action, those that go on with that step.
 -- Assumes nothing.
-use Prim.Native.Nat.{ℕ, suc, ◌≤◌}
-use mathlib.Core.Path.{◌≡◌, refl, ap, ◌∙◌, subst}
+use Prim.Native.Nat.{ℕ, suc, ◌<◌}
+use mathlib.Core.Path.{◌≡◌, refl, sym, ap, ◌∙◌, subst}
 use mathlib.Core.Bool.{true}
 use mathlib.Core.Logic.{◌⊎◌, inl, inr, ⊎_elim}
-use mathlib.Core.List.{List, [], ◌∷◌, ◌++◌}
+use mathlib.Core.List.{List, [], ◌∷◌, ◌++◌, append-nil}
 use native.Mathlib.Nat.{eq-or-lt_of_le}
 use native.Mathlib.Omega.{arith}
-use lib.ListN.{length, length-append}
+use lib.ListN.{length}
+use lib.Seq.{append_snoc}
 use Rattle.job.specs.Passed.{Passed}
-use Rattle.timeline.specs.Places.{Place, here}
+use Rattle.timeline.specs.Places.{Place, here, EachStep}
+use Rattle.timeline.specs.Keeps.{OfJob}
 use Rattle.job.specs.Job.{Job}
-use Rattle.timeline.specs.Step.{Step, step_of, before, strictly_rising}
+use Rattle.timeline.specs.Step.{Step, step_of, before, strictly_rising, plan_bytes}
+use Rattle.timeline.proofs.Places.{place_after}
+use Rattle.timeline.proofs.JobSteps.{steps_in_bytes, steps_of_accepted}
+use Rattle.timeline.proofs.AcceptedSteps.{accepted_steps}
 use Rattle.timeline.proofs.Rising.{before_reads, before_when}
 use Rattle.listing.specs.Shortest.{ShortestEnd}
-use Rattle.listing.specs.Listed.{Listed}
-use Rattle.listing.specs.Place.{ListOf, WholeList}
+use Rattle.listing.specs.Listed.{Listed, comes_first}
+use Rattle.listing.specs.Place.{ListOf}
 use Rattle.listing.specs.Begins.{Begins, GoesOn, BeforePlace}
-use Rattle.listing.proofs.Beginnings.{begins_when, begins_cases, goes_on_as, next_step_place, own_first}
-use Rattle.listing.proofs.Beginnings.{earlier_step_first, goes_on_with, begins_with}
+use Rattle.listing.proofs.Order.{begun_comes_first, earlier_next_step_first}
 use Rattle.listing.proofs.Lists.{list_of_same, list_of_none, list_of_either}
-use Rattle.listing.proofs.ListedPlans.{listed_own, listed_known, listed_rising, listed_few, fits_of_listed}
+use Rattle.listing.proofs.ListedPlans.{listed_by_steps}
 use Rattle.listing.proofs.RisingParts.{rising_after}
+
+-- ---- the steps of a listed plan
+module _ (J : Job) (goal : ℕ) {P : List Step} (listed : Listed J goal P) where
+  pub listed_own : EachStep (OfJob J) P
+  listed_own = subst (EachStep (OfJob J)) listed.in_bytes (steps_in_bytes J (plan_bytes P))
+
+  pub listed_known : EachStep (λ x. x.number < length J.actions) P
+  listed_known =
+      subst (EachStep (λ x. x.number < length J.actions)) listed.in_bytes
+      (accepted_steps J goal _ (steps_of_accepted J goal (plan_bytes P) listed.accepted)).known
+
+  pub listed_rising : strictly_rising P ≡ true
+  listed_rising =
+      subst (λ (Q : List Step). strictly_rising Q ≡ true) listed.in_bytes
+      (accepted_steps J goal _ (steps_of_accepted J goal (plan_bytes P) listed.accepted)).rising
 
 module _ (J : Job) (goal : ℕ) (k : List Step) where
   -- ---- k, and what goes on
+  begins_cases : (P : List Step) → Begins k P → (P ≡ k) ⊎ GoesOn k (λ x. Unit) P
+  begins_cases P b = go b.0 b.1
+    where
+      go : (N : List Step) → P ≡ k ++ N → (P ≡ k) ⊎ GoesOn k (λ x. Unit) P
+      go [] e = inl (e ∙ append-nil k)
+      go (x ∷ N) e = inr (record { step = x; rest = N; whole = e; each = tt })
+
   pub list_of_begins : (A B : List (List Step)) → ListOf J goal (λ P. P ≡ k) A
       → ListOf J goal (GoesOn k (λ x. Unit)) B → ListOf J goal (Begins k) (A ++ B)
   list_of_begins A B a b =
-      list_of_same J goal (λ P. (P ≡ k) ⊎ GoesOn k (λ x. Unit) P) (Begins k) (A ++ B) (λ P listed. begins_when k)
-      (λ P listed. begins_cases k P)
-      (list_of_either J goal (λ P. P ≡ k) (GoesOn k (λ x. Unit)) A B (λ P R. own_first k) a b)
+      list_of_same J goal (λ P. (P ≡ k) ⊎ GoesOn k (λ x. Unit) P) (Begins k) (A ++ B)
+      (λ P listed.
+      ⊎_elim (λ e. ([], e ∙ sym (append-nil k))) (λ g. (g.step ∷ g.rest, g.whole)))
+      (λ P listed. begins_cases P)
+      (list_of_either J goal (λ P. P ≡ k) (GoesOn k (λ x. Unit)) A B
+      (λ P R e g.
+      subst (λ (Q : List Step). comes_first Q R ≡ true) (sym e)
+      (subst (λ (Q : List Step). comes_first k Q ≡ true) (sym g.whole) (begun_comes_first k g.step g.rest)))
+      a b)
 
-  -- a listed plan has no step behind 32 others
-  pub none_behind_32 : 32 ≤ length k → ListOf J goal (GoesOn k (λ x. Unit)) []
-  none_behind_32 long =
-      list_of_none J goal (GoesOn k (λ x. Unit))
-      (λ P listed g.
-      let few = listed_few J goal listed in
-      let e : length P ≡ length (k ++ (g.step ∷ g.rest)) = ap (λ (Q : List Step). length Q) g.whole in
-      let l = length-append k (g.step ∷ g.rest) in
-      omega arith)
+  -- ---- one step more
+  begun_with : (y : Step) (P : List Step) → (b : Begins (k ++ (y ∷ [])) P) → P ≡ k ++ (y ∷ b.0)
+  begun_with y P b = b.1 ∙ append_snoc k y b.0
+
+  goes_on_as_begins : (y : Step) (P : List Step) → GoesOn k (λ x. x ≡ y) P → Begins (k ++ (y ∷ [])) P
+  goes_on_as_begins y P g = (
+    g.rest,
+    g.whole ∙ ap (λ (x : Step). k ++ (x ∷ g.rest)) g.each ∙ sym (append_snoc k y g.rest),
+  )
 
   -- the plans that go on with y come after those that go on with a step before y
-  list_of_next_step : (y : Step) (X : Step → Type 0) → ((x : Step) → X x → before x y ≡ true)
+  pub list_of_next_step : (y : Step) (X : Step → Type 0) → ((x : Step) → X x → before x y ≡ true)
       → (A B : List (List Step)) → ListOf J goal (GoesOn k X) A → ListOf J goal (Begins (k ++ (y ∷ []))) B
       → ListOf J goal (GoesOn k (λ x. X x ⊎ (x ≡ y))) (A ++ B)
   list_of_next_step y X earlier A B a b =
       list_of_same J goal (λ P. GoesOn k X P ⊎ Begins (k ++ (y ∷ [])) P) (GoesOn k (λ x. X x ⊎ (x ≡ y))) (A ++ B)
-      (λ P listed. ⊎_elim (λ g. goes_on_as k g (inl g.each)) (λ b. goes_on_as k (goes_on_with k y b) (inr refl)))
+      (λ P listed.
+      ⊎_elim (λ g. record { step = g.step; rest = g.rest; whole = g.whole; each = inl g.each })
+      (λ b. record { step = y; rest = b.0; whole = begun_with y P b; each = inr refl }))
       (λ P listed g.
-      ⊎_elim (λ x. inl (goes_on_as k g x)) (λ e. inr (begins_with k y (goes_on_as k g e))) g.each)
+      ⊎_elim (λ x. inl (record { step = g.step; rest = g.rest; whole = g.whole; each = x }))
+      (λ e.
+      inr (goes_on_as_begins y P (record { step = g.step; rest = g.rest; whole = g.whole; each = e })))
+      g.each)
       (list_of_either J goal (GoesOn k X) (Begins (k ++ (y ∷ []))) A B
-      (λ P R g b. earlier_step_first k g (goes_on_with k y b) (earlier g.step g.each))
+      (λ P R g b.
+      subst (λ (Q : List Step). comes_first Q R ≡ true) (sym g.whole)
+      (subst (λ (Q : List Step). comes_first (k ++ (g.step ∷ g.rest)) Q ≡ true) (sym (begun_with y R b))
+      (earlier_next_step_first k g.step y g.rest b.0 (earlier g.step g.each))))
       a b)
 
   -- the same plans, where the next steps of listed plans are the same
@@ -68,7 +108,15 @@ module _ (J : Job) (goal : ℕ) (k : List Step) where
           → ((P : List Step) → Listed J goal P → (x : Step) (Q : List Step) → Place x Q P → X x → Y x)
           → (P : List Step) → Listed J goal P → GoesOn k X P → GoesOn k Y P
       change X Y f P listed g =
-          goes_on_as k g (f P listed g.step (k ++ g.rest) (next_step_place k g) g.each)
+          record {
+            step = g.step;
+            rest = g.rest;
+            whole = g.whole;
+            each =
+                f P listed g.step (k ++ g.rest)
+                (subst (λ (Q : List Step). Place g.step (k ++ g.rest) Q) (sym g.whole) (place_after k here))
+                g.each;
+          }
 
   -- ---- by minutes and actions
   -- no plan goes on with a step at or before a step of k
@@ -116,6 +164,14 @@ module _ (J : Job) (goal : ℕ) (k : List Step) where
       (eq-or-lt_of_le c)))
       (list_of_next_step (step_of J a u) (BeforePlace u a) (λ x b. before_when x (step_of J a u) b) A B l m)
 
+  -- an action with which no listed plan goes on
+  pub list_of_barren_action : (u a : ℕ) (A : List (List Step))
+      → ((P : List Step) → Listed J goal P → Begins (k ++ (step_of J a u ∷ [])) P → ⊥)
+      → ListOf J goal (GoesOn k (BeforePlace u a)) A → ListOf J goal (GoesOn k (BeforePlace u (suc a))) A
+  list_of_barren_action u a A none l =
+      subst (ListOf J goal (GoesOn k (BeforePlace u (suc a)))) (append-nil A)
+      (list_of_next_action u a A [] l (list_of_none J goal (Begins (k ++ (step_of J a u ∷ []))) none))
+
   -- the next minute
   pub list_of_next_minute : (u : ℕ) (A : List (List Step))
       → ListOf J goal (GoesOn k (BeforePlace u (length J.actions))) A
@@ -136,10 +192,9 @@ module _ (J : Job) (goal : ℕ) (k : List Step) where
       → ListOf J goal (GoesOn k (BeforePlace T 0)) A → ListOf J goal (GoesOn k (λ x. Unit)) A
   list_of_all_minutes T passed least A l =
       goes_on_same (BeforePlace T 0) (λ x. Unit) A (λ P listed x Q i b. tt)
-      (λ P listed x Q i b. inl (fits_of_listed J goal T passed least P listed x Q i).2) l
-
--- at the root: every plan begins with no steps
-pub whole_list_of_begins : (J : Job) (goal : ℕ) (L : List (List Step)) → ListOf J goal (Begins []) L
-    → WholeList J goal L
-whole_list_of_begins J goal L =
-    list_of_same J goal (Begins []) (λ P. Unit) L (λ P listed b. tt) (λ P listed b. (P, refl))
+      (λ P listed x Q i b.
+      let keeps = (listed_by_steps J goal T passed least P listed).plan.keeps in
+      let lasts = keeps.lasting x Q i in
+      let in_time = keeps.in_time x Q i in
+      inl (omega arith))
+      l

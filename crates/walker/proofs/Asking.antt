@@ -28,7 +28,8 @@ use Rattle.leaf.proofs.InOrder.{in_order_permutes, each_chosen}
 use Rattle.search.specs.Horizons.{Whole, Solves}
 use Rattle.listing.proofs.ListedPlans.{listed_by_steps}
 use Rattle.listing.proofs.Prefixes.{plan_of_first_steps}
-use Rattle.walker.specs.Walk.{for_rules, behind, Kept, RulesAllow, SearchAllows}
+use Rattle.walker.specs.Walk.{for_rules, behind, Kept, RulesAllow}
+use Rattle.walker.specs.Walk.{SearchAllows}
 use Rattle.walker.proofs.Leaves.{no_plan_when_none}
 use Rattle.walker.proofs.Behind.{task_behind, none_begins_by_search}
 
@@ -66,7 +67,7 @@ module _ (J : Job) (sets numbers : List ℕ) (frame : Frame) (described : Descri
       let s = kept.starts k l in
       (omega arith, omega arith))
 
-  all_given : (given : ℕ) → given ≡ added_between 0 66000 (chosen J steps)
+  pub all_given : (given : ℕ) → given ≡ added_between 0 66000 (chosen J steps)
       → EachStep (λ x. Subset x.action.adds given) (chosen J steps)
   all_given given e x Q i n h =
       let b = all_between x Q i in

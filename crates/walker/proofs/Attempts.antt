@@ -19,11 +19,9 @@ use Rattle.walker.specs.declared.walk.Walk.{Walk}
 use Rattle.walker.specs.Walk.{HeldAt, Forward, DayOf, Kept, Rising, RightBehind, NoneBegins, NeedsAllow}
 use Rattle.walker.specs.Walk.{StepsAllow, SearchAllows, Walked, none_left, Visits, Attempts, Walks}
 use Rattle.tails.specs.Tails.{TailTable}
-use Rattle.walker.proofs.Own.{begins_when_own}
-use Rattle.walker.proofs.PlansMet.{Met, met_first, met_next, met_found, met_all, met_full}
-use Rattle.walker.proofs.Standing.{none_yet, rising_next, kept_of_next, in_order_next, right_behind_next}
-use Rattle.walker.proofs.Standing.{ends_with_next, held_next}
-use Rattle.walker.proofs.Barren.{none_walked, none_by_needs}
+use Rattle.walker.proofs.Walking.{begins_when_own, Met, met_first, met_next, met_found, met_all, met_full}
+use Rattle.walker.proofs.Walking.{none_yet, rising_next, kept_of_next, in_order_next, right_behind_next}
+use Rattle.walker.proofs.Walking.{ends_with_next, held_next, none_walked, none_by_needs}
 
 -- ---- one place
 module _ (file sets numbers times : List ℕ) (frame : Frame) (steps : Steps) (kept : Kept frame steps)
@@ -53,7 +51,7 @@ module _ (file sets numbers times : List ℕ) (frame : Frame) (steps : Steps) (k
     made_is = is ∙ ap (pushed steps (place % 64)) same
 
     ordered : (J : Job) → in_order J next ≡ Beginning J
-    ordered J = in_order_next J frame steps kept room place
+    ordered J = in_order_next J frame steps kept room place known small
 
     none_begins_so : (J : Job) → NoneBegins J frame next → (P : List Step) → Listed J frame.goal P
         → Begins (Beginning J) P → ⊥
@@ -67,7 +65,7 @@ module _ (file sets numbers times : List ℕ) (frame : Frame) (steps : Steps) (k
         none_walked J frame.goal frame.horizon (Begins (Beginning J)) left r e
         (none_begins_so J
         (subst (λ (s : Steps). StepsAllow file sets numbers tails frame s test) made_is allow fails J day.asked
-        day.task.described table (kept_of_next frame steps kept room (place % 64) (place / 64) known small)))
+        day.task.described table (kept_of_next frame steps kept room place known small)))
 
     module _ (J : Job) (day : DayOf J file sets numbers times frame) (rising : Rising J steps) (from : ℕ)
         (right : RightBehind J steps from) (after : from ≤ place) where
@@ -86,17 +84,16 @@ module _ (file sets numbers times : List ℕ) (frame : Frame) (steps : Steps) (k
         (subst (λ (s : Steps). SearchAllows file sets numbers times frame s (place / 64) (place % 64) test) made_is
         (subst (λ (u : ℕ). SearchAllows file sets numbers times frame made u (place % 64) test) same allow)
         fails J day (risen J day rising from right after)
-        (ends_with_next J frame steps kept room place)))
+        (ends_with_next J frame steps kept room place known small)))
 
     pub attempt_walks_on : (r : Walk) → Walks file sets numbers times frame made facts (place + 1) left r
         → Attempts file sets numbers times frame steps facts place left r
     attempt_walks_on r walks J day rising from right after holds =
         let d = day.task.described.each (place % 64) known in
         subst (λ (K : List Step). Walked J frame.goal frame.horizon (Begins K) left r) (ordered J)
-        (subst (λ (s : Steps). Walks file sets numbers times frame s facts (place + 1) left r) made_is walks J day
-        (risen J day rising from right after)
-        (right_behind_next J frame steps kept room place)
-        (held_next J frame steps kept room place d.positive facts holds))
+        (subst (λ (s : Steps). Walks file sets numbers times frame s facts (place + 1) left r) made_is walks J day (risen J day rising from right after)
+        (right_behind_next J frame steps kept room place known small)
+        (held_next J frame steps kept room place known small d.positive facts holds))
 
 -- ---- all places
 -- what the loop has met, and what then holds

@@ -16,7 +16,7 @@ use Rattle.timeline.specs.Timeline.{end, held}
 use Rattle.timeline.specs.Places.{here, EachStep}
 use Rattle.timeline.specs.Keeps.{PlanOf}
 use Rattle.timeline.proofs.Tests.{not_both, false_unless}
-use Rattle.timeline.proofs.Places.{append_cases, place_append, place_after, each_rest, each_append, each_cons, each_step}
+use Rattle.timeline.proofs.Places.{append_cases, place_append, place_after, each_rest, each_cons, each_step}
 use Rattle.timeline.proofs.NewSteps.{not_new_and_kept, is_kept_reads, is_kept_when}
 use Rattle.timeline.proofs.Rising.{before_reads}
 use Rattle.landmarks.specs.Bounds.{TimesBound, AddedByNew}
@@ -29,7 +29,7 @@ use Rattle.tables.specs.declared.Steps.{Steps}
 use Rattle.leaf.specs.Order.{in_order}
 use Rattle.search.specs.Search.{steps_before, CountsFor, TaskOf}
 use Rattle.search.specs.Horizons.{NoneBy}
-use Rattle.listing.proofs.ListedPlans.{listed_rising}
+use Rattle.listing.proofs.Walk.{listed_rising}
 use Rattle.listing.proofs.RisingParts.{rising_after}
 use Rattle.walker.specs.Walk.{behind, DayOf, Rising, EndsWith, NoneBegins}
 
@@ -156,12 +156,15 @@ module _ (J : Job) (start number : ℕ) (first : List Step) where
   last = step_of J number start
 
   kept_up_to : strictly_rising (first ++ (last ∷ [])) ≡ true → EachStep (IsKept here_place) (first ++ (last ∷ []))
-  kept_up_to rising =
-      each_append (IsKept here_place) first (last ∷ [])
-      (λ x Q i.
+  kept_up_to rising x Q i =
+      ⊎_elim
+      (λ r.
       ⊎_elim (λ l. inl l) (λ l. let n = l.1 in inr (l.0, omega arith))
-      (before_reads x last (rising_after first (last ∷ []) rising last [] here x Q i)))
-      (each_cons (IsKept here_place) last [] (inr (refl, omega arith)) (each_step (IsKept here_place) [] tt))
+      (before_reads x last (rising_after first (last ∷ []) rising last [] here x r.0 r.1)))
+      (λ r.
+      each_cons (IsKept here_place) last [] (inr (refl, omega arith)) (each_step (IsKept here_place) [] tt) x r.0
+      r.1)
+      (append_cases first (last ∷ []) i)
 
   new_behind : (N : List Step) → strictly_rising ((first ++ (last ∷ [])) ++ N) ≡ true → EachStep (IsNew here_place) N
   new_behind N rising y Q i =

@@ -47,7 +47,7 @@ module _ (frame : Frame) (steps : Steps) (kept : Kept frame steps) (i : ℕ) (be
       ))
       (same_or_not i k)
 
-  kept_without : Kept frame (without steps i)
+  pub kept_without : Kept frame (without steps i)
   kept_without =
       let f = kept.known.few in
       record {

@@ -3,25 +3,25 @@
 use Prim.Native.Nat.{ℕ, suc, ◌-◌, ◌/◌, ◌%◌, ◌<◌}
 use mathlib.Core.Path.{◌≡◌, sym, ap, ap₂, ◌∙◌}
 use mathlib.Core.List.{List}
+use native.Mathlib.Nat.{div-add-mod, mod-lt}
 use native.Mathlib.Omega.{arith}
 use Rattle.facts.specs.FactSet.{union, difference}
 use Rattle.timeline.specs.Step.{Step}
 use Rattle.timeline.specs.Timeline.{deleted_at, added_at, held}
-use Rattle.listing.proofs.Ranks.{minute_and_number, number_below_64}
 
 same_minute : (place : ℕ) → 0 < place % 64 → (place - 1) / 64 ≡ place / 64
 same_minute place l =
-    let d = minute_and_number place in
-    let e = minute_and_number (place - 1) in
-    let m = number_below_64 place in
-    let n = number_below_64 (place - 1) in
+    let d = div-add-mod place 64 in
+    let e = div-add-mod (place - 1) 64 in
+    let m : place % 64 < 64 = mod-lt place (omega arith) in
+    let n : (place - 1) % 64 < 64 = mod-lt (place - 1) (omega arith) in
     omega arith
 
 next_minute : (place : ℕ) → 0 < place → place % 64 ≡ 0 → place / 64 ≡ suc ((place - 1) / 64)
 next_minute place l z =
-    let d = minute_and_number place in
-    let e = minute_and_number (place - 1) in
-    let n = number_below_64 (place - 1) in
+    let d = div-add-mod place 64 in
+    let e = div-add-mod (place - 1) 64 in
+    let n : (place - 1) % 64 < 64 = mod-lt (place - 1) (omega arith) in
     omega arith
 
 module _ (S : ℕ) (P : List Step) (place before : ℕ) (holds : before ≡ held S P ((place - 1) / 64)) where

@@ -6,10 +6,7 @@ mod Dropped
 mod ListedTests
 mod Sparing
 mod Behind
-mod Own
-mod PlansMet
-mod Standing
-mod Barren
+mod Walking
 mod Attempts
 mod Asking
 mod Paging

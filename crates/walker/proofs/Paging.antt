@@ -12,7 +12,7 @@ use Rattle.job.specs.Job.{Job}
 use Rattle.job.specs.Passed.{Passed}
 use Rattle.timeline.specs.Step.{Step, strictly_rising}
 use Rattle.timeline.proofs.Tests.{not_both}
-use Rattle.makespan.specs.Makespan.{ends_at, makespan}
+use Rattle.makespan.specs.Makespan.{ends_at, no_plan, makespan}
 use Rattle.makespan.proofs.LeastEnds.{least_end_of_makespan, nothing_begun}
 use Rattle.tables.specs.Tables.{Known, no_steps}
 use Rattle.tables.specs.declared.Frame.{Frame}
@@ -25,8 +25,8 @@ use Rattle.solver.specs.Task.{Solved}
 use Rattle.solver.proofs.Solving.{solved}
 use Rattle.listing.specs.Shortest.{ShortestEnd}
 use Rattle.listing.specs.Begins.{Begins}
+use Rattle.listing.proofs.Lists.{list_of_same}
 use Rattle.listing.proofs.ListedPlans.{shortest_of_least}
-use Rattle.listing.proofs.Walk.{whole_list_of_begins}
 use Rattle.listing.proofs.Found.{at_place_when_found}
 use Rattle.walker.specs.declared.walk.Walk.{Walk}
 use Rattle.walker.specs.Walk.{WholeDay, DayOf, Kept, Walked, Walks}
@@ -77,11 +77,14 @@ module _ (J : Job) (file sets numbers times : List ℕ) (frame : Frame) (task : 
       (subst (λ (K : List Step). strictly_rising K ≡ true) (sym none_kept) refl) best last
       (λ e. shortest.found e J task passed) (λ e. shortest.none e J task passed)))
 
+  pub no_plan_of_search : best.found ≡ false → makespan J frame.goal ≡ no_plan
+  no_plan_of_search e = of_search.none e
+
   module _ (e : best.found ≡ true) where
-    plan_of_search : makespan J frame.goal ≡ ends_at best.end
+    pub plan_of_search : makespan J frame.goal ≡ ends_at best.end
     plan_of_search = (of_search.found e).2
 
-    least_of_search : ShortestEnd J frame.goal best.end
+    pub least_of_search : ShortestEnd J frame.goal best.end
     least_of_search =
         shortest_of_least J frame.goal best.end
         (least_end_of_makespan J frame.goal 0 [] passed (nothing_begun J) best.end plan_of_search)
@@ -90,7 +93,7 @@ module _ (J : Job) (file sets numbers times : List ℕ) (frame : Frame) (task : 
     in_time_lem = (of_search.found e).0.in_time
 
     -- the day up to its least end
-    day_of_search : (horizon : ℕ) → horizon ≡ best.end → DayOf J file sets numbers times (until frame horizon)
+    pub day_of_search : (horizon : ℕ) → horizon ≡ best.end → DayOf J file sets numbers times (until frame horizon)
     day_of_search horizon same =
         let d = task.described in
         let l = in_time_lem in
@@ -182,7 +185,9 @@ module _ (J : Job) (file sets numbers times : List ℕ) (frame : Frame) (task : 
                 let n = r.2 in
                 record {
                   list = r.0;
-                  whole = whole_list_of_begins J frame.goal r.0 r.1;
+                  whole =
+                      list_of_same J frame.goal (Begins []) (λ P. Unit) r.0 (λ P listed b. tt)
+                      (λ P listed b. (P, refl)) r.1;
                   short = omega arith;
                 };
           }
@@ -191,7 +196,7 @@ module _ (J : Job) (file sets numbers times : List ℕ) (frame : Frame) (task : 
       → PageOf J frame.goal place (record { any = false; answer = best })
   page_of_none place e =
       record {
-        none = λ z. of_search.none e;
+        none = λ z. no_plan_of_search e;
         some = λ z. not_both z refl;
         found = λ z f. not_both z refl;
         ended = λ z f. not_both z refl;

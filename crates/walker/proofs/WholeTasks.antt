@@ -29,6 +29,9 @@ module _ (day : held.Job) (task : Task) (whole : WholeTask task) (frame : Frame)
         given = refl;
       })
 
+  pub frame_from_first : frame.origin ≡ 0
+  frame_from_first = of (λ f. f.origin ≡ 0) whole.first
+
   pub frame_to_deadline : frame.horizon ≡ (job_in day).deadline
   frame_to_deadline = of (λ f. f.horizon ≡ (job_in day).deadline) refl
 

@@ -8,34 +8,29 @@ use Rattle.lister.proofs.list.Goals as goal
 
 pub returns-in-Refused : goal.returns-in-Refused
 returns-in-Refused c =
-    lists_refused (job_in c.args.job) c.args.place c.args.out.now _ _ c.refused.ensures
-    (sym c.validate-verdict.ensures ∙ c.in-Refused.is)
+    lists_refused (job_in c.args.job) c.args.place c.args.out.now _ _ c.refused.ensures (sym c.validate-verdict.ensures ∙ c.in-Refused.is)
 
 pub returns-then-out-lt-BYTES : goal.returns-then-out-lt-BYTES
 returns-then-out-lt-BYTES c =
     let pass = sym c.validate-verdict.ensures ∙ c.in_default.is in
-    lists_short (job_in c.args.job) c.args.place c.args.out.now _ c.refused-then-out-lt-BYTES.ensures pass
-    c.if-out-lt-BYTES.true
+    lists_short (job_in c.args.job) c.args.place c.args.out.now _ c.refused-then-out-lt-BYTES.ensures pass c.if-out-lt-BYTES.true
 
 pub plan_at-page-requires : goal.plan_at-page-requires
 plan_at-page-requires c =
     let pass = sym c.validate-verdict.ensures ∙ c.in_default.is in
-    let is = c.whole_day.ensures in
-    (pass, whole_day_fits c.args.job _ is pass, whole_day_is_whole c.args.job _ is)
+    (pass, whole_day_fits c.args.job _ c.whole_day.ensures pass, whole_day_is_whole c.args.job _ c.whole_day.ensures)
 
 pub returns-then-not-any : goal.returns-then-not-any
 returns-then-not-any c =
     let pass = sym c.validate-verdict.ensures ∙ c.in_default.is in
-    let page = page_of_whole_day c.args.job _ c.whole_day.ensures c.args.place c.plan_at-page.result
-    c.plan_at-page.ensures in
+    let page = page_of_whole_day c.args.job _ c.whole_day.ensures c.args.place c.plan_at-page.result c.plan_at-page.ensures in
     lists_none (job_in c.args.job) c.args.place c.args.out.now pass c.if-out-lt-BYTES.false c.plan_at-page.result page
     (c.if-not-any.true) _ c.refused-then-not-any.ensures
 
 pub hand_out-requires : goal.hand_out-requires
 hand_out-requires c =
     let pass = sym c.validate-verdict.ensures ∙ c.in_default.is in
-    let page = page_of_whole_day c.args.job _ c.whole_day.ensures c.args.place c.plan_at-page.result
-    c.plan_at-page.ensures in (
+    let page = page_of_whole_day c.args.job _ c.whole_day.ensures c.args.place c.plan_at-page.result c.plan_at-page.ensures in (
       whole_page (job_in c.args.job) c.args.place c.args.out.now pass c.if-out-lt-BYTES.false c.plan_at-page.result page
           (c.if-not-any.false),
       c.if-out-lt-BYTES.false,
@@ -44,7 +39,6 @@ hand_out-requires c =
 pub returns : goal.returns
 returns c =
     let pass = sym c.validate-verdict.ensures ∙ c.in_default.is in
-    let page = page_of_whole_day c.args.job _ c.whole_day.ensures c.args.place c.plan_at-page.result
-    c.plan_at-page.ensures in
+    let page = page_of_whole_day c.args.job _ c.whole_day.ensures c.args.place c.plan_at-page.result c.plan_at-page.ensures in
     lists_answered (job_in c.args.job) c.args.place c.args.out.now pass c.if-out-lt-BYTES.false c.plan_at-page.result page
     (c.if-not-any.false) _ _ c.hand_out.ensures

@@ -1,5 +1,5 @@
--- `needs_allow` meets its contract: the action is one of the job's, its needs are within the facts, and what it adds
--- beside them can be of use in time.
+-- `needs_allow` meets its contract: the action is one of the job's, its needs are within the facts, and what it adds beside
+-- them can be of use in time.
 use Prim.Native.Nat.{ℕ, ◌+◌}
 use mathlib.Core.Logic.{inl, inr}
 use mathlib.Core.Path.{refl, sym, ap, ◌∙◌}

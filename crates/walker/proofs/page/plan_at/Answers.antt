@@ -10,7 +10,7 @@ use Rattle.solver.proofs.FileLaws.{file_not_refused, file_in_slice, file_length,
 use Rattle.solver.proofs.TaskLaws.{job_in_day, day_fits, day_resumes, job_durations, known_actions, filled_still}
 use Rattle.solver.proofs.TaskLaws.{numbers_of_frame, limits_of_frame, whole_of_task, task_of_tables}
 use Rattle.walker.specs.Page.{PageOf}
-use Rattle.walker.proofs.WholeTasks.{whole_frame, frame_to_deadline, frame_from_least, frame_for_goal}
+use Rattle.walker.proofs.WholeTasks.{whole_frame, frame_from_first, frame_to_deadline, frame_from_least, frame_for_goal}
 use Rattle.walker.proofs.page.plan_at.Goals as goal
 
 pub fill-requires : goal.fill-requires
@@ -62,7 +62,7 @@ plan_from-requires c =
     let put = c.fill-2.ensures in
     let filled = filled_still day _ _ _ _ fits.passes c.fill.ensures put.0 put.1 in (
       whole_of_task day c.args.task fits c.of-frame.result c.of-frame.ensures _ _ filled _ _ c.fill_times-hand.ensures,
-      (whole_frame day c.args.task c.requires.2 c.of-frame.result c.of-frame.ensures).origin,
+      frame_from_first day c.args.task c.requires.2 c.of-frame.result c.of-frame.ensures,
     )
 
 pub returns : goal.returns
@@ -84,7 +84,6 @@ returns c =
     let framed = c.of-frame.ensures in
     let whole = c.requires.2 in
     subst (λ (J : Job). PageOf J task.goal c.args.place c.plan_from.result) (job_in_day job day task is)
-    (subst (λ (g : ℕ). PageOf (job_in day) g c.args.place c.plan_from.result)
-    (frame_for_goal day task whole frame framed)
+    (subst (λ (g : ℕ). PageOf (job_in day) g c.args.place c.plan_from.result) (frame_for_goal day task whole frame framed)
     (c.plan_from.ensures (job_in day) asked within (whole_frame day task whole frame framed)
     (frame_to_deadline day task whole frame framed) (frame_from_least day task whole frame framed)))

@@ -13,8 +13,8 @@ use Rattle.walker.proofs.page.plan_from.Goals as goal
 pub returns-then-not-found : goal.returns-then-not-found
 returns-then-not-found c =
     λ J task passed whole last plain.
-    page_of_none J _ _ _ _ c.args.frame task passed whole last plain c.requires.0 c.shortest-best.result
-    c.shortest-best.ensures c.args.place (c.if-not-found.true)
+    page_of_none J _ _ _ _ c.args.frame task passed whole last plain c.requires.0 c.shortest-best.result c.shortest-best.ensures
+    c.args.place (c.if-not-found.true)
 
 pub returns-then-wide-best : goal.returns-then-wide-best
 returns-then-wide-best c =

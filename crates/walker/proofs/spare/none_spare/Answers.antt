@@ -42,8 +42,7 @@ returns-then-wide-stop c =
       c.loop-i.i,
       c.loop-i-test.true,
       let wide = c.wide.ensures.0 in
-          spare_when _ _ c.args.tails.now c.args.horizon c.args.steps c.loop-i.i c.stop-stop.result
-          c.alone-set.result c.least.result
+          spare_when _ _ c.args.tails.now c.args.horizon c.args.steps c.loop-i.i c.stop-stop.result c.alone-set.result c.least.result
           c.stop-stop.ensures.0 c.alone-set.ensures c.least.ensures.1 (rw (← wide) c.if-wide-stop.true),
     )
 

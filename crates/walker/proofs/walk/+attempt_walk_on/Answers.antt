@@ -1,13 +1,11 @@
 use Prim.Native.Nat.{ℕ, ◌+◌, ◌*◌, ◌/◌, ◌%◌, ◌<◌, ◌≤◌}
-use mathlib.Core.Path.{◌≡◌, sym, ap, subst}
-use native.Mathlib.Nat.{mod-lt, mod-eq_of_lt}
+use mathlib.Core.Path.{◌≡◌, sym, ap, ◌∙◌, subst}
+use native.Mathlib.Nat.{div-add-mod, mod-lt, mod-eq_of_lt}
 use native.Mathlib.Omega.{arith}
 use Rattle.tables.specs.declared.Steps.{Steps}
 use Rattle.tables.specs.Tables.{pushed}
-use Rattle.tables.specs.declared.Frame.{Frame}
-use Rattle.listing.proofs.Ranks.{minute_and_number, number_below_64}
 use Rattle.walker.specs.Walk.{Kept}
-use Rattle.walker.proofs.Standing.{kept_of_next}
+use Rattle.walker.proofs.Walking.{kept_of_next}
 use Rattle.walker.proofs.Attempts.{attempt_lacks_needs, attempt_is_barren, attempt_finds_none, attempt_walks_on, walk_is_own, walk_is_full, meets_first, meets_next, walk_finds, walk_ends}
 use Rattle.walker.proofs.walk.+attempt_walk_on.Goals as goal
 
@@ -15,21 +13,13 @@ use Rattle.walker.proofs.walk.+attempt_walk_on.Goals as goal
 place-in-minutes : (place horizon : ℕ) → place < horizon * 64 → horizon ≤ 1440
     → (place / 64 < 65536) × (place / 64 % 65536 ≡ place / 64)
 place-in-minutes place horizon l m =
-    let d = minute_and_number place in
+    let d = div-add-mod place 64 in
     let small : place / 64 < 65536 = omega arith in
     (small, mod-eq_of_lt small)
 
--- the steps with that of the place
-kept-made : (frame : Frame) (steps : Steps) → Kept frame steps → steps.count < 32 → (place : ℕ)
-    → place % 64 < frame.actions → (made : Steps) → made ≡ pushed steps (place % 64) (place / 64 % 65536)
-    → Kept frame made
-kept-made frame steps kept room place known made is =
-    subst (Kept frame) (sym is)
-    (kept_of_next frame steps kept room (place % 64) (place / 64 % 65536) known (mod-lt (place / 64) (omega arith)))
-
 pub attempt-overflow_cast-number : goal.attempt-overflow_cast-number
 attempt-overflow_cast-number t c =
-    let l = number_below_64 c.args.place in omega arith
+    let l : c.args.place % 64 < 64 = mod-lt c.args.place (omega arith) in omega arith
 
 pub attempt-overflow_cast-start : goal.attempt-overflow_cast-start
 attempt-overflow_cast-start t c =
@@ -54,8 +44,11 @@ pub attempt-steps_allow-requires : goal.attempt-steps_allow-requires
 attempt-steps_allow-requires t c =
     let h = c.requires in
     let known = c.needs_allow.ensures.known (c.if-not-needs_allow.false) in
-    let made = kept-made c.args.frame c.args.steps h.1 h.3 c.args.place known _ c.push-next.ensures in
-    (h.0.lent, made.known, h.5.size)
+    let m = place-in-minutes c.args.place c.args.frame.horizon h.4 h.0.horizon in
+    let next = subst (Kept c.args.frame)
+    (sym (c.push-next.ensures ∙ ap (pushed c.args.steps (c.args.place % 64)) m.1))
+    (kept_of_next c.args.frame c.args.steps h.1 h.3 c.args.place known m.0) in
+    (h.0.lent, next.known, h.5.size)
 
 pub attempt-returns-then-not-steps_allow : goal.attempt-returns-then-not-steps_allow
 attempt-returns-then-not-steps_allow t c =
@@ -70,8 +63,14 @@ pub attempt-search_allows-requires : goal.attempt-search_allows-requires
 attempt-search_allows-requires t c =
     let h = c.requires in
     let known = c.needs_allow.ensures.known (c.if-not-needs_allow.false) in
-    let made = kept-made c.args.frame c.args.steps h.1 h.3 c.args.place known _ c.push-next.ensures in
-    (h.0, made, number_below_64 c.args.place, h.2)
+    let m = place-in-minutes c.args.place c.args.frame.horizon h.4 h.0.horizon in
+    let l : c.args.place % 64 < 64 = mod-lt c.args.place (omega arith) in (
+      h.0,
+      subst (Kept c.args.frame) (sym (c.push-next.ensures ∙ ap (pushed c.args.steps (c.args.place % 64)) m.1))
+          (kept_of_next c.args.frame c.args.steps h.1 h.3 c.args.place known m.0),
+      l,
+      h.2,
+    )
 
 pub attempt-returns-then-not-search_allows : goal.attempt-returns-then-not-search_allows
 attempt-returns-then-not-search_allows t c =
@@ -90,10 +89,19 @@ pub attempt-walk_on-requires : goal.attempt-walk_on-requires
 attempt-walk_on-requires t c =
     let h = c.requires in
     let known = c.needs_allow.ensures.known (c.if-not-needs_allow.false) in
-    let made = kept-made c.args.frame c.args.steps h.1 h.3 c.args.place known _ c.push-next.ensures in
-    let count : c.push-next.result.count ≡ c.args.steps.count + 1 = ap (λ (s : Steps). s.count) c.push-next.ensures in
-    let room = h.3 in
-    (omega arith, (h.0, made, h.2, h.5))
+    let m = place-in-minutes c.args.place c.args.frame.horizon h.4 h.0.horizon in
+    let e = c.push-next.ensures in
+    let count : c.push-next.result.count ≡ c.args.steps.count + 1 = ap (λ (s : Steps). s.count) e in
+    let room = h.3 in (
+      omega arith,
+      (
+        h.0,
+        subst (Kept c.args.frame) (sym (c.push-next.ensures ∙ ap (pushed c.args.steps (c.args.place % 64)) m.1))
+            (kept_of_next c.args.frame c.args.steps h.1 h.3 c.args.place known m.0),
+        h.2,
+        h.5,
+      ),
+    )
 
 pub attempt-returns : goal.attempt-returns
 attempt-returns t c =
@@ -111,14 +119,12 @@ walk_on-visit-w-requires t c =
 pub walk_on-returns-then-listed : goal.walk_on-returns-then-listed
 walk_on-returns-then-listed t c =
     let h = c.requires in
-    walk_is_own _ _ _ _ c.args.frame c.args.steps h.1 c.args.held c.args.from c.args.left _
-    c.visit-w.ensures c.if-listed.true
+    walk_is_own _ _ _ _ c.args.frame c.args.steps h.1 c.args.held c.args.from c.args.left _ c.visit-w.ensures c.if-listed.true
 
 pub walk_on-returns-then-steps-ge-STEPS : goal.walk_on-returns-then-steps-ge-STEPS
 walk_on-returns-then-steps-ge-STEPS t c =
     let h = c.requires in
-    walk_is_full _ _ _ _ c.args.frame c.args.steps h.1 c.args.held c.args.from c.args.left _
-    c.visit-w.ensures c.if-listed.false c.if-steps-ge-STEPS.true
+    walk_is_full _ _ _ _ c.args.frame c.args.steps h.1 c.args.held c.args.from c.args.left _ c.visit-w.ensures c.if-listed.false c.if-steps-ge-STEPS.true
 
 pub walk_on-overflow_mul-last : goal.walk_on-overflow_mul-last
 walk_on-overflow_mul-last t c =
@@ -126,12 +132,8 @@ walk_on-overflow_mul-last t c =
 
 pub walk_on-loop-place-init : goal.walk_on-loop-place-init
 walk_on-loop-place-init t c =
-    let h = c.requires in (
-      c.if-listed.false,
-      omega arith,
-      meets_first _ _ _ _ c.args.frame c.args.steps h.1 c.args.held c.args.from c.args.left _
-          c.visit-w.ensures c.if-listed.false,
-    )
+    let h = c.requires in
+    (c.if-listed.false, omega arith, meets_first _ _ _ _ c.args.frame c.args.steps h.1 c.args.held c.args.from c.args.left _ c.visit-w.ensures c.if-listed.false)
 
 pub walk_on-forward-holds-requires : goal.walk_on-forward-holds-requires
 walk_on-forward-holds-requires t c =
@@ -149,8 +151,8 @@ pub walk_on-returns-then-found : goal.walk_on-returns-then-found
 walk_on-returns-then-found t c =
     let h = c.requires in
     walk_finds _ _ _ _ c.args.frame c.args.steps h.1 c.args.held c.args.from c.args.left
-    c.loop-place.w c.loop-place.holds c.loop-place.place c.loop-place.invariant.2 c.loop-place.invariant.1 c.forward-holds.result
-    c.forward-holds.ensures _ c.attempt-w.ensures c.if-found.true
+    c.loop-place.w c.loop-place.holds c.loop-place.place c.loop-place.invariant.2 c.loop-place.invariant.1 c.forward-holds.result c.forward-holds.ensures
+    _ c.attempt-w.ensures c.if-found.true
 
 pub walk_on-overflow_add-place : goal.walk_on-overflow_add-place
 walk_on-overflow_add-place t c =
@@ -167,8 +169,8 @@ walk_on-loop-place-preserved t c =
       c.if-found.false,
       omega arith,
       meets_next _ _ _ _ c.args.frame c.args.steps h.1 c.args.held c.args.from c.args.left
-          c.loop-place.w c.loop-place.holds c.loop-place.place c.loop-place.invariant.2 c.loop-place.invariant.1 c.forward-holds.result
-          c.forward-holds.ensures _ c.attempt-w.ensures c.if-found.false,
+          c.loop-place.w c.loop-place.holds c.loop-place.place c.loop-place.invariant.2 c.loop-place.invariant.1 c.forward-holds.result c.forward-holds.ensures
+          _ c.attempt-w.ensures c.if-found.false,
     )
 
 pub walk_on-returns : goal.walk_on-returns
