@@ -1,4 +1,6 @@
 // A slice that a test program lends, and what a call that hands out a day leaves in it.
+#![tactic(auto)]
+
 use job::Job;
 use job::refusal::{Verdict, number};
 use timeline::{Day, Plan};

@@ -1,6 +1,8 @@
 // Small random jobs for tests: the same seed gives the same job, and every job is within its limits. In some an
 // action uses more of a pool or store than there is (26). What stands beyond the counts and the form is drawn as well,
 // since it is to be ignored.
+#![tactic(auto)]
+
 mod actions; // the actions of a job
 pub mod draw; // random numbers and sets of facts
 

@@ -2,6 +2,8 @@
 // plan forward from minute 0, or from the minute to which a begun day has come; the list of all the shortest days; and two
 // plans joined. It shares no code with the planner, the lister and the join, only the job's types, and knows no earliest
 // times and no normal form.
+#![tactic(auto)]
+
 mod day; // the rules, minute by minute
 pub mod join; // two plans joined
 mod kept; // the steps that a begun day keeps
