@@ -20,7 +20,7 @@ const PLAN: usize = Plan::BYTES + 1;
 // The end of a plan that is accepted, or why it is not.
 fn print_end(rt: &impl Print, day: Day) -> io::Result<()> {
     match day.verdict {
-        Verdict::Pass => print_line(rt, "end ", day.end as u64),
+        Verdict::Pass => print_line(rt, b"end ", day.end as u64),
         Verdict::Refused(why) => print_refusal(rt, why),
     }
 }

@@ -12,13 +12,14 @@ use std::io;
 use timeline::{Day, Plan};
 
 // A word and a number, on a line of their own.
-pub fn print_line(rt: &impl Print, word: &str, x: u64) -> io::Result<()> {
-    println!(rt; "{word}{x}")
+pub fn print_line(rt: &impl Print, word: &[u8], x: u64) -> io::Result<()> {
+    rt.write_all(word)?;
+    println!(rt; "{x}")
 }
 
 // Why there is no answer.
 pub fn print_refusal(rt: &impl Print, why: Refusal) -> io::Result<()> {
-    print_line(rt, "refused ", number(why) as u64)
+    print_line(rt, b"refused ", number(why) as u64)
 }
 
 // A number and a space.
@@ -30,7 +31,7 @@ fn print_column(rt: &impl Print, x: u64) -> io::Result<()> {
 fn print_step(rt: &impl Print, action: u8, start: u16, duration: u8) -> io::Result<()> {
     print_column(rt, start as u64)?;
     print_column(rt, start as u64 + duration as u64)?;
-    print_line(rt, "", action as u64)
+    print_line(rt, b"", action as u64)
 }
 
 // The duration of an action. A plan that is handed out has only actions of the job.
@@ -84,8 +85,8 @@ pub fn print_day(rt: &impl Print, job: Job, day: Day, plan: [u8; Plan::BYTES]) -
 {
     match day.verdict {
         Verdict::Pass => {
-            print_line(rt, "makespan ", day.end as u64)?;
-            print_line(rt, "steps ", day.steps as u64)?;
+            print_line(rt, b"makespan ", day.end as u64)?;
+            print_line(rt, b"steps ", day.steps as u64)?;
             print_peaks(rt, job, day)?;
             print_steps(rt, job, day.steps, plan)
         }

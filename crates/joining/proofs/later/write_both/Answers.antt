@@ -2,14 +2,6 @@
 use Rattle.joining.proofs.WritingLater.{both_written}
 use Rattle.joining.proofs.later.write_both.Goals as goal
 
--- LEFT
--- part-write-later-start : tie.Need-slice-bounds-write-later-start
--- part-write-later-start c = search rules
-
--- LEFT
--- part-write-later-end : tie.Need-slice-bounds-write-later-end
--- part-write-later-end c = search rules
-
 pub returns : goal.returns
 returns c =
     both_written c.args.out.now c.write_later.new.out c.write_later-2.new.out c.args.first.now

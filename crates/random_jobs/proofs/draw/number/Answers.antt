@@ -3,10 +3,6 @@ use native.Mathlib.Nat.{mod-lt}
 use borrow.Author.Rules.{rules}
 use Rattle.random_jobs.proofs.draw.number.Goals as goal
 
--- LEFT
--- rem-result : tie.Need-nonzero-rem-result
--- rem-result c = search rules
-
 pub overflow_cast-result-2 : goal.overflow_cast-result-2
 overflow_cast-result-2 c =
     let below = mod-lt c.part.result c.requires in

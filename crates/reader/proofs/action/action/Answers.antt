@@ -6,22 +6,6 @@ use Rattle.jobfile.specs.File.{action_of}
 use native.Mathlib.Omega.{arith}
 use Rattle.reader.proofs.action.action.Goals as goal
 
--- LEFT
--- part-amounts-start : tie.Need-slice-bounds-amounts-start
--- part-amounts-start c = search rules
-
--- LEFT
--- part-amounts-end : tie.Need-slice-bounds-amounts-end
--- part-amounts-end c = search rules
-
--- LEFT
--- part-amounts-start-2 : tie.Need-slice-bounds-amounts-start-2
--- part-amounts-start-2 c = search rules
-
--- LEFT
--- part-amounts-end-2 : tie.Need-slice-bounds-amounts-end-2
--- part-amounts-end-2 c = search rules
-
 pub returns : goal.returns
 unfolding action_of
 returns c =

@@ -23,17 +23,6 @@ start_is i s = let e = next-end i s in omega arith
 width_is : (i s : ℕ) → (i + 1) * s - ((i + 1) * s - s) ≡ s
 width_is i s = let e = next-end i s in omega arith
 
--- LEFT
--- part-action-start : tie.Need-slice-bounds-action-start
--- part-action-start c = search rules
-
--- LEFT
--- part-action-end : tie.Need-slice-bounds-action-end
--- part-action-end c =
---     let a = c.before.args in
---     let w = ends-within (length a.bytes.now) a.size a.i c.before.requires.3 in
---     omega arith
-
 pub overflow_add-end : goal.overflow_add-end
 overflow_add-end c =
     let a = c.args in

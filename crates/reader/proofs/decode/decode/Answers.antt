@@ -3,10 +3,6 @@ use Rattle.lists.proofs.Tabulate.{length_tabulate}
 use Rattle.jobfile.specs.File.{job_of}
 use Rattle.reader.proofs.decode.decode.Goals as goal
 
--- LEFT
--- div-t24 : tie.Need-nonzero-div-t24
--- div-t24 c = search rules
-
 pub returns : goal.returns
 unfolding job_of
 returns c =

@@ -2,10 +2,6 @@
 use Rattle.std.proofs.Common.{◌≤◌, mul-le-mul, arith}
 use Rattle.second.proofs.resources.scaled.Goals as goal
 
--- LEFT
--- div-number : tie.Need-nonzero-div-number
--- div-number c = search rules
-
 pub overflow_mul-number : goal.overflow_mul-number
 overflow_mul-number c =
     let few : c.args.amount ≤ 4294967295 = omega arith in
