@@ -71,7 +71,8 @@ def respelling():
     for path in filter(is_law, antt):
         text = without_notes(read(path))
         words.update(WORD.findall(re.sub(r"^\s*(pub )?use [^\n]*", "", text, flags=re.M)))
-        defined.update(re.findall(r"^(?:(?:abbrev|unfoldable)\s+)?(?:pub )?(?:record |data )?([^\s:(){}]+) :", text, re.M))
+        marks = r"(?:(?:abbrev|unfoldable)\s+)?(?:pub )?(?:record |data )?"
+        defined.update(re.findall(r"^" + marks + r"([^\s:(){}]+) :", text, re.M))
         defined.update(re.findall(r"^ +pub ([^\s:(){}]+) :", text, re.M))
     changed = {w: snake(w) for w in words if wants_respelling(w) and w not in library}
     taken = collections.defaultdict(set)
