@@ -10,7 +10,7 @@ use lib.Dec.{ltb}
 use borrow.Author.Tests.{ltb-false}
 use Rattle.lists.proofs.Bools.{or_right}
 use Rattle.job.specs.Job.{Job, job_in}
-use Rattle.job.specs.Refusal.{◌when◌, first}
+use Rattle.job.specs.Refusal.{first}
 use Rattle.job.specs.Valid.{over, job_rows}
 use Rattle.job.specs.declared.Job as held
 use Rattle.job.specs.declared.refusal.Refusal.{Refusal}
