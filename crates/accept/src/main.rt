@@ -4,7 +4,7 @@
 use input::{load, tell};
 use job::refusal::Verdict;
 use jobfile::Layout;
-use printing::print_refusal;
+use printing::{print_refusal, unless_left};
 use std::io;
 
 // One byte more than the longest file: an input that fills it is too long.
@@ -25,5 +25,5 @@ fn main(rt: HostRuntime) -> io::Result<()> {
         tell(&rt, "accept: standard input cannot be read");
         return Ok(());
     };
-    print_answer(&rt, &input[..length])
+    unless_left(print_answer(&rt, &input[..length]))
 }

@@ -6,7 +6,7 @@
 use input::{argument_count, load_named, tell};
 use job::refusal::Verdict;
 use jobfile::Layout;
-use printing::{print_line, print_refusal};
+use printing::{print_line, print_refusal, unless_left};
 use std::env::Env;
 use std::io;
 use std::rt::Files;
@@ -50,7 +50,7 @@ fn main(rt: HostRuntime) -> io::Result<()> {
     }
     let mut file = [0u8; JOB];
     match load_named(&rt, 1, &mut file) {
-        Some(length) => check_plan_for(&rt, &file[..length]),
+        Some(length) => unless_left(check_plan_for(&rt, &file[..length])),
         None => Ok(()),
     }
 }

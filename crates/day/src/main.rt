@@ -5,7 +5,7 @@ use input::{load, tell};
 use job::Job;
 use job::refusal::Verdict;
 use jobfile::Layout;
-use printing::{print_day, print_refusal};
+use printing::{print_day, print_refusal, unless_left};
 use std::io;
 use timeline::Plan;
 
@@ -34,5 +34,5 @@ fn main(rt: HostRuntime) -> io::Result<()> {
         tell(&rt, "day: standard input cannot be read");
         return Ok(());
     };
-    print_answer(&rt, &input[..length])
+    unless_left(print_answer(&rt, &input[..length]))
 }

@@ -6,7 +6,7 @@ use input::{argument_count, load_named, tell};
 use job::Job;
 use job::refusal::Verdict;
 use jobfile::Layout;
-use printing::{print_day, print_refusal};
+use printing::{print_day, print_refusal, unless_left};
 use std::env::Env;
 use std::io;
 use std::rt::Files;
@@ -62,7 +62,7 @@ fn main(rt: HostRuntime) -> io::Result<()> {
     }
     let mut file = [0u8; JOB];
     match load_named(&rt, 1, &mut file) {
-        Some(length) => join_plans(&rt, &file[..length]),
+        Some(length) => unless_left(join_plans(&rt, &file[..length])),
         None => Ok(()),
     }
 }

@@ -7,7 +7,7 @@ use input::{Number, argument_count, load_named, number_in, tell};
 use job::Job;
 use job::refusal::Verdict;
 use jobfile::Layout;
-use printing::{print_day, print_refusal};
+use printing::{print_day, print_refusal, unless_left};
 use std::io;
 use timeline::Plan;
 
@@ -45,7 +45,7 @@ fn main(rt: HostRuntime) -> io::Result<()> {
     let place = place as u32;
     let mut file = [0u8; JOB];
     match load_named(&rt, 1, &mut file) {
-        Some(length) => print_answer(&rt, &file[..length], place),
+        Some(length) => unless_left(print_answer(&rt, &file[..length], place)),
         None => Ok(()),
     }
 }

@@ -9,7 +9,21 @@ use encoding::read_number;
 use job::Job;
 use job::refusal::{Refusal, Verdict, number};
 use std::io;
+use std::io::ErrorKind;
 use timeline::{Day, Plan};
+
+// What a program's printing came to. Where the reader has left, as `head` does, nobody wants the rest: no failure.
+pub fn unless_left(printed: io::Result<()>) -> io::Result<()> {
+    match printed {
+        Ok(()) => Ok(()),
+        Err(why) => {
+            if matches!(why.kind(), ErrorKind::BrokenPipe) {
+                return Ok(());
+            }
+            Err(why)
+        }
+    }
+}
 
 // A word and a number, on a line of their own.
 pub fn print_line(rt: &impl Print, word: &[u8], x: u64) -> io::Result<()> {

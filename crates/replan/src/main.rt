@@ -8,7 +8,7 @@ use input::{Number, argument_count, load_named, number_in, tell};
 use job::Job;
 use job::refusal::Verdict;
 use jobfile::Layout;
-use printing::{print_day, print_refusal};
+use printing::{print_day, print_refusal, unless_left};
 use std::env::Env;
 use std::io;
 use std::rt::Files;
@@ -89,5 +89,5 @@ fn main(rt: HostRuntime) -> io::Result<()> {
         return Ok(());
     };
     let minute = minute as u32;
-    replan_files(&rt, Question { minute, goal })
+    unless_left(replan_files(&rt, Question { minute, goal }))
 }
