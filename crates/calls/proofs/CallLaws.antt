@@ -6,8 +6,9 @@ use mathlib.Core.List.{List}
 use lib.ListN.{length}
 use Rattle.job.specs.Job.{Job, job_in}
 use Rattle.job.specs.declared.refusal.Refusal.{Refusal}
-use Rattle.job.specs.declared.refusal.Verdict.{Verdict}
-use Rattle.job.specs.declared.refusal.Verdict.TheVariants.{Pass, Refused}
+use Rattle.job.specs.Refusal.{Verdict}
+use Rattle.std.specs.Prelude.{Ok, Err}
+use Rattle.job.specs.Refusal.{pass}
 use Rattle.jobfile.specs.declared.Reading.{Reading}
 use Rattle.jobfile.specs.Answers.{read_file, left_by_write}
 use Rattle.earliest.specs.declared.EarliestTime.{EarliestTime}
@@ -27,9 +28,9 @@ module _ (file : List ℕ) (reading : Reading) (same : reading ≡ read_file fil
   pub verdict_of_file : (v : Verdict) → reading.verdict ≡ v → (read_file file).verdict ≡ v
   verdict_of_file v h = sym (ap (λ (x : Reading). x.verdict) same) ∙ h
 
-  module _ (why : Refusal) (h : reading.verdict ≡ Refused why) where
-    refused : (read_file file).verdict ≡ Refused why
-    refused = verdict_of_file (Refused why) h
+  module _ (why : Refusal) (h : reading.verdict ≡ Err why) where
+    refused : (read_file file).verdict ≡ Err why
+    refused = verdict_of_file (Err why) h
 
     pub file_refused : (answer : ℕ) → refusal why ≡ unless_refused (read_file file).verdict answer
     file_refused answer = sym (ap (λ (v : Verdict). unless_refused v answer) refused)
@@ -48,9 +49,9 @@ module _ (file : List ℕ) (reading : Reading) (same : reading ≡ read_file fil
     pub peaks_kept : (day : Day) (peaks : List ℕ) → peaks ≡ peaks_after (read_file file).verdict day peaks
     peaks_kept day peaks = sym (ap (λ (v : Verdict). peaks_after v day peaks) refused)
 
-  module _ (h : reading.verdict ≡ Pass) where
-    accepted : (read_file file).verdict ≡ Pass
-    accepted = verdict_of_file Pass h
+  module _ (h : reading.verdict ≡ pass) where
+    accepted : (read_file file).verdict ≡ pass
+    accepted = verdict_of_file pass h
 
     file_accepted : (answer : ℕ) → answer ≡ unless_refused (read_file file).verdict answer
     file_accepted answer = sym (ap (λ (v : Verdict). unless_refused v answer) accepted)
@@ -129,5 +130,5 @@ module _ (file : List ℕ) (reading : Reading) (same : reading ≡ read_file fil
     peaks_told said peaks peaks_then answer told put =
         put
         ∙ ap (λ (d : Day). peaks_by d.verdict d.peaks peaks) told
-        ∙ ap (λ (x : Reading). peaks_after Pass (said (job_in x.job)) peaks) same
+        ∙ ap (λ (x : Reading). peaks_after pass (said (job_in x.job)) peaks) same
         ∙ sym (ap (λ (v : Verdict). peaks_after v (said (job_of file)) peaks) accepted)

@@ -15,13 +15,14 @@ use Rattle.job.specs.Valid.{over, job_rows}
 use Rattle.job.specs.declared.Job as held
 use Rattle.job.specs.declared.refusal.Refusal.{Refusal}
 use Rattle.job.specs.declared.refusal.Refusal.TheVariants.{NoPlan, NoPlanWithKept}
-use Rattle.job.specs.declared.refusal.Verdict.{Verdict}
-use Rattle.job.specs.declared.refusal.Verdict.TheVariants.{Pass, Refused}
+use Rattle.job.specs.Refusal.{Verdict}
+use Rattle.std.specs.Prelude.{Ok, Err}
+use Rattle.job.specs.Refusal.{pass}
 use Rattle.job.proofs.Passed.{passed}
 use Rattle.job.proofs.Table.{first_pass, pass_of_append}
 use Rattle.job.proofs.Values.{job_in_shape}
 use Rattle.jobfile.specs.declared.Written.{Written}
-use Rattle.jobfile.specs.declared.Written.TheVariants as written
+use Rattle.std.specs.Prelude.{Ok, Err}
 use Rattle.jobfile.specs.File.{file_of, entries_in, decoded, file_rows}
 use Rattle.jobfile.specs.Answers.{read_rows, reading_of, read_file, write_rows, written_of, write_file}
 use Rattle.jobfile.proofs.Lengths.{file_fits}
@@ -41,21 +42,21 @@ use Rattle.replanner.specs.Replan.{replan_rows, kept_steps, ReplansWith, Replans
 use Rattle.packing.specs.Answer.{ShortFile}
 
 verdict_read : (v : Verdict) (J : Job) → (reading_of v J).verdict ≡ v
-verdict_read Pass J = refl
-verdict_read (Refused why) J = refl
+verdict_read (Ok _) J = refl
+verdict_read (Err why) J = refl
 
 -- a file that is accepted passes test 1
-pub accepted_file_is_short : (file : List ℕ) → (read_file file).verdict ≡ Pass → length file ≤ 4096
+pub accepted_file_is_short : (file : List ℕ) → (read_file file).verdict ≡ pass → length file ≤ 4096
 unfolding read_file read_rows file_rows
 accepted_file_is_short file h =
     let passes = sym (verdict_read (first (read_rows file)) (decoded file)) ∙ h in
     let size = (first_pass _ _ _ passes).0 in
     ltb-false 4096 (length file) (or_right (ltb (length file) (4 * entries_in file)) (over 4096 (length file)) size)
 
-length_told : (v : Verdict) (J : Job) (n : ℕ) → written_of v J ≡ written.Length n
-    → (v ≡ Pass) × (length (file_of J) ≡ n)
-length_told Pass J n h = (refl, cc)
-length_told (Refused why) J n h = (cc, cc)
+length_told : (v : Verdict) (J : Job) (n : ℕ) → written_of v J ≡ Ok n
+    → (v ≡ pass) × (length (file_of J) ≡ n)
+length_told (Ok _) J n h = (refl, cc)
+length_told (Err why) J n h = (cc, cc)
 
 pub written_file_is_short : (job : held.Job) (slice : List ℕ) (answer : Written) → answer ≡ write_file (job_in job) slice
     → ShortFile answer
@@ -80,14 +81,14 @@ true_steps_are_few J bytes lengths answer told = by_verdict (first (true_rows J 
   where
     by_verdict : (v : Verdict) → first (true_rows J bytes lengths) ≡ v
         → answer ≡ day_of v J (true_steps J bytes lengths) → answer.steps ≤ 32
-    by_verdict Pass e h =
+    by_verdict (Ok _) e h =
         let checks = pass_of_append (job_rows J ++ plan_rows J J.goal bytes) _ e in
         let accepted = (pass_of_append (job_rows J) (plan_rows J J.goal bytes) checks.0).1 in
         let few = few_steps_of_accepted J J.goal bytes accepted in
         let count = ap (λ (d : Day). d.steps) h in
         let same = same_count_lem (steps_in J bytes) lengths in
         omega arith
-    by_verdict (Refused why) e h = few_without_day why answer h
+    by_verdict (Err why) e h = few_without_day why answer h
 
 -- a shortest plan that is handed out has at most 32 steps
 few_when_planned : (m : Makespan) (none : Refusal) (J : Job) (goal minute : ℕ) (K : List Step) (slice : List ℕ)
@@ -103,9 +104,9 @@ pub planned_steps_are_few : (J : Job) (slice : List ℕ) (answer : Day) (after :
 planned_steps_are_few J slice answer after plans = by_verdict (first (plan_refusals J slice)) plans
   where
     by_verdict : (v : Verdict) → PlansBy v J slice answer after → answer.steps ≤ 32
-    by_verdict Pass p =
+    by_verdict (Ok _) p =
         few_when_planned (makespan J J.goal) NoPlan J J.goal 0 [] slice answer after p
-    by_verdict (Refused why) p = few_without_day why answer p.answers
+    by_verdict (Err why) p = few_without_day why answer p.answers
 
 begun_no_more : (minute : ℕ) (P : List Step) → length (begun minute P) ≤ length P
 begun_no_more minute [] = omega arith
@@ -121,7 +122,7 @@ module _ (J : Job) (current : List ℕ) (minute goal : ℕ) (slice : List ℕ) w
   K = kept_steps J minute current
 
   -- a current plan that passes 12 to 19 has at most 32 steps
-  kept_steps_are_few : first (replan_rows J current goal slice) ≡ Pass → length K ≤ 32
+  kept_steps_are_few : first (replan_rows J current goal slice) ≡ pass → length K ≤ 32
   kept_steps_are_few passes =
       let behind_job = (pass_of_append (job_rows J) _ passes).1 in
       let behind_goal = (first_pass _ _ _ behind_job).1 in
@@ -143,5 +144,5 @@ module _ (J : Job) (current : List ℕ) (minute goal : ℕ) (slice : List ℕ) w
 
       by_verdict : (v : Verdict) → first (replan_rows J current goal slice) ≡ v
           → ReplansBy v J goal minute K slice answer after → answer.steps ≤ 32
-      by_verdict Pass e p = with_kept (passes J goal K) (kept_steps_are_few e) p
-      by_verdict (Refused why) e p = few_without_day why answer p.answers
+      by_verdict (Ok _) e p = with_kept (passes J goal K) (kept_steps_are_few e) p
+      by_verdict (Err why) e p = few_without_day why answer p.answers

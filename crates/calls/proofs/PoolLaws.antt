@@ -5,8 +5,9 @@ use mathlib.Core.Path.{◌≡◌, refl, sym, ap, ap₂, ◌∙◌}
 use mathlib.Core.List.{List}
 use Rattle.job.specs.Job.{job_in}
 use Rattle.job.specs.declared.refusal.Refusal.{Refusal}
-use Rattle.job.specs.declared.refusal.Verdict.{Verdict}
-use Rattle.job.specs.declared.refusal.Verdict.TheVariants.{Pass, Refused}
+use Rattle.job.specs.Refusal.{Verdict}
+use Rattle.std.specs.Prelude.{Ok, Err}
+use Rattle.job.specs.Refusal.{pass}
 use Rattle.jobfile.specs.declared.Reading.{Reading}
 use Rattle.jobfile.specs.declared.Written.{Written}
 use Rattle.jobfile.specs.Answers.{read_file, write_file, left_by_write}
@@ -47,36 +48,36 @@ module _ (first second slice : List ℕ) (mine : Reading) (a : mine ≡ read_fil
       = rw (e, f, g) (h, k) in
       way
 
-  pub first_file_refused : (why : Refusal) (r : ℕ) → mine.verdict ≡ Refused why → r ≡ refusal why
+  pub first_file_refused : (why : Refusal) (r : ℕ) → mine.verdict ≡ Err why → r ≡ refusal why
       → PoolTells first second slice r slice
   first_file_refused why r h told =
-      tells (Refused why) (read_file second).verdict pooled.verdict r slice
-      (verdict_of_file first mine a (Refused why) h) refl refl told refl
+      tells (Err why) (read_file second).verdict pooled.verdict r slice
+      (verdict_of_file first mine a (Err why) h) refl refl told refl
 
-  module _ (accepted : mine.verdict ≡ Pass) (other : Reading) (b : other ≡ read_file second) where
-    pub second_file_refused : (why : Refusal) (r : ℕ) → other.verdict ≡ Refused why → r ≡ refusal why
+  module _ (accepted : mine.verdict ≡ pass) (other : Reading) (b : other ≡ read_file second) where
+    pub second_file_refused : (why : Refusal) (r : ℕ) → other.verdict ≡ Err why → r ≡ refusal why
         → PoolTells first second slice r slice
     second_file_refused why r h told =
-        tells Pass (Refused why) pooled.verdict r slice (verdict_of_file first mine a Pass accepted)
-        (verdict_of_file second other b (Refused why) h) refl told refl
+        tells pass (Err why) pooled.verdict r slice (verdict_of_file first mine a pass accepted)
+        (verdict_of_file second other b (Err why) h) refl told refl
 
-    module _ (too : other.verdict ≡ Pass) (one : Pooled)
+    module _ (too : other.verdict ≡ pass) (one : Pooled)
         (answers : one ≡ pool_jobs (job_in mine.job) (job_in other.job)) where
       same : one ≡ pooled
       same = answers ∙ ap₂ (λ (x y : Reading). pool_jobs (job_in x.job) (job_in y.job)) a b
 
-      pub pooling_refused : (why : Refusal) (r : ℕ) → one.verdict ≡ Refused why → r ≡ refusal why
+      pub pooling_refused : (why : Refusal) (r : ℕ) → one.verdict ≡ Err why → r ≡ refusal why
           → PoolTells first second slice r slice
       pooling_refused why r h told =
-          tells Pass Pass (Refused why) r slice (verdict_of_file first mine a Pass accepted)
-          (verdict_of_file second other b Pass too) (sym (ap (λ (x : Pooled). x.verdict) same) ∙ h) told refl
+          tells pass pass (Err why) r slice (verdict_of_file first mine a pass accepted)
+          (verdict_of_file second other b pass too) (sym (ap (λ (x : Pooled). x.verdict) same) ∙ h) told refl
 
-      pub pooled_written : (answer : Written) (r : ℕ) (after : List ℕ) → one.verdict ≡ Pass
+      pub pooled_written : (answer : Written) (r : ℕ) (after : List ℕ) → one.verdict ≡ pass
           → answer ≡ write_file (job_in one.job) slice → r ≡ written_number answer
           → after ≡ left_by_write (job_in one.job) slice → PoolTells first second slice r after
       pooled_written answer r after h wrote told left =
-          tells Pass Pass Pass r after (verdict_of_file first mine a Pass accepted)
-          (verdict_of_file second other b Pass too) (sym (ap (λ (x : Pooled). x.verdict) same) ∙ h)
+          tells pass pass pass r after (verdict_of_file first mine a pass accepted)
+          (verdict_of_file second other b pass too) (sym (ap (λ (x : Pooled). x.verdict) same) ∙ h)
           (told ∙ ap written_number wrote
           ∙ ap (λ (x : Pooled). written_number (write_file (job_in x.job) slice)) same)
           (left ∙ ap (λ (x : Pooled). left_by_write (job_in x.job) slice) same)

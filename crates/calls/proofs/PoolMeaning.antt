@@ -11,8 +11,9 @@ use Rattle.encoding.specs.Bytes.{overwrite}
 use Rattle.encoding.proofs.Parts.{Bytes}
 use Rattle.job.specs.declared.refusal.Refusal.{Refusal}
 use Rattle.job.specs.declared.refusal.Refusal.TheVariants.{PoolTooLarge, PoolUnlike}
-use Rattle.job.specs.declared.refusal.Verdict.{Verdict}
-use Rattle.job.specs.declared.refusal.Verdict.TheVariants.{Pass, Refused}
+use Rattle.job.specs.Refusal.{Verdict}
+use Rattle.std.specs.Prelude.{Ok, Err}
+use Rattle.job.specs.Refusal.{pass}
 use Rattle.job.specs.Job.{Action, Job, job_value}
 use Rattle.job.specs.Refusal.{first}
 use Rattle.job.specs.Valid.{job_rows}
@@ -33,8 +34,8 @@ use Rattle.packing.specs.Answer.{done, written_number}
 use Rattle.calls.specs.Calls.{job_of, pooled_of_files, pool_answer, left_by_pool}
 
 -- a job that passes is written where there is room for every file
-module _ (J : Job) (slice : List ℕ) (passes : first (job_rows J) ≡ Pass) (fits : length (file_of J) ≤ length slice) where
-  rows_pass : first (write_rows J slice) ≡ Pass
+module _ (J : Job) (slice : List ℕ) (passes : first (job_rows J) ≡ pass) (fits : length (file_of J) ≤ length slice) where
+  rows_pass : first (write_rows J slice) ≡ pass
   unfolding write_rows
   rows_pass =
       first_append_pass (job_rows J) _ passes
@@ -48,8 +49,8 @@ module _ (J : Job) (slice : List ℕ) (passes : first (job_rows J) ≡ Pass) (fi
   unfolding left_by_write
   written_slice = ap (λ (v : Verdict). left_of v J slice) rows_pass
 
-module _ (first_file second_file : List ℕ) (mine : (read_file first_file).verdict ≡ Pass)
-    (other : (read_file second_file).verdict ≡ Pass) where
+module _ (first_file second_file : List ℕ) (mine : (read_file first_file).verdict ≡ pass)
+    (other : (read_file second_file).verdict ≡ pass) where
   abbrev A : Job
   A = job_of first_file
 
@@ -57,14 +58,14 @@ module _ (first_file second_file : List ℕ) (mine : (read_file first_file).verd
   B = job_of second_file
 
   -- of the refusals of pooling only 32 and 33 are left
-  pub files_refused_by_32_or_33 : (why : Refusal) → (pooled_of_files first_file second_file).verdict ≡ Refused why
+  pub files_refused_by_32_or_33 : (why : Refusal) → (pooled_of_files first_file second_file).verdict ≡ Err why
       → (why ≡ PoolTooLarge) ⊎ (why ≡ PoolUnlike)
   files_refused_by_32_or_33 why h =
       only_32_or_33 A B (read_job_passes first_file (read_file first_file).job (rw mine))
       (read_job_passes second_file (read_file second_file).job (rw other)) why (sym (verdict_of_pooling A B) ∙ h)
 
   -- otherwise the file of the pooled job stands at the front of a slice of 4,096 bytes or more
-  pub pooled_file_is_written : (pooled_of_files first_file second_file).verdict ≡ Pass → (slice : List ℕ)
+  pub pooled_file_is_written : (pooled_of_files first_file second_file).verdict ≡ pass → (slice : List ℕ)
       → 4096 ≤ length slice
       → (pool_answer first_file second_file slice ≡ done (length (file_of (pooled A B))) 0)
       × (left_by_pool first_file second_file slice ≡ overwrite slice 0 (file_of (pooled A B)))
@@ -86,8 +87,8 @@ module _ (first_file second_file : List ℕ) (mine : (read_file first_file).verd
 
   -- and it reads as the pooled job
   pub pooled_file_reads_back : Bytes first_file → Bytes second_file
-      → (pooled_of_files first_file second_file).verdict ≡ Pass
-      → read_file (file_of (pooled A B)) ≡ record { verdict = Pass; job = job_value (pooled A B) }
+      → (pooled_of_files first_file second_file).verdict ≡ pass
+      → read_file (file_of (pooled A B)) ≡ record { verdict = pass; job = job_value (pooled A B) }
   pooled_file_reads_back bytes bytes' pass =
       let one = (read_file first_file).job in
       let two = (read_file second_file).job in

@@ -3,8 +3,9 @@
 -- Assumes nothing.
 use Rattle.std.specs.Prelude.{ℕ, ◌≡◌, List, length}
 use Rattle.job.specs.Job.{Job, job_in}
-use Rattle.job.specs.declared.refusal.Verdict.{Verdict}
-use Rattle.job.specs.declared.refusal.Verdict.TheVariants.{Pass, Refused}
+use Rattle.job.specs.Refusal.{Verdict}
+use Rattle.std.specs.Prelude.{Ok, Err}
+use Rattle.job.specs.Refusal.{pass}
 use Rattle.jobfile.specs.Answers.{read_file, write_file, left_by_write}
 use Rattle.checker.specs.Check.{check_plan}
 use Rattle.price.specs.declared.Rates.{Rates}
@@ -29,8 +30,8 @@ job_of file = job_in (read_file file).job
 
 -- a file that is refused is answered by its refusal
 abbrev pub unless_refused : Verdict → ℕ → ℕ
-unless_refused Pass answer = answer
-unless_refused (Refused why) answer = refusal why
+unless_refused (Ok _) answer = answer
+unless_refused (Err why) answer = refusal why
 
 -- a file that is accepted is answered by its length
 abbrev pub read_answer : List ℕ → ℕ
@@ -42,8 +43,8 @@ check_answer file plan = unless_refused (read_file file).verdict (checked_number
 
 -- the peaks of a day that is told, in a lent array
 abbrev pub peaks_after : Verdict → Day → List ℕ → List ℕ
-peaks_after Pass day before = peaks_by day.verdict day.peaks before
-peaks_after (Refused why) day before = before
+peaks_after (Ok _) day before = peaks_by day.verdict day.peaks before
+peaks_after (Err why) day before = before
 
 abbrev pub peaks_by_check : List ℕ → List ℕ → List ℕ → List ℕ
 peaks_by_check file plan before = peaks_after (read_file file).verdict (check_plan (job_of file) plan) before
@@ -72,8 +73,8 @@ rewrite_answer file slice = unless_refused (read_file file).verdict (written_num
 
 -- "no slice changes" after a refusal of the file
 abbrev pub kept_if_refused : Verdict → List ℕ → List ℕ → List ℕ
-kept_if_refused Pass slice after = after
-kept_if_refused (Refused why) slice after = slice
+kept_if_refused (Ok _) slice after = after
+kept_if_refused (Err why) slice after = slice
 
 -- what joining two plans answers, for the job of the file, and what it leaves in the slice and in the array of peaks
 abbrev pub joined_answer : List ℕ → List ℕ → List ℕ → List ℕ → ℕ
@@ -92,8 +93,8 @@ left_by_rewrite file slice = kept_if_refused (read_file file).verdict slice (lef
 
 -- the number of a time of which the promise of earliest times holds
 abbrev pub EarliestBy : Verdict → Job → ℕ → ℕ → Type 0
-EarliestBy Pass J set r = (answer : EarliestTime) × Answers J set answer × (r ≡ time_number answer)
-EarliestBy (Refused why) J set r = r ≡ refusal why
+EarliestBy (Ok _) J set r = (answer : EarliestTime) × Answers J set answer × (r ≡ time_number answer)
+EarliestBy (Err why) J set r = r ≡ refusal why
 
 -- the answer to a file and a set
 abbrev pub EarliestAnswers : List ℕ → ℕ → ℕ → Type 0
@@ -101,10 +102,10 @@ EarliestAnswers file set r = EarliestBy (read_file file).verdict (job_of file) s
 
 -- the number of a day of which the promise of the inner call holds, with its peaks and the bytes left in the slice
 abbrev pub DayBy : Verdict → (Day → Type 0) → List ℕ → List ℕ → ℕ → List ℕ → List ℕ → Type 0
-DayBy Pass promise slice peaks r after peaks_then =
+DayBy (Ok _) promise slice peaks r after peaks_then =
     (answer : Day) × promise answer × (r ≡ planned_number answer)
     × (peaks_then ≡ peaks_by answer.verdict answer.peaks peaks)
-DayBy (Refused why) promise slice peaks r after peaks_then = (r ≡ refusal why) × (after ≡ slice) × (peaks_then ≡ peaks)
+DayBy (Err why) promise slice peaks r after peaks_then = (r ≡ refusal why) × (after ≡ slice) × (peaks_then ≡ peaks)
 
 -- the answer to a file, a slice and an array for the peaks, and all that both then hold
 abbrev pub PlanAnswers : List ℕ → List ℕ → List ℕ → ℕ → List ℕ → List ℕ → Type 0

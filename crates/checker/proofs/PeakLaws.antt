@@ -11,8 +11,9 @@ use borrow.Author.Tests.{leb-false}
 use Rattle.lists.specs.Lists.{any, Each}
 use Rattle.lists.proofs.Tabulate.{each_at, length_tabulate}
 use Rattle.job.specs.declared.Job as held
-use Rattle.job.specs.declared.refusal.Verdict.{Verdict}
-use Rattle.job.specs.declared.refusal.Verdict.TheVariants.{Pass, Refused}
+use Rattle.job.specs.Refusal.{Verdict}
+use Rattle.std.specs.Prelude.{Ok, Err}
+use Rattle.job.specs.Refusal.{pass}
 use Rattle.job.specs.Job.{Action, Job, no_action, job_in}
 use Rattle.job.specs.Refusal.{first}
 use Rattle.job.specs.Passed.{PassedAction, Passed}
@@ -30,15 +31,15 @@ use Rattle.timeline.proofs.Places.{each_here, each_rest, none_of_any}
 use Rattle.timeline.proofs.Shares.{use_at, use_at_most}
 use Rattle.timeline.proofs.Tests.{le_or_lt}
 use Rattle.checker.specs.declared.Checked.{Checked}
-use Rattle.checker.specs.declared.Checked.TheVariants.{Ends}
+use Rattle.std.specs.Prelude.{Ok, Err}
 use Rattle.checker.specs.Check.{checked_of, SmallPeaks}
 
-passed_when_ends : (v : Verdict) (P : List Step) (e : ℕ) → checked_of v P ≡ Ends e → v ≡ Pass
-passed_when_ends Pass P e h = refl
-passed_when_ends (Refused why) P e h = cc
+passed_when_ends : (v : Verdict) (P : List Step) (e : ℕ) → checked_of v P ≡ Ok e → v ≡ pass
+passed_when_ends (Ok _) P e h = refl
+passed_when_ends (Err why) P e h = cc
 
 pub small_peaks_of_pass : (job : held.Job) (plan : Plan) (goal : ℕ) → Passed (job_in job)
-    → first (step_rows (job_in job) goal (steps_of plan)) ≡ Pass → SmallPeaks job plan
+    → first (step_rows (job_in job) goal (steps_of plan)) ≡ pass → SmallPeaks job plan
 small_peaks_of_pass job plan goal within pass pool inside =
     let J = job_in job in
     let count = length_tabulate job.counts.pools (λ k. get_or job.pools k 0) in
@@ -48,7 +49,7 @@ small_peaks_of_pass job plan goal within pass pool inside =
     omega arith
 
 pub small_peaks : (job : held.Job) (plan : Plan) (goal : ℕ) → Passed (job_in job) → (c : Checked)
-    → c ≡ checked_of (first (step_rows (job_in job) goal (steps_of plan))) (steps_of plan) → (e : ℕ) → c ≡ Ends e
+    → c ≡ checked_of (first (step_rows (job_in job) goal (steps_of plan))) (steps_of plan) → (e : ℕ) → c ≡ Ok e
     → SmallPeaks job plan
 small_peaks job plan goal within c checked e ends =
     small_peaks_of_pass job plan goal within

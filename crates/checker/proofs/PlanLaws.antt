@@ -7,8 +7,9 @@ use lib.ListN.{length}
 use Rattle.lists.proofs.Tabulate.{length_tabulate}
 use Rattle.job.specs.declared.Job as held
 use Rattle.job.specs.declared.refusal.Refusal.{Refusal}
-use Rattle.job.specs.declared.refusal.Verdict.{Verdict}
-use Rattle.job.specs.declared.refusal.Verdict.TheVariants.{Pass, Refused}
+use Rattle.job.specs.Refusal.{Verdict}
+use Rattle.std.specs.Prelude.{Ok, Err}
+use Rattle.job.specs.Refusal.{pass}
 use Rattle.job.specs.Job.{Job, job_in}
 use Rattle.job.specs.Refusal.{first}
 use Rattle.job.specs.Valid.{job_rows}
@@ -26,11 +27,11 @@ use Rattle.checker.specs.declared.CheckedPlan.{CheckedPlan}
 use Rattle.checker.specs.Check.{check_rows, check_plan, Checks, shape_day, checked_of, day_by, Decodes, ChecksPlan}
 
 day_by_checked : (v : Verdict) (J : Job) (P : List Step) → day_by (checked_of v P) (length P) (peaks J P) ≡ day_of v J P
-day_by_checked Pass J P = refl
-day_by_checked (Refused why) J P = refl
+day_by_checked (Ok _) J P = refl
+day_by_checked (Err why) J P = refl
 
 module _ (job : held.Job) (goal : ℕ) (bytes : List ℕ) (r : CheckedPlan) where
-  pub checks_refused : (why : Refusal) → r.day ≡ no_day why → first (plan_rows (job_in job) goal bytes) ≡ Refused why
+  pub checks_refused : (why : Refusal) → r.day ≡ no_day why → first (plan_rows (job_in job) goal bytes) ≡ Err why
       → ChecksPlan job goal bytes r
   checks_refused why d h =
       record {
@@ -43,7 +44,7 @@ module _ (job : held.Job) (goal : ℕ) (bytes : List ℕ) (r : CheckedPlan) wher
       → first (plan_rows (job_in job) goal bytes) ≡ first (step_rows (job_in job) goal (steps_in (job_in job) bytes))
       → (c : Checked) → c ≡ checked_of (first (step_rows (job_in job) goal (steps_of plan))) (steps_of plan)
       → r.day ≡ day_by c plan.length (peaks (job_in job) (steps_of plan))
-      → (r.day.verdict ≡ Pass → r.plan ≡ plan) → ChecksPlan job goal bytes r
+      → (r.day.verdict ≡ pass → r.plan ≡ plan) → ChecksPlan job goal bytes r
   checks_decoded plan decodes rows c checked day same =
       let J = job_in job in
       let count = length_tabulate plan.length (step_at plan) in
@@ -61,7 +62,7 @@ module _ (job : held.Job) (goal : ℕ) (bytes : List ℕ) (r : CheckedPlan) wher
 
 -- ---- tests 12 to 15 alone
 module _ (J : Job) (bytes : List ℕ) (r : Day) where
-  pub shape_refused : (why : Refusal) → r ≡ no_day why → first (shape_rows J bytes) ≡ Refused why → r ≡ shape_day J bytes
+  pub shape_refused : (why : Refusal) → r ≡ no_day why → first (shape_rows J bytes) ≡ Err why → r ≡ shape_day J bytes
   unfolding shape_day
   shape_refused why d h = d ∙ sym (ap (λ (v : Verdict). day_of v J (steps_in J bytes)) h)
 
@@ -88,13 +89,13 @@ module _ (J : Job) (bytes : List ℕ) (r : Day) where
         replies = rw answers (reply_of_day (first (check_rows J bytes)) J (steps_in J bytes));
       }
 
-  pub checks_refused_job : (why : Refusal) → r ≡ no_day why → first (job_rows J) ≡ Refused why → Checks J bytes r
+  pub checks_refused_job : (why : Refusal) → r ≡ no_day why → first (job_rows J) ≡ Err why → Checks J bytes r
   unfolding check_plan check_rows
   checks_refused_job why d h =
       checks_of_answer
       (d ∙ sym (ap (λ (v : Verdict). day_of v J (steps_in J bytes)) (first_append_refused (job_rows J) _ why h)))
 
-  pub checks_valid_job : first (job_rows J) ≡ Pass → r ≡ day_of (first (plan_rows J J.goal bytes)) J (steps_in J bytes)
+  pub checks_valid_job : first (job_rows J) ≡ pass → r ≡ day_of (first (plan_rows J J.goal bytes)) J (steps_in J bytes)
       → Checks J bytes r
   unfolding check_plan check_rows
   checks_valid_job h d =

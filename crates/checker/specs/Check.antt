@@ -7,8 +7,9 @@ use Rattle.job.specs.Job.{Job, job_in}
 use Rattle.job.specs.Refusal.{Row, ◌when◌, first, reply_by}
 use Rattle.job.specs.Valid.{limit_rows, job_rows}
 use Rattle.job.specs.declared.refusal.Refusal.TheVariants.{ForeignAskedFact}
-use Rattle.job.specs.declared.refusal.Verdict.{Verdict}
-use Rattle.job.specs.declared.refusal.Verdict.TheVariants.{Pass, Refused}
+use Rattle.job.specs.Refusal.{Verdict}
+use Rattle.std.specs.Prelude.{Ok, Err}
+use Rattle.job.specs.Refusal.{pass}
 use Rattle.timeline.specs.declared.Day.{Day}
 use Rattle.timeline.specs.declared.Plan.{Plan}
 use Rattle.timeline.specs.Step.{Step, steps_in}
@@ -17,7 +18,7 @@ use Rattle.timeline.specs.Accepted.{shape_rows, plan_rows}
 use Rattle.timeline.specs.Day.{told_of, tells, no_day, day_of, day_reply}
 use Rattle.timeline.specs.Value.{steps_of}
 use Rattle.checker.specs.declared.Checked.{Checked}
-use Rattle.checker.specs.declared.Checked.TheVariants as checked
+use Rattle.std.specs.Prelude.{Ok, Err}
 use Rattle.checker.specs.declared.CheckedPlan.{CheckedPlan}
 
 -- the tests of the job, then 12 to 20 of the plan with the job's goal
@@ -53,21 +54,21 @@ shape_day J bytes = day_of (first (shape_rows J bytes)) J (steps_in J bytes)
 
 -- a job value that passes its tests
 abbrev pub Valid : held.Job → Type 0
-Valid job = first (job_rows (job_in job)) ≡ Pass
+Valid job = first (job_rows (job_in job)) ≡ pass
 
 -- a job value within its limits
 abbrev pub Limited : held.Job → Type 0
-Limited job = first (limit_rows (job_in job)) ≡ Pass
+Limited job = first (limit_rows (job_in job)) ≡ pass
 
 -- tests 13 to 20 of a plan by value
 abbrev pub checked_of : Verdict → List Step → Checked
-checked_of Pass P = checked.Ends (end P)
-checked_of (Refused why) P = checked.Refused why
+checked_of (Ok _) P = Ok (end P)
+checked_of (Err why) P = Err why
 
 -- the day of a plan with so many steps and these peaks
 abbrev pub day_by : Checked → ℕ → List ℕ → Day
-day_by (checked.Ends e) steps peaks = tells (record { end = e; steps = steps; peaks = peaks })
-day_by (checked.Refused why) steps peaks = no_day why
+day_by (Ok e) steps peaks = tells (record { end = e; steps = steps; peaks = peaks })
+day_by (Err why) steps peaks = no_day why
 
 -- no peak of the plan is more than 32 steps can use together
 abbrev pub SmallPeaks : held.Job → Plan → Type 0
@@ -83,4 +84,4 @@ pub record Decodes (job : held.Job) (bytes : List ℕ) (plan : Plan) : Type 0 wh
 -- tests 12 to 20 of the bytes; the plan of those that pass
 pub record ChecksPlan (job : held.Job) (goal : ℕ) (bytes : List ℕ) (r : CheckedPlan) : Type 0 where
   pub day : r.day ≡ day_of (first (plan_rows (job_in job) goal bytes)) (job_in job) (steps_in (job_in job) bytes)
-  pub plan : r.day.verdict ≡ Pass → Decodes job bytes r.plan
+  pub plan : r.day.verdict ≡ pass → Decodes job bytes r.plan

@@ -11,7 +11,7 @@ use Rattle.timeline.specs.Accepted.{lacks_need}
 use Rattle.timeline.specs.Value.{steps_of}
 use Rattle.checker.specs.declared.clock.Clock.{Clock}
 use Rattle.checker.specs.declared.watch.Watched.{Watched}
-use Rattle.checker.specs.declared.watch.Watched.TheVariants.{NeedMissing, Done}
+use Rattle.std.specs.Prelude.{Ok, Err}
 
 -- the step starts at the clock's minute and lacks a fact that it needs
 abbrev pub lacks_at : Clock → Step → Bool

@@ -11,8 +11,9 @@ use Rattle.job.specs.Refusal.{Row, first, ◌when◌, returned}
 use Rattle.job.specs.Valid.{job_rows}
 use Rattle.job.specs.declared.refusal.Refusal.{Refusal}
 use Rattle.job.specs.declared.refusal.Refusal.TheVariants.{ForeignAskedFact}
-use Rattle.job.specs.declared.refusal.Verdict.{Verdict}
-use Rattle.job.specs.declared.refusal.Verdict.TheVariants.{Pass, Refused}
+use Rattle.job.specs.Refusal.{Verdict}
+use Rattle.std.specs.Prelude.{Ok, Err}
+use Rattle.job.specs.Refusal.{pass}
 use Rattle.job.proofs.Passed.{passed}
 use Rattle.job.proofs.Table.{first_here, first_next, first_none, first_append_pass, first_append_refused}
 use Rattle.times.specs.Time.{Time, at, unreachable}
@@ -39,18 +40,18 @@ module _ (J : Job) (set : ℕ) where
       → Answers J set r
   answers_by v e r h = rw e h
 
-  pub answers_refused_job : (why : Refusal) → first (job_rows J) ≡ Refused why → Answers J set (answer.Refused why)
+  pub answers_refused_job : (why : Refusal) → first (job_rows J) ≡ Err why → Answers J set (Err why)
   answers_refused_job why e =
-      answers_by (Refused why) (first_append_refused (job_rows J) last why e) (answer.Refused why) (refl, refl)
+      answers_by (Err why) (first_append_refused (job_rows J) last why e) (Err why) (refl, refl)
 
-  pub answers_foreign : first (job_rows J) ≡ Pass → foreign J.facts set ≡ true
-      → Answers J set (answer.Refused ForeignAskedFact)
+  pub answers_foreign : first (job_rows J) ≡ pass → foreign J.facts set ≡ true
+      → Answers J set (Err ForeignAskedFact)
   answers_foreign e f =
-      answers_by (Refused ForeignAskedFact)
+      answers_by (Err ForeignAskedFact)
       (first_append_pass (job_rows J) last e ∙ first_here ForeignAskedFact (foreign J.facts set) [] f)
-      (answer.Refused ForeignAskedFact) (refl, refl)
+      (Err ForeignAskedFact) (refl, refl)
 
-  pub answers_time : first (job_rows J) ≡ Pass → foreign J.facts set ≡ false → (xs : List ℕ) → Filled J xs
+  pub answers_time : first (job_rows J) ≡ pass → foreign J.facts set ≡ false → (xs : List ℕ) → Filled J xs
       → (n : ℕ) → SameTime n (set_number xs set J.facts) → (r : EarliestTime)
       → r ≡ answer_of (cond (ltb 530400 n) unreachable (at n)) → Answers J set r
   answers_time e f xs filled n g r h =
@@ -60,7 +61,7 @@ module _ (J : Job) (set : ℕ) where
       let pass = first_append_pass (job_rows J) last e
       ∙ first_next ForeignAskedFact (foreign J.facts set) [] f
       ∙ first_none in
-      answers_by Pass pass r (
+      answers_by pass pass r (
         (table_in xs, filled.solves),
         λ T solves.
             let told : r ≡ answer_of (time_of J T set) =

@@ -7,8 +7,8 @@ use Rattle.facts.specs.FactSet.{Subset}
 use Rattle.job.specs.Job.{Job}
 use Rattle.job.specs.Refusal.{first}
 use Rattle.job.specs.Valid.{job_rows}
-use Rattle.job.specs.declared.refusal.Verdict.{Verdict}
-use Rattle.job.specs.declared.refusal.Verdict.TheVariants.{Pass}
+use Rattle.job.specs.Refusal.{Verdict}
+use Rattle.job.specs.Refusal.{pass}
 use Rattle.job.proofs.Table.{pass_of_append}
 use Rattle.timeline.specs.Step.{steps_in}
 use Rattle.timeline.specs.Timeline.{end, held}
@@ -20,8 +20,8 @@ use Rattle.earliest.specs.Answer.{answer_of, earliest_rows, AnswersBy, Answers}
 
 -- a set that is not refused, and holds together at a minute of a plan that passes 12 to 19: the answer is a number, and
 -- not above that minute
-pub answer_is_firm : (J : Job) (set : ℕ) (r : EarliestTime) → Answers J set r → first (earliest_rows J set) ≡ Pass
-    → (bytes : List ℕ) → first (run_rows J bytes) ≡ Pass → (t : ℕ) → t ≤ end (steps_in J bytes)
+pub answer_is_firm : (J : Job) (set : ℕ) (r : EarliestTime) → Answers J set r → first (earliest_rows J set) ≡ pass
+    → (bytes : List ℕ) → first (run_rows J bytes) ≡ pass → (t : ℕ) → t ≤ end (steps_in J bytes)
     → Subset set (held J.start (steps_in J bytes) t) → (x : ℕ) × (r ≡ answer.At x) × (x ≤ t)
 answer_is_firm J set r answers passes bytes runs t l holds =
     let by = subst (λ (v : Verdict). AnswersBy v J set r) passes answers in

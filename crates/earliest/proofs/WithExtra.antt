@@ -10,7 +10,7 @@ use lib.Seq.{get_or-append-add}
 use Rattle.lists.specs.Lists.{tabulate}
 use Rattle.lists.proofs.Tabulate.{length_tabulate, get_d_tabulate}
 use Rattle.job.specs.declared.Job as held
-use Rattle.job.specs.declared.refusal.Verdict.TheVariants.{Pass}
+use Rattle.job.specs.Refusal.{pass}
 use Rattle.job.specs.Job.{Action, Job, job_in, action_at, beyond, no_action}
 use Rattle.job.specs.Refusal.{first}
 use Rattle.job.specs.Valid.{job_rows}
@@ -25,7 +25,7 @@ pub with_no_extra : (job : held.Job) → with_extra job no_extra ≡ job_in job
 unfolding tabulate
 with_no_extra job = ap (with_actions (job_in job)) (append-nil (job_in job).actions)
 
-pub fits_with_no_extra : (job : held.Job) (extra : Extra) → extra ≡ no_extra → first (job_rows (job_in job)) ≡ Pass
+pub fits_with_no_extra : (job : held.Job) (extra : Extra) → extra ≡ no_extra → first (job_rows (job_in job)) ≡ pass
     → AllFit job extra
 fits_with_no_extra job extra none passes =
     let count : extra.count ≡ 0 = ap (λ (e : Extra). e.count) none in

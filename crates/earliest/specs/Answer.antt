@@ -6,8 +6,9 @@ use Rattle.job.specs.Job.{Job}
 use Rattle.job.specs.Refusal.{Row, ◌when◌, number, first, Reply, refused, returned}
 use Rattle.job.specs.Valid.{job_rows}
 use Rattle.job.specs.declared.refusal.Refusal.TheVariants.{ForeignAskedFact}
-use Rattle.job.specs.declared.refusal.Verdict.{Verdict}
-use Rattle.job.specs.declared.refusal.Verdict.TheVariants.{Pass, Refused}
+use Rattle.job.specs.Refusal.{Verdict}
+use Rattle.std.specs.Prelude.{Ok, Err}
+use Rattle.job.specs.Refusal.{pass}
 use Rattle.times.specs.Time.{Time, at, unreachable}
 use Rattle.times.specs.Earliest.{Table, time_of, Solves}
 use Rattle.earliest.specs.declared.EarliestTime.{EarliestTime}
@@ -26,15 +27,15 @@ answer_of unreachable = answer.Unreachable
 abbrev pub time_reply : EarliestTime → Reply Time
 time_reply (answer.At x) = returned (at x)
 time_reply answer.Unreachable = returned unreachable
-time_reply (answer.Refused why) = refused (number why)
+time_reply (Err why) = refused (number why)
 
 -- the first refusal that holds. Otherwise "only one table solves this": there is one, and by every table that solves
 -- the equations the answer is the time of the set
 abbrev pub AnswersBy : Verdict → Job → ℕ → EarliestTime → Type 0
-AnswersBy Pass J set r =
+AnswersBy (Ok _) J set r =
     ((T : Table) × Solves J T)
     × ((T : Table) → Solves J T → (r ≡ answer_of (time_of J T set)) × (time_reply r ≡ returned (time_of J T set)))
-AnswersBy (Refused why) J set r = (r ≡ answer.Refused why) × (time_reply r ≡ refused (number why))
+AnswersBy (Err why) J set r = (r ≡ Err why) × (time_reply r ≡ refused (number why))
 
 abbrev pub Answers : Job → ℕ → EarliestTime → Type 0
 Answers J set r = AnswersBy (first (earliest_rows J set)) J set r

@@ -14,7 +14,7 @@ use Rattle.lists.proofs.Bools.{or_left, or_right}
 use Rattle.lists.proofs.Tabulate.{each_map, length_tabulate, get_d_tabulate, tabulate_same}
 use Rattle.job.specs.declared.Job as held
 use Rattle.job.specs.declared.refusal.Refusal.TheVariants.{UseBeyond}
-use Rattle.job.specs.declared.refusal.Verdict.TheVariants.{Pass}
+use Rattle.job.specs.Refusal.{pass}
 use Rattle.job.specs.Job.{Action, Job, job_in}
 use Rattle.job.specs.Lengths.{shortest_of}
 use Rattle.job.specs.Refusal.{first}
@@ -52,7 +52,7 @@ fits_still J a h =
     let whole = allowed_whole J.rule (get_or J.stores store 0) in
     le-ltb (store_cap (without_reserve J) store) (store_amount J store a) (omega arith)))
 
-limits_still : (J : Job) → first (limit_rows J) ≡ Pass → first (limit_rows (without_reserve J)) ≡ Pass
+limits_still : (J : Job) → first (limit_rows J) ≡ pass → first (limit_rows (without_reserve J)) ≡ pass
 unfolding limit_rows action_rows shortest_of
 limits_still J h =
     let t3 = first_pass _ _ _ h in
@@ -64,7 +64,7 @@ limits_still J h =
     ∙ first_next _ _ _ t5.0
     ∙ first_next _ _ _ refl ∙ t31.1
 
-passes_without_reserve : (J : Job) → first (job_rows J) ≡ Pass → first (job_rows (without_reserve J)) ≡ Pass
+passes_without_reserve : (J : Job) → first (job_rows J) ≡ pass → first (job_rows (without_reserve J)) ≡ pass
 unfolding job_rows
 passes_without_reserve J h =
     let rows = pass_of_append (limit_rows J) _ h in
@@ -75,10 +75,10 @@ passes_without_reserve J h =
     (each_map (λ a e. fits_still J a e) J.actions (any_none (uses_beyond J) J.actions all)))
     ∙ first_none
 
-pub valid_without_reserve : (job : held.Job) → first (job_rows (job_in job)) ≡ Pass
-    → first (job_rows (job_in (unreserved_value job))) ≡ Pass
+pub valid_without_reserve : (job : held.Job) → first (job_rows (job_in job)) ≡ pass
+    → first (job_rows (job_in (unreserved_value job))) ≡ pass
 valid_without_reserve job h =
-    subst (λ (J : Job). first (job_rows J) ≡ Pass) (sym (job_in_unreserved job)) (passes_without_reserve (job_in job) h)
+    subst (λ (J : Job). first (job_rows J) ≡ pass) (sym (job_in_unreserved job)) (passes_without_reserve (job_in job) h)
 
 -- ---- the day of the task
 -- the job of the afternoon, with these stores
@@ -116,7 +116,7 @@ day_of_afternoon job plan task start left =
 
 -- ---- the task fits
 pub afternoon_fits : (job : held.Job) (plan : Plan) (task : Task) → LeavesTask job plan task
-    → first (job_rows (job_in job)) ≡ Pass → EachStep (OfJob (job_in job)) (steps_of plan)
+    → first (job_rows (job_in job)) ≡ pass → EachStep (OfJob (job_in job)) (steps_of plan)
     → EachStep (λ x. x.number < length (job_in job).actions) (steps_of plan)
     → TaskFits (day_of (unreserved_value job) task) task
 unfolding tabulate

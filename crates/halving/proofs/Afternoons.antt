@@ -24,7 +24,7 @@ use Rattle.job.specs.Lengths.{shortest_of}
 use Rattle.job.specs.Valid.{over, action_rows, limit_rows, job_rows}
 use Rattle.job.specs.declared.StoreRule.{StoreRule}
 use Rattle.job.specs.declared.StoreRule.TheVariants.{PerStep, PerHour}
-use Rattle.job.specs.declared.refusal.Verdict.TheVariants.{Pass}
+use Rattle.job.specs.Refusal.{pass}
 use Rattle.job.proofs.Table.{first_next, first_pass}
 use Rattle.job.proofs.Passed.{within_limits}
 use Rattle.job.proofs.Rows.{limits_of_pass}
@@ -110,7 +110,7 @@ cap_small J passed store l =
     let most = each_at (λ x. x ≤ 1000000) J.stores 0 passed.stores store l in
     omega arith
 
-module _ (J : Job) (P : List Step) (valid : first (limit_rows J) ≡ Pass) (own : EachStep (OfJob J) P)
+module _ (J : Job) (P : List Step) (valid : first (limit_rows J) ≡ pass) (own : EachStep (OfJob J) P)
     (known : EachStep (λ x. x.number < length J.actions) P) where
   left_within : Within J.facts (afternoon J P).start
   left_within =
@@ -135,7 +135,7 @@ module _ (J : Job) (P : List Step) (valid : first (limit_rows J) ≡ Pass) (own 
       le-ltb 1000000 (get_or (tabulate n (left_of J P)) k 0) (omega arith)))
 
   -- tests 3 to 11, 27, 29 and 31; 26 may refuse it
-  pub afternoon_limits : first (limit_rows (afternoon J P)) ≡ Pass
+  pub afternoon_limits : first (limit_rows (afternoon J P)) ≡ pass
   unfolding limit_rows action_rows shortest_of
   afternoon_limits =
       let t3 = first_pass _ _ _ valid in
@@ -161,11 +161,11 @@ module _ (J : Job) (P : List Step) (valid : first (limit_rows J) ≡ Pass) (own 
       ∙ t7.1
 
 -- behind an accepted plan
-pub afternoon_within : (J : Job) → first (job_rows J) ≡ Pass → (halfway : ℕ) (A : List Step)
+pub afternoon_within : (J : Job) → first (job_rows J) ≡ pass → (halfway : ℕ) (A : List Step)
     → Accepted J halfway (plan_bytes A) → steps_in J (plan_bytes A) ≡ A → Passed (afternoon J A)
 afternoon_within J valid halfway A accepted same =
     let P = steps_in J (plan_bytes A) in
     let known = (accepted_steps J halfway P (steps_of_accepted J halfway (plan_bytes A) accepted)).known in
     within_limits (afternoon J A)
-    (subst (λ (R : List Step). first (limit_rows (afternoon J R)) ≡ Pass) same
+    (subst (λ (R : List Step). first (limit_rows (afternoon J R)) ≡ pass) same
     (afternoon_limits J P (limits_of_pass J valid) (steps_in_bytes J (plan_bytes A)) known))

@@ -9,8 +9,9 @@ use Rattle.job.specs.Refusal.{first}
 use Rattle.job.specs.Valid.{job_rows}
 use Rattle.job.specs.declared.refusal.Refusal.{Refusal}
 use Rattle.job.specs.declared.refusal.Refusal.TheVariants.{NoPlan}
-use Rattle.job.specs.declared.refusal.Verdict.{Verdict}
-use Rattle.job.specs.declared.refusal.Verdict.TheVariants.{Pass, Refused}
+use Rattle.job.specs.Refusal.{Verdict}
+use Rattle.std.specs.Prelude.{Ok, Err}
+use Rattle.job.specs.Refusal.{pass}
 use Rattle.job.proofs.Table.{pass_of_append}
 use Rattle.timeline.specs.Step.{Step}
 use Rattle.timeline.specs.Day.{day_of}
@@ -32,7 +33,7 @@ answered v J P slice answer after told left =
 -- the first plans A and B of both lists, and the day joined from them
 pub record DayOfHalves (First : FirstOf) (J : Job) (halfway : ℕ) (slice : List ℕ) (answer : Day) (after : List ℕ)
     : Type 0 where
-  pub valid : first (job_rows J) ≡ Pass
+  pub valid : first (job_rows J) ≡ pass
   pub A : List Step
   pub first_half : First J halfway A
   pub B : List Step
@@ -41,13 +42,13 @@ pub record DayOfHalves (First : FirstOf) (J : Job) (halfway : ℕ) (slice : List
 
 pub record RefusedHalves (J : Job) (slice : List ℕ) (answer : Day) (after : List ℕ) : Type 0 where
   pub why : Refusal
-  pub told : Answered (Refused why) J [] slice answer after
+  pub told : Answered (Err why) J [] slice answer after
 
 module _ (First : FirstOf) (J : Job) (halfway : ℕ) (slice : List ℕ) (answer : Day) (after : List ℕ) where
   abbrev Either : Type 0
   Either = DayOfHalves First J halfway slice answer after ⊎ RefusedHalves J slice answer after
 
-  with_second : first (job_rows J) ≡ Pass → (A : List Step) → First J halfway A → (m : Makespan)
+  with_second : first (job_rows J) ≡ pass → (A : List Step) → First J halfway A → (m : Makespan)
       → WithFirst First m (afternoon J A) J.goal
       (λ B. JoinedHalves J (join_steps (largest_handover J) A B) slice answer after) (NoHalf J slice answer after)
       → Either
@@ -55,7 +56,7 @@ module _ (First : FirstOf) (J : Job) (halfway : ℕ) (slice : List ℕ) (answer 
       inl (record { valid = valid; A = A; first_half = first_A; B = B; second_half = first_B; joined = joined })
   with_second valid A first_A no_plan none = inr (record { why = NoPlan; told = none })
 
-  with_first : first (job_rows J) ≡ Pass → (m : Makespan)
+  with_first : first (job_rows J) ≡ pass → (m : Makespan)
       → WithFirst First m J halfway (λ A. SecondHalf First J A slice answer after) (NoHalf J slice answer after)
       → Either
   with_first valid (ends_at e) (A, first_A, rest) =
@@ -64,8 +65,8 @@ module _ (First : FirstOf) (J : Job) (halfway : ℕ) (slice : List ℕ) (answer 
 
   by_verdict : (v : Verdict) → first (halves_rows J halfway slice) ≡ v → HalvesBy v First J halfway slice answer after
       → Either
-  by_verdict Pass e p = with_first (pass_of_append (job_rows J) _ e).0 (makespan J halfway) p
-  by_verdict (Refused why) e p = inr (record { why = why; told = p })
+  by_verdict (Ok _) e p = with_first (pass_of_append (job_rows J) _ e).0 (makespan J halfway) p
+  by_verdict (Err why) e p = inr (record { why = why; told = p })
 
   pub day_or_refused : Halves First J halfway slice answer after
       → DayOfHalves First J halfway slice answer after ⊎ RefusedHalves J slice answer after

@@ -8,8 +8,9 @@ use native.Mathlib.Omega.{arith}
 use Rattle.job.specs.Job.{Job}
 use Rattle.job.specs.Refusal.{◌when◌, first}
 use Rattle.job.specs.declared.refusal.Refusal.TheVariants.{JoinedTooLong}
-use Rattle.job.specs.declared.refusal.Verdict.{Verdict}
-use Rattle.job.specs.declared.refusal.Verdict.TheVariants.{Pass, Refused}
+use Rattle.job.specs.Refusal.{Verdict}
+use Rattle.std.specs.Prelude.{Ok, Err}
+use Rattle.job.specs.Refusal.{pass}
 use Rattle.job.proofs.Table.{first_pass}
 use Rattle.timeline.specs.declared.Day.{Day}
 use Rattle.timeline.specs.Step.{Step}
@@ -26,11 +27,11 @@ module _ (J : Job) (halfway : ℕ) (slice : List ℕ) (answer : Day) (after : Li
     where
       by_verdict : (v : Verdict) → first (JoinedTooLong when too_long J P ∷ []) ≡ v → answer ≡ day_of v J P
           → answer.steps ≤ 32
-      by_verdict Pass e h =
+      by_verdict (Ok _) e h =
           let few = few_unless_too_long J P (first_pass _ _ _ e).0 in
           let count = ap (λ (d : Day). d.steps) h in
           omega arith
-      by_verdict (Refused why) e h = few_without_day why answer h
+      by_verdict (Err why) e h = few_without_day why answer h
 
   pub halves_steps_are_few : Halves FirstListed J halfway slice answer after → answer.steps ≤ 32
   halves_steps_are_few halves =

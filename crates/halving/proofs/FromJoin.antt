@@ -8,8 +8,8 @@ use Rattle.job.specs.Job.{Job}
 use Rattle.job.specs.Refusal.{◌when◌, first}
 use Rattle.job.specs.Valid.{job_rows}
 use Rattle.job.specs.declared.refusal.Refusal.TheVariants.{JoinedTooLong}
-use Rattle.job.specs.declared.refusal.Verdict.{Verdict}
-use Rattle.job.specs.declared.refusal.Verdict.TheVariants.{Pass}
+use Rattle.job.specs.Refusal.{Verdict}
+use Rattle.job.specs.Refusal.{pass}
 use Rattle.job.proofs.Table.{first_next, first_pass, pass_of_append}
 use Rattle.timeline.specs.Step.{Step, steps_in, plan_bytes}
 use Rattle.timeline.specs.Accepted.{order_rows, shape_rows, step_rows, plan_rows, Accepted}
@@ -24,7 +24,7 @@ use Rattle.halving.proofs.Afternoons.{afternoon_steps_in}
 use Rattle.halving.proofs.Answering.{answered}
 
 -- an accepted plan passes 12 to 15
-shape_of_accepted : (J : Job) (goal : ℕ) (bytes : List ℕ) → Accepted J goal bytes → first (shape_rows J bytes) ≡ Pass
+shape_of_accepted : (J : Job) (goal : ℕ) (bytes : List ℕ) → Accepted J goal bytes → first (shape_rows J bytes) ≡ pass
 unfolding plan_rows step_rows shape_rows
 shape_of_accepted J goal bytes h =
     let size = first_pass _ _ _ h in
@@ -36,7 +36,7 @@ shape_in_afternoon : (J : Job) (A : List Step) (bytes : List ℕ)
 unfolding shape_rows steps_in
 shape_in_afternoon J A bytes = refl
 
-pub halves_joined : (J : Job) → first (job_rows J) ≡ Pass → (halfway : ℕ) (A B : List Step)
+pub halves_joined : (J : Job) → first (job_rows J) ≡ pass → (halfway : ℕ) (A B : List Step)
     → Accepted J halfway (plan_bytes A) → steps_in J (plan_bytes A) ≡ A
     → Accepted (afternoon J A) J.goal (plan_bytes B) → steps_in (afternoon J A) (plan_bytes B) ≡ B
     → (slice : List ℕ) (answer : Day) (after : List ℕ) → 96 ≤ length slice

@@ -7,7 +7,7 @@ use native.Mathlib.Omega.{arith}
 use Rattle.lists.specs.Lists.{tabulate}
 use Rattle.facts.specs.FactSet.{foreign}
 use Rattle.job.specs.declared.Job as held
-use Rattle.job.specs.declared.refusal.Verdict.TheVariants.{Pass}
+use Rattle.job.specs.Refusal.{pass}
 use Rattle.job.specs.Job.{Job, job_in}
 use Rattle.job.specs.Refusal.{first}
 use Rattle.job.specs.Valid.{job_rows}
@@ -21,7 +21,7 @@ use Rattle.walker.specs.declared.page.Page.{Page}
 use Rattle.walker.specs.Page.{WholeTask, PageOf}
 
 module _ (job : held.Job) (halfway : ℕ) (task : Task) (is : task ≡ begun_day job halfway 0 no_steps) where
-  pub halfway_fits : first (job_rows (job_in job)) ≡ Pass → foreign job.facts halfway ≡ false
+  pub halfway_fits : first (job_rows (job_in job)) ≡ pass → foreign job.facts halfway ≡ false
       → TaskFits (day_of job task) task
   unfolding tabulate
   halfway_fits passes own =

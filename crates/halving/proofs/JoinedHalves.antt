@@ -8,7 +8,7 @@ use native.Mathlib.Omega.{arith}
 use Rattle.job.specs.Job.{Job}
 use Rattle.job.specs.Passed.{Passed}
 use Rattle.job.specs.Refusal.{first}
-use Rattle.job.specs.declared.refusal.Verdict.TheVariants.{Pass}
+use Rattle.job.specs.Refusal.{pass}
 use Rattle.timeline.specs.Step.{Step, steps_in, plan_bytes}
 use Rattle.timeline.specs.Timeline.{end}
 use Rattle.timeline.specs.Accepted.{Accepted, step_rows}
@@ -35,10 +35,10 @@ module _ (J : Job) (halfway goal : ℕ) (first_half_lem second_half_lem : List �
   abbrev B : List Step
   B = steps_in J second_half_lem
 
-  first_passes : first (step_rows J halfway A) ≡ Pass
+  first_passes : first (step_rows J halfway A) ≡ pass
   first_passes = steps_of_accepted J halfway first_half_lem first_accepted
 
-  second_passes : first (step_rows (afternoon J A) goal B) ≡ Pass
+  second_passes : first (step_rows (afternoon J A) goal B) ≡ pass
   second_passes =
       ap (λ (P : List Step). first (step_rows (afternoon J A) goal P))
       (sym (afternoon_steps_in J A second_half_lem))

@@ -13,7 +13,7 @@ use Rattle.facts.specs.FactSet.{has, Subset}
 use Rattle.job.specs.Job.{Job}
 use Rattle.job.specs.Refusal.{first}
 use Rattle.job.specs.Resources.{handover, store_cap}
-use Rattle.job.specs.declared.refusal.Verdict.TheVariants.{Pass}
+use Rattle.job.specs.Refusal.{pass}
 use Rattle.timeline.specs.Step.{Step, strictly_rising, any_pair}
 use Rattle.timeline.specs.Timeline.{end, held, in_use, store_use, used_up}
 use Rattle.timeline.specs.Accepted.{clashing, step_rows}
@@ -169,9 +169,9 @@ joined_accepted J halfway goal (x ∷ A) (y ∷ B) lasting_a lasting_b a b short
 
 -- the two halves joined pass tests 13 to 20
 pub joined_keeps : (J : Job) (halfway goal : ℕ) (A B : List Step) → Lasting A → Lasting B
-    → first (step_rows J halfway A) ≡ Pass → first (step_rows (afternoon J A) goal B) ≡ Pass
+    → first (step_rows J halfway A) ≡ pass → first (step_rows (afternoon J A) goal B) ≡ pass
     → too_long J (join_steps (largest_handover J) A B) ≡ false
-    → first (step_rows J goal (join_steps (largest_handover J) A B)) ≡ Pass
+    → first (step_rows J goal (join_steps (largest_handover J) A B)) ≡ pass
 joined_keeps J halfway goal A B lasting_a lasting_b first second short =
     steps_accepted J goal (join_steps (largest_handover J) A B)
     (joined_accepted J halfway goal A B lasting_a lasting_b (accepted_steps J halfway A first)

@@ -8,8 +8,9 @@ use Rattle.encoding.specs.Bytes.{overwrite}
 use Rattle.job.specs.Job.{Job}
 use Rattle.job.specs.Refusal.{◌when◌, first, refused}
 use Rattle.job.specs.declared.refusal.Refusal.TheVariants.{JoinedTooLong}
-use Rattle.job.specs.declared.refusal.Verdict.{Verdict}
-use Rattle.job.specs.declared.refusal.Verdict.TheVariants.{Pass, Refused}
+use Rattle.job.specs.Refusal.{Verdict}
+use Rattle.std.specs.Prelude.{Ok, Err}
+use Rattle.job.specs.Refusal.{pass}
 use Rattle.timeline.specs.Step.{Step, plan_bytes}
 use Rattle.timeline.specs.Accepted.{Accepted}
 use Rattle.timeline.specs.Day.{told_of, tells, day_of, day_reply}
@@ -35,41 +36,41 @@ same_answers v J P slice r s after then a b = (a.answers ∙ sym b.answers, a.le
 
 module _ (J : Job) (halfway : ℕ) (slice : List ℕ) (answer : Day) (after : List ℕ)
     (h : Halves FirstListed J halfway slice answer after) where
-  good : answer.verdict ≡ Pass → GoodDay J slice answer after
+  good : answer.verdict ≡ pass → GoodDay J slice answer after
   good pass = halves_are_good FirstListed first_listed_accepted J halfway slice answer after pass h
 
   -- "A day joined from two halves so planned must pass the checker": its bytes are accepted for the job's goal, and the
   -- checker tells the same of them
-  pub halves_pass_the_checker : answer.verdict ≡ Pass
+  pub halves_pass_the_checker : answer.verdict ≡ pass
       → (bytes : List ℕ) × (after ≡ overwrite slice 0 bytes) × Accepted J J.goal bytes ×
       (check_plan J bytes ≡ answer)
   halves_pass_the_checker pass =
       let day = good pass in (day.bytes, day.leaves, day.accepted, day.checked)
 
   -- "it never ends before the shortest whole day": there is one
-  pub halves_not_before_shortest : answer.verdict ≡ Pass
+  pub halves_not_before_shortest : answer.verdict ≡ pass
       → (e : ℕ) × (makespan J J.goal ≡ ends_at e) × (e ≤ answer.end)
   halves_not_before_shortest pass = (good pass).shortest
 
   -- the halves of a day that is handed out
-  halves_of : answer.verdict ≡ Pass → DayOfHalves FirstListed J halfway slice answer after
+  halves_of : answer.verdict ≡ pass → DayOfHalves FirstListed J halfway slice answer after
   halves_of pass =
       ⊎_elim (λ day. day)
       (λ none. absurd (refused_not_passed answer none.why none.told.answers pass))
       (day_or_refused FirstListed J halfway slice answer after h)
 
   -- the joined steps are told of, and stand at the front of the slice
-  joined_handed_out : answer.verdict ≡ Pass → (P : List Step) → JoinedHalves J P slice answer after
+  joined_handed_out : answer.verdict ≡ pass → (P : List Step) → JoinedHalves J P slice answer after
       → (answer ≡ tells (told_of J P)) × (after ≡ overwrite slice 0 (plan_bytes P))
   joined_handed_out pass P joined =
       let v = first (JoinedTooLong when too_long J P ∷ []) in
-      let passes : v ≡ Pass = sym (verdict_of_day v J P answer joined.answers) ∙ pass in (
+      let passes : v ≡ pass = sym (verdict_of_day v J P answer joined.answers) ∙ pass in (
         joined.answers ∙ ap (λ (w : Verdict). day_of w J P) passes,
         joined.leaves ∙ ap (λ (w : Verdict). left_by w P slice) passes,
       )
 
   -- "an empty half gives the other half": where the morning is empty, the afternoon's first plan
-  pub empty_morning : FirstListed J halfway [] → answer.verdict ≡ Pass
+  pub empty_morning : FirstListed J halfway [] → answer.verdict ≡ pass
       → (B : List Step) × FirstListed (afternoon J []) J.goal B × (answer ≡ tells (told_of J B))
       × (after ≡ overwrite slice 0 (plan_bytes B))
   unfolding join_steps
@@ -87,7 +88,7 @@ module _ (J : Job) (halfway : ℕ) (slice : List ℕ) (answer : Day) (after : Li
 
   -- and where the afternoon behind the morning's first plan is empty, that plan
   pub empty_afternoon : (A : List Step) → FirstListed J halfway A → FirstListed (afternoon J A) J.goal []
-      → answer.verdict ≡ Pass → (answer ≡ tells (told_of J A)) × (after ≡ overwrite slice 0 (plan_bytes A))
+      → answer.verdict ≡ pass → (answer ≡ tells (told_of J A)) × (after ≡ overwrite slice 0 (plan_bytes A))
   empty_afternoon A first_A nothing pass =
       let day = halves_of pass in
       let same : day.A ≡ A = one_plan_at_place J halfway 0 day.A A day.first_half first_A in
@@ -101,7 +102,7 @@ module _ (J : Job) (halfway : ℕ) (slice : List ℕ) (answer : Day) (after : Li
       (subst (λ (P : List Step). JoinedHalves J P slice answer after) alone day.joined)
 
   -- where no test before it refuses, by both halves
-  module _ (tested : first (halves_rows J halfway slice) ≡ Pass) where
+  module _ (tested : first (halves_rows J halfway slice) ≡ pass) where
     both : BothHalves FirstListed J halfway slice answer after
     both = subst (λ (v : Verdict). HalvesBy v FirstListed J halfway slice answer after) tested h
 
@@ -166,5 +167,5 @@ module _ (J : Job) (halfway : ℕ) (slice : List ℕ) (r s : Day) (after then : 
     where
       by_verdict : (v : Verdict) → HalvesBy v FirstListed J halfway slice r after
           → HalvesBy v FirstListed J halfway slice s then → (r ≡ s) × (after ≡ then)
-      by_verdict Pass a b = same_first (makespan J halfway) a b
-      by_verdict (Refused why) a b = same_answers _ J [] slice r s after then a b
+      by_verdict (Ok _) a b = same_first (makespan J halfway) a b
+      by_verdict (Err why) a b = same_answers _ J [] slice r s after then a b

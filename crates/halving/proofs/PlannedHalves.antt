@@ -13,8 +13,8 @@ use Rattle.job.specs.Passed.{Passed}
 use Rattle.job.specs.Refusal.{◌when◌, first}
 use Rattle.job.specs.Valid.{job_rows}
 use Rattle.job.specs.declared.refusal.Refusal.TheVariants.{JoinedTooLong}
-use Rattle.job.specs.declared.refusal.Verdict.{Verdict}
-use Rattle.job.specs.declared.refusal.Verdict.TheVariants.{Pass}
+use Rattle.job.specs.Refusal.{Verdict}
+use Rattle.job.specs.Refusal.{pass}
 use Rattle.job.proofs.Passed.{passed}
 use Rattle.job.proofs.Table.{first_pass, first_append_pass}
 use Rattle.timeline.specs.Step.{Step, steps_in, plan_bytes}
@@ -48,11 +48,11 @@ pub record GoodDay (J : Job) (slice : List ℕ) (answer : Day) (after : List ℕ
   pub shortest : (e : ℕ) × (makespan J J.goal ≡ ends_at e) × (e ≤ answer.end)
 
 module _ (First : FirstOf) (good : FirstAccepted First) (J : Job) (halfway : ℕ) (slice : List ℕ) (answer : Day)
-    (after : List ℕ) (pass : answer.verdict ≡ Pass) where
-  verdict_passes : (v : Verdict) (P : List Step) → Answered v J P slice answer after → v ≡ Pass
+    (after : List ℕ) (pass : answer.verdict ≡ pass) where
+  verdict_passes : (v : Verdict) (P : List Step) → Answered v J P slice answer after → v ≡ pass
   verdict_passes v P h = sym (verdict_of_day v J P answer h.answers) ∙ pass
 
-  module _ (valid : first (job_rows J) ≡ Pass) where
+  module _ (valid : first (job_rows J) ≡ pass) where
     accepted_checked : (bytes : List ℕ) → Accepted J J.goal bytes
         → check_plan J bytes ≡ tells (told_of J (steps_in J bytes))
     unfolding check_plan check_rows

@@ -12,7 +12,7 @@ use Rattle.job.specs.Passed.{Passed}
 use Rattle.job.specs.Refusal.{first}
 use Rattle.job.specs.Valid.{job_rows}
 use Rattle.job.specs.declared.refusal.Refusal.TheVariants.{NoPlan}
-use Rattle.job.specs.declared.refusal.Verdict.TheVariants.{Pass}
+use Rattle.job.specs.Refusal.{pass}
 use Rattle.job.proofs.Passed.{passed}
 use Rattle.timeline.specs.Step.{Step, steps_in, plan_bytes}
 use Rattle.timeline.specs.Accepted.{Accepted}
@@ -41,7 +41,7 @@ taken_inside (suc n) (x ∷ l) h =
     let r = taken_inside n l (omega arith) in
     omega arith
 
-module _ (J : Job) (halfway : ℕ) (slice : List ℕ) (valid : first (job_rows J) ≡ Pass)
+module _ (J : Job) (halfway : ℕ) (slice : List ℕ) (valid : first (job_rows J) ≡ pass)
     (own : foreign J.facts halfway ≡ false) (morning : Page) (of : PageOf J halfway 0 morning) where
   pub no_first : 96 ≤ length slice → morning.any ≡ false → (r : Day) → r ≡ no_day NoPlan
       → Halves FirstListed J halfway slice r slice

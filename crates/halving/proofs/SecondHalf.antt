@@ -7,7 +7,7 @@ use native.Mathlib.Omega.{arith}
 use lib.ListN.{length}
 use Rattle.lists.proofs.Tabulate.{length_tabulate}
 use Rattle.job.specs.declared.Job as held
-use Rattle.job.specs.declared.refusal.Verdict.TheVariants.{Pass}
+use Rattle.job.specs.Refusal.{pass}
 use Rattle.job.specs.Job.{Job, Fits, job_in}
 use Rattle.job.specs.Refusal.{first}
 use Rattle.job.specs.Resources.{store_cap}
@@ -35,7 +35,7 @@ use Rattle.halving.specs.Afternoon.{afternoon}
 use Rattle.halving.specs.Inner.{StoresSuffice, LeavesTask}
 use Rattle.halving.proofs.AfternoonTask.{afternoon_fits}
 
-module _ (job : held.Job) (halfway : ℕ) (bytes : List ℕ) (valid : first (job_rows (job_in job)) ≡ Pass)
+module _ (job : held.Job) (halfway : ℕ) (bytes : List ℕ) (valid : first (job_rows (job_in job)) ≡ pass)
     (accepted : Accepted (job_in job) halfway bytes) (checked : CheckedPlan)
     (told : ChecksPlan job halfway bytes checked)
   where

@@ -20,7 +20,7 @@ use Rattle.job.specs.Valid.{action_rows, limit_rows, uses_beyond, job_rows}
 use Rattle.job.specs.declared.Form.TheVariants.{Four, Five}
 use Rattle.job.specs.declared.StoreRule.TheVariants.{PerStep, PerHour}
 use Rattle.job.specs.declared.refusal.Refusal.TheVariants.{ForeignAskedFact, PlanSlice, JoinedTooLong}
-use Rattle.job.specs.declared.refusal.Verdict.TheVariants.{Pass}
+use Rattle.job.specs.Refusal.{pass}
 use Rattle.job.proofs.Passed.{passed}
 use Rattle.job.proofs.Table.{first_next, first_append_pass, first_none}
 use Rattle.timeline.specs.Places.{Place}
@@ -121,7 +121,7 @@ one_battery =
 abbrev quick : List Step
 quick = step_of one_battery 0 0 ∷ []
 
-passes : first (job_rows one_battery) ≡ Pass
+passes : first (job_rows one_battery) ≡ pass
 unfolding tabulate any has union difference subset meets foreign first action_rows limit_rows uses_beyond job_rows
     shortest_of store_amount store_cap handover
 passes = refl
@@ -178,7 +178,7 @@ own : foreign 2 1 ≡ false
 unfolding foreign
 own = refl
 
-tested : (slice : List ℕ) → 96 ≤ length slice → first (halves_rows one_battery 1 slice) ≡ Pass
+tested : (slice : List ℕ) → 96 ≤ length slice → first (halves_rows one_battery 1 slice) ≡ pass
 tested slice room =
     first_append_pass (job_rows one_battery) _ passes
     ∙ first_next ForeignAskedFact _ _ own

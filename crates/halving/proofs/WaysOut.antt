@@ -13,8 +13,9 @@ use Rattle.job.specs.Refusal.{first}
 use Rattle.job.specs.Valid.{job_rows}
 use Rattle.job.specs.declared.refusal.Refusal.{Refusal}
 use Rattle.job.specs.declared.refusal.Refusal.TheVariants.{ForeignAskedFact, PlanSlice, NoPlan}
-use Rattle.job.specs.declared.refusal.Verdict.{Verdict}
-use Rattle.job.specs.declared.refusal.Verdict.TheVariants.{Pass, Refused}
+use Rattle.job.specs.Refusal.{Verdict}
+use Rattle.std.specs.Prelude.{Ok, Err}
+use Rattle.job.specs.Refusal.{pass}
 use Rattle.job.proofs.Table.{first_here, first_next, first_append_pass, first_append_refused, first_none}
 use Rattle.timeline.specs.Step.{Step}
 use Rattle.timeline.specs.Day.{no_day}
@@ -32,24 +33,24 @@ module _ (First : FirstOf) (J : Job) (halfway : ℕ) (slice : List ℕ) (r : Day
   by_verdict v after e h = subst (λ (w : Verdict). HalvesBy w First J halfway slice r after) (sym e) h
 
   -- the refusal, and the slice as it was
-  refusal : (why : Refusal) → r ≡ no_day why → Answered (Refused why) J [] slice r slice
-  refusal why d = answered (Refused why) J [] slice r slice d refl
+  refusal : (why : Refusal) → r ≡ no_day why → Answered (Err why) J [] slice r slice
+  refusal why d = answered (Err why) J [] slice r slice d refl
 
-  pub halves_refused : (why : Refusal) → r ≡ no_day why → first (job_rows J) ≡ Refused why
+  pub halves_refused : (why : Refusal) → r ≡ no_day why → first (job_rows J) ≡ Err why
       → Halves First J halfway slice r slice
-  halves_refused why d h = by_verdict (Refused why) slice (first_append_refused (job_rows J) _ why h) (refusal why d)
+  halves_refused why d h = by_verdict (Err why) slice (first_append_refused (job_rows J) _ why h) (refusal why d)
 
-  module _ (valid : first (job_rows J) ≡ Pass) where
+  module _ (valid : first (job_rows J) ≡ pass) where
     pub halves_foreign : r ≡ no_day ForeignAskedFact → foreign J.facts halfway ≡ true
         → Halves First J halfway slice r slice
     halves_foreign d h =
-        by_verdict (Refused ForeignAskedFact) slice
+        by_verdict (Err ForeignAskedFact) slice
         (first_append_pass (job_rows J) _ valid ∙ first_here ForeignAskedFact _ _ h) (refusal ForeignAskedFact d)
 
     module _ (own : foreign J.facts halfway ≡ false) where
       pub halves_short_slice : r ≡ no_day PlanSlice → length slice < 96 → Halves First J halfway slice r slice
       halves_short_slice d short =
-          by_verdict (Refused PlanSlice) slice
+          by_verdict (Err PlanSlice) slice
           (first_append_pass (job_rows J) _ valid
           ∙ first_next ForeignAskedFact _ _ own
           ∙ first_here PlanSlice _ _ (lt-ltb (length slice) 96 short)) (refusal PlanSlice d)
@@ -59,7 +60,7 @@ module _ (First : FirstOf) (J : Job) (halfway : ℕ) (slice : List ℕ) (r : Day
             → WithFirst First m J halfway (λ A. SecondHalf First J A slice r after) (NoHalf J slice r after)
             → Halves First J halfway slice r after
         both after m e h =
-            by_verdict Pass after
+            by_verdict pass after
             (first_append_pass (job_rows J) _ valid
             ∙ first_next ForeignAskedFact _ _ own
             ∙ first_next PlanSlice _ [] (le-ltb (length slice) 96 room) ∙ first_none)

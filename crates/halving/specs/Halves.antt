@@ -6,8 +6,9 @@ use Rattle.job.specs.Job.{Job}
 use Rattle.job.specs.Refusal.{Row, ◌when◌, first, reply_by}
 use Rattle.job.specs.Valid.{job_rows}
 use Rattle.job.specs.declared.refusal.Refusal.TheVariants.{ForeignAskedFact, PlanSlice, NoPlan, JoinedTooLong}
-use Rattle.job.specs.declared.refusal.Verdict.{Verdict}
-use Rattle.job.specs.declared.refusal.Verdict.TheVariants.{Pass, Refused}
+use Rattle.job.specs.Refusal.{Verdict}
+use Rattle.std.specs.Prelude.{Ok, Err}
+use Rattle.job.specs.Refusal.{pass}
 use Rattle.timeline.specs.Step.{Step}
 use Rattle.timeline.specs.Day.{told_of, day_of, day_reply}
 use Rattle.timeline.specs.declared.Day.{Day}
@@ -49,7 +50,7 @@ WithFirst First no_plan J goal next none = none
 
 -- "Either half without a plan is 22, even where the whole day has one"
 abbrev pub NoHalf : Job → List ℕ → Day → List ℕ → Type 0
-NoHalf J slice answer after = Answered (Refused NoPlan) J [] slice answer after
+NoHalf J slice answer after = Answered (Err NoPlan) J [] slice answer after
 
 -- behind the steps A: "It then takes, likewise, the first for the real goal, from the facts and stores left, and joins
 -- them."
@@ -68,8 +69,8 @@ BothHalves First J halfway slice answer after =
 
 -- "Of the refusals that hold, the one standing first in the table is returned"; otherwise both halves
 abbrev pub HalvesBy : Verdict → FirstOf → Job → ℕ → List ℕ → Day → List ℕ → Type 0
-HalvesBy Pass First J halfway slice answer after = BothHalves First J halfway slice answer after
-HalvesBy (Refused why) First J halfway slice answer after = Answered (Refused why) J [] slice answer after
+HalvesBy (Ok _) First J halfway slice answer after = BothHalves First J halfway slice answer after
+HalvesBy (Err why) First J halfway slice answer after = Answered (Err why) J [] slice answer after
 
 -- the answer to a job, a halfway set and a slice, the papers' reply, and every byte that the slice then holds
 abbrev pub Halves : FirstOf → Job → ℕ → List ℕ → Day → List ℕ → Type 0

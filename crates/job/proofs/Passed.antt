@@ -15,7 +15,7 @@ use Rattle.lists.proofs.Bools.{or_left, or_right}
 use Rattle.lists.proofs.Tabulate.{each_map}
 use Rattle.facts.specs.FactSet.{foreign}
 use Rattle.facts.proofs.Membership.{within_word}
-use Rattle.job.specs.declared.refusal.Verdict.TheVariants.{Pass}
+use Rattle.job.specs.Refusal.{pass}
 use Rattle.job.specs.Job.{Action, Job, job_value}
 use Rattle.job.specs.Refusal.{first}
 use Rattle.job.specs.Lengths.{longest_of, shortest_of}
@@ -82,7 +82,7 @@ right_range J i h =
     (omega arith, ltb-false (longest_of J i) (shortest_of J i) (or_right zero _ h))
 
 -- what the limits say of a job; test 26 adds nothing to it
-pub within_limits : (J : Job) → first (limit_rows J) ≡ Pass → Passed J
+pub within_limits : (J : Job) → first (limit_rows J) ≡ pass → Passed J
 unfolding limit_rows action_rows
 within_limits J h =
     let t3 = first_pass _ _ _ h in
@@ -120,5 +120,5 @@ within_limits J h =
       ranges = λ i l. right_range J i (below_none (length J.actions) (has_wrong_range J) t29.0 i l);
     }
 
-pub passed : (J : Job) → first (job_rows J) ≡ Pass → Passed J
+pub passed : (J : Job) → first (job_rows J) ≡ pass → Passed J
 passed J h = within_limits J (limits_of_pass J h)

@@ -14,7 +14,7 @@ use Rattle.job.specs.declared.refusal.Refusal.TheVariants.{BodySizes, FactCount,
 use Rattle.job.specs.declared.refusal.Refusal.TheVariants.{Availability, HandoverOver, ReserveOver}
 use Rattle.job.specs.declared.Counts.{Counts}
 use Rattle.job.specs.Job.{Job, job_in, Fits}
-use Rattle.job.specs.declared.refusal.Verdict.TheVariants.{Pass}
+use Rattle.job.specs.Refusal.{pass}
 use Rattle.job.specs.Refusal.{Row, ◌when◌, first}
 use Rattle.job.proofs.Table.{first_pass, pass_of_append}
 use Rattle.job.specs.Valid.{over, action_rows, limit_rows, job_rows}
@@ -43,13 +43,13 @@ fits_of_counts n h =
       ltb-false 64 n.actions (or_right (over 4 n.pools || over 4 n.stores) (over 64 n.actions) h),
     )
 
-pub fits_of_limits : (j : held.Job) → first (limit_rows (job_in j)) ≡ Pass → Fits j.counts
+pub fits_of_limits : (j : held.Job) → first (limit_rows (job_in j)) ≡ pass → Fits j.counts
 fits_of_limits j h = fits_of_counts j.counts (first_pass BodySizes _ _ (sym (ap first (rows_of_value j)) ∙ h)).0
 
 -- a job that passes all its tests is within its limits
-pub limits_of_pass : (J : Job) → first (job_rows J) ≡ Pass → first (limit_rows J) ≡ Pass
+pub limits_of_pass : (J : Job) → first (job_rows J) ≡ pass → first (limit_rows J) ≡ pass
 unfolding job_rows
 limits_of_pass J h = (pass_of_append (limit_rows J) _ h).0
 
-pub fits_of_pass : (j : held.Job) → first (job_rows (job_in j)) ≡ Pass → Fits j.counts
+pub fits_of_pass : (j : held.Job) → first (job_rows (job_in j)) ≡ pass → Fits j.counts
 fits_of_pass j h = fits_of_limits j (limits_of_pass (job_in j) h)

@@ -4,11 +4,12 @@ use mathlib.Core.Path.{◌≡◌, refl}
 use mathlib.Core.Bool.{Bool, true, false}
 use mathlib.Core.List.{List, [], ◌∷◌, ◌++◌}
 use Rattle.job.specs.declared.refusal.Refusal.{Refusal}
-use Rattle.job.specs.declared.refusal.Verdict.TheVariants.{Pass, Refused}
+use Rattle.std.specs.Prelude.{Ok, Err}
+use Rattle.job.specs.Refusal.{pass}
 use Rattle.job.specs.Refusal.{Row, ◌when◌, first}
 
 pub first_here : (why : Refusal) (test : Bool) (rows : List Row) → test ≡ true → first (why when test ∷ rows)
-    ≡ Refused why
+    ≡ Err why
 unfolding first
 first_here why test rows h = rw h
 
@@ -18,27 +19,27 @@ unfolding first
 first_next why test rows h = rw h
 
 -- a table that passes has every row false
-pub first_pass : (why : Refusal) (test : Bool) (rows : List Row) → first (why when test ∷ rows) ≡ Pass
-    → (test ≡ false) × (first rows ≡ Pass)
+pub first_pass : (why : Refusal) (test : Bool) (rows : List Row) → first (why when test ∷ rows) ≡ pass
+    → (test ≡ false) × (first rows ≡ pass)
 unfolding first
 first_pass why true rows h = (cc, cc)
 first_pass why false rows h = (refl, h)
 
 -- one table before another
-pub first_append_pass : (rows more : List Row) → first rows ≡ Pass → first (rows ++ more) ≡ first more
+pub first_append_pass : (rows more : List Row) → first rows ≡ pass → first (rows ++ more) ≡ first more
 unfolding first
 first_append_pass [] more h = refl
 first_append_pass (why when true ∷ rows) more h = cc
 first_append_pass (why when false ∷ rows) more h = first_append_pass rows more h
 
-pub first_append_refused : (rows more : List Row) (why : Refusal) → first rows ≡ Refused why
-    → first (rows ++ more) ≡ Refused why
+pub first_append_refused : (rows more : List Row) (why : Refusal) → first rows ≡ Err why
+    → first (rows ++ more) ≡ Err why
 unfolding first
 first_append_refused [] more why h = cc
 first_append_refused (w when true ∷ rows) more why h = h
 first_append_refused (w when false ∷ rows) more why h = first_append_refused rows more why h
 
-pub pass_of_append : (rows more : List Row) → first (rows ++ more) ≡ Pass → (first rows ≡ Pass) × (first more ≡ Pass)
+pub pass_of_append : (rows more : List Row) → first (rows ++ more) ≡ pass → (first rows ≡ pass) × (first more ≡ pass)
 unfolding first
 pass_of_append [] more h = (refl, h)
 pass_of_append (why when true ∷ rows) more h = (h, cc)
@@ -53,6 +54,6 @@ first_append_row [] why false h = refl
 first_append_row (w when true ∷ rows) why test h = refl
 first_append_row (w when false ∷ rows) why test h = first_append_row rows why test h
 
-pub first_none : first [] ≡ Pass
+pub first_none : first [] ≡ pass
 unfolding first
 first_none = refl

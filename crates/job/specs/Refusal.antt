@@ -1,10 +1,8 @@
 -- The refusals: the number of each, the first of a table that holds, and the reply that it makes.
 -- Assumes nothing.
-use Rattle.std.specs.Prelude.{ℕ, Bool, true, false, List, [], ◌∷◌}
+use Rattle.std.specs.Prelude.{ℕ, Bool, true, false, List, [], ◌∷◌, Result, Ok, Err}
 use Rattle.job.specs.declared.refusal.Refusal.{Refusal}
 use Rattle.job.specs.declared.refusal.Refusal.TheVariants as why
-use Rattle.job.specs.declared.refusal.Verdict.{Verdict}
-use Rattle.job.specs.declared.refusal.Verdict.TheVariants.{Pass, Refused}
 
 infix 75 ◌when◌
 -- the column "No." of the table
@@ -45,14 +43,21 @@ number why.PoolUnlike = 33
 number why.JoinedTooLong = 34
 number why.NoPlanWithKept = 35
 
+-- what a test of a whole table answers: that none holds, or the first refusal that does
+abbrev pub Verdict : Type 0
+Verdict = Result Unit Refusal
+
+abbrev pub pass : Verdict
+pass = Ok tt
+
 -- a row of the table: the refusal, and whether it holds
 pub data Row : Type 0 where
   ◌when◌ : Refusal → Bool → Row
 
 -- "Of the refusals that hold, the one standing first in the table is returned, alone."
 unfoldable pub first : List Row → Verdict
-first [] = Pass
-first (why when true ∷ rows) = Refused why
+first [] = pass
+first (why when true ∷ rows) = Err why
 first (why when false ∷ rows) = first rows
 
 -- a reply as the papers name it: a refusal by its number, or what the call returns
@@ -62,5 +67,5 @@ pub data Reply (A : Type 0) : Type 0 where
 
 -- the first refusal that holds, "alone", or else what the call returns
 abbrev pub reply_by : {A : Type 0} → Verdict → A → Reply A
-reply_by Pass value = returned value
-reply_by (Refused why) value = refused (number why)
+reply_by (Ok _) value = returned value
+reply_by (Err why) value = refused (number why)

@@ -1,8 +1,8 @@
-// The refusals by name, in the order of document 01's table, then those of document 02; `number` gives their numbers.
+// The refusals by name, in the order of document 01's table, then those of document 02. As a byte, a refusal is its number.
 ghost use Rattle.std.specs.Prelude.{◌≡◌};
 ghost use Rattle.job.specs.Refusal.{number};
 
-#[derive(Clone, Copy)]
+#[derive(Clone, Copy, PartialEq, Eq)]
 pub enum Refusal {
     // the file's contents
     FileSize,
@@ -59,52 +59,47 @@ pub enum Refusal {
     NoPlanWithKept,
 }
 
-// What a test of a whole table answers: the first refusal that holds, or none.
-#[derive(Clone, Copy)]
-pub enum Verdict {
-    Pass,
-    Refused(Refusal),
-}
-
 // The refusal's number in the table.
-pub fn number(refusal: Refusal) -> u8
-    ensures { result ≡ number refusal }
-{
-    match refusal {
-        Refusal::FileSize => 1,
-        Refusal::Offsets => 2,
-        Refusal::BodySizes => 3,
-        Refusal::FactCount => 4,
-        Refusal::Deadline => 5,
-        Refusal::ForeignFact => 6,
-        Refusal::Availability => 7,
-        Refusal::ZeroDuration => 8,
-        Refusal::ForeignActionFact => 9,
-        Refusal::AddedAndDeleted => 10,
-        Refusal::ActionUse => 11,
-        Refusal::PlanSize => 12,
-        Refusal::UnknownAction => 13,
-        Refusal::StepOrder => 14,
-        Refusal::AfterDeadline => 15,
-        Refusal::Clash => 16,
-        Refusal::PoolExceeded => 17,
-        Refusal::StoreExceeded => 18,
-        Refusal::NeedMissing => 19,
-        Refusal::GoalMissing => 20,
-        Refusal::PlanSlice => 21,
-        Refusal::NoPlan => 22,
-        Refusal::FileSlice => 23,
-        Refusal::ForeignAskedFact => 24,
-        Refusal::RateOver => 25,
-        Refusal::UseBeyond => 26,
-        Refusal::HandoverOver => 27,
-        Refusal::ListEnded => 28,
-        Refusal::ShortestLength => 29,
-        Refusal::TrueLengths => 30,
-        Refusal::ReserveOver => 31,
-        Refusal::PoolTooLarge => 32,
-        Refusal::PoolUnlike => 33,
-        Refusal::JoinedTooLong => 34,
-        Refusal::NoPlanWithKept => 35,
+impl From<Refusal> for u8 {
+    ghost from_gives = { λ why result. result ≡ number why };
+
+    fn from(why: Refusal) -> u8 {
+        match why {
+            Refusal::FileSize => 1,
+            Refusal::Offsets => 2,
+            Refusal::BodySizes => 3,
+            Refusal::FactCount => 4,
+            Refusal::Deadline => 5,
+            Refusal::ForeignFact => 6,
+            Refusal::Availability => 7,
+            Refusal::ZeroDuration => 8,
+            Refusal::ForeignActionFact => 9,
+            Refusal::AddedAndDeleted => 10,
+            Refusal::ActionUse => 11,
+            Refusal::PlanSize => 12,
+            Refusal::UnknownAction => 13,
+            Refusal::StepOrder => 14,
+            Refusal::AfterDeadline => 15,
+            Refusal::Clash => 16,
+            Refusal::PoolExceeded => 17,
+            Refusal::StoreExceeded => 18,
+            Refusal::NeedMissing => 19,
+            Refusal::GoalMissing => 20,
+            Refusal::PlanSlice => 21,
+            Refusal::NoPlan => 22,
+            Refusal::FileSlice => 23,
+            Refusal::ForeignAskedFact => 24,
+            Refusal::RateOver => 25,
+            Refusal::UseBeyond => 26,
+            Refusal::HandoverOver => 27,
+            Refusal::ListEnded => 28,
+            Refusal::ShortestLength => 29,
+            Refusal::TrueLengths => 30,
+            Refusal::ReserveOver => 31,
+            Refusal::PoolTooLarge => 32,
+            Refusal::PoolUnlike => 33,
+            Refusal::JoinedTooLong => 34,
+            Refusal::NoPlanWithKept => 35,
+        }
     }
 }

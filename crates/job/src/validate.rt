@@ -5,7 +5,7 @@ ghost use Rattle.job.specs.Job.{action_in, job_in, Fits};
 ghost use Rattle.job.specs.Refusal.{first};
 ghost use Rattle.job.specs.Valid.{over, breaks, broken_where, either_broken, action_rows, limit_rows, job_rows};
 
-use crate::refusal::{Refusal, Verdict};
+use crate::refusal::Refusal;
 use crate::{Action, Counts, Job, beyond, lengths, wide};
 
 // Which of tests 8, 9, 10 and 11 fail: true for each that does.
@@ -95,31 +95,31 @@ fn any_broken(job: Job) -> Broken
 }
 
 // The first of tests 8, 29 and 9 to 11 that fails.
-fn validate_actions(job: Job) -> Verdict
+fn validate_actions(job: Job) -> Result<(), Refusal>
     requires { Fits job.counts }
     ensures { result ≡ first (action_rows (job_in job)) }
 {
     let broken = any_broken(job);
     if broken.duration {
-        return Verdict::Refused(Refusal::ZeroDuration);
+        return Err(Refusal::ZeroDuration);
     }
     if lengths::any_wrong_range(job) {
-        return Verdict::Refused(Refusal::ShortestLength);
+        return Err(Refusal::ShortestLength);
     }
     if broken.facts {
-        return Verdict::Refused(Refusal::ForeignActionFact);
+        return Err(Refusal::ForeignActionFact);
     }
     if broken.effects {
-        return Verdict::Refused(Refusal::AddedAndDeleted);
+        return Err(Refusal::AddedAndDeleted);
     }
     if broken.uses {
-        return Verdict::Refused(Refusal::ActionUse);
+        return Err(Refusal::ActionUse);
     }
-    Verdict::Pass
+    Ok(())
 }
 
 // The first of its limits, tests 3 to 11, 27, 29 and 31, that the job fails. Of what is left of a day no more is asked.
-pub fn validate_limits(job: Job) -> Verdict
+pub fn validate_limits(job: Job) -> Result<(), Refusal>
     ensures { result ≡ first (limit_rows (job_in job)) }
 {
     let counts = job.counts;
@@ -132,41 +132,38 @@ pub fn validate_limits(job: Job) -> Verdict
         | (Job::STORES < counts.stores)
         | (Job::ACTIONS < counts.actions)
     {
-        return Verdict::Refused(Refusal::BodySizes);
+        return Err(Refusal::BodySizes);
     }
     if Job::FACTS < job.facts {
-        return Verdict::Refused(Refusal::FactCount);
+        return Err(Refusal::FactCount);
     }
     if Job::DEADLINE < job.deadline {
-        return Verdict::Refused(Refusal::Deadline);
+        return Err(Refusal::Deadline);
     }
     if Job::RESERVE < rule.reserve(job.reserve) {
-        return Verdict::Refused(Refusal::ReserveOver);
+        return Err(Refusal::ReserveOver);
     }
     if facts::foreign(job.facts, job.start) | facts::foreign(job.facts, job.goal) {
-        return Verdict::Refused(Refusal::ForeignFact);
+        return Err(Refusal::ForeignFact);
     }
     if any_over(Job::AVAILABILITY, pools, counts.pools)
         | any_over(Job::AVAILABILITY, stores, counts.stores)
     {
-        return Verdict::Refused(Refusal::Availability);
+        return Err(Refusal::Availability);
     }
     if any_too_long(handovers, form.handovers(counts.pools)) {
-        return Verdict::Refused(Refusal::HandoverOver);
+        return Err(Refusal::HandoverOver);
     }
     validate_actions(job)
 }
 
 // The first of its tests that the job fails. Every call that is handed a job value begins with it.
-pub fn validate(job: Job) -> Verdict
+pub fn validate(job: Job) -> Result<(), Refusal>
     ensures { result ≡ first (job_rows (job_in job)) }
 {
-    let verdict = validate_limits(job);
-    if let Verdict::Refused(why) = verdict {
-        return Verdict::Refused(why);
-    }
+    validate_limits(job)?;
     if beyond::any_beyond(job) {
-        return Verdict::Refused(Refusal::UseBeyond);
+        return Err(Refusal::UseBeyond);
     }
-    Verdict::Pass
+    Ok(())
 }

@@ -14,8 +14,9 @@ use Rattle.job.specs.Valid.{job_rows}
 use Rattle.job.specs.declared.Job as held
 use Rattle.job.specs.declared.refusal.Refusal.{Refusal}
 use Rattle.job.specs.declared.refusal.Refusal.TheVariants.{FileSize, Offsets, BodySizes}
-use Rattle.job.specs.declared.refusal.Verdict.{Verdict}
-use Rattle.job.specs.declared.refusal.Verdict.TheVariants.{Pass, Refused}
+use Rattle.job.specs.Refusal.{Verdict}
+use Rattle.std.specs.Prelude.{Ok, Err}
+use Rattle.job.specs.Refusal.{pass}
 use Rattle.job.proofs.Table.{first_here, first_next, first_pass}
 use Rattle.job.proofs.Values.{few_handovers_lem, few_shortest_lem}
 use Rattle.jobfile.specs.declared.Reading.{Reading}
@@ -27,7 +28,7 @@ use Rattle.jobfile.proofs.DecodeLaws.{value_holds_decoded}
 
 -- the answer to a file that is refused
 abbrev pub refused_with : Refusal → Reading
-refused_with why = record { verdict = Refused why; job = zero_value }
+refused_with why = record { verdict = Err why; job = zero_value }
 
 pub right_size : (file : List ℕ) → 4 * entries_in file ≤ length file → length file ≤ 4096 → wrong_size file ≡ false
 right_size file l h = rw (le-ltb (length file) (4 * entries_in file) l, le-ltb 4096 (length file) h)
@@ -40,7 +41,7 @@ file_rows_pass file t1 t2 t3 =
     first_next FileSize _ _ t1 ∙ first_next Offsets _ _ (ap not t2) ∙ first_next BodySizes _ _ t3
 
 -- and a file that passes all tests passes those
-pub passes_laid : (file : List ℕ) → first (read_rows file) ≡ Pass → Laid file × (first (job_rows (decoded file)) ≡ Pass)
+pub passes_laid : (file : List ℕ) → first (read_rows file) ≡ pass → Laid file × (first (job_rows (decoded file)) ≡ pass)
 unfolding read_rows file_rows
 passes_laid file h =
     let t1 = first_pass _ _ _ h in
@@ -55,18 +56,18 @@ reading file v h = ap (λ (v : Verdict). reading_of v (decoded file)) h
 module _ (file : List ℕ) where
   pub read_wrong_size : wrong_size file ≡ true → read_file file ≡ refused_with FileSize
   unfolding read_rows file_rows
-  read_wrong_size h = reading file (Refused FileSize) (first_here FileSize _ _ h)
+  read_wrong_size h = reading file (Err FileSize) (first_here FileSize _ _ h)
 
   pub read_offsets : wrong_size file ≡ false → in_order file ≡ false → read_file file ≡ refused_with Offsets
   unfolding read_rows file_rows
   read_offsets t1 h =
-      reading file (Refused Offsets) (first_next FileSize _ _ t1 ∙ first_here Offsets _ _ (ap not h))
+      reading file (Err Offsets) (first_next FileSize _ _ t1 ∙ first_here Offsets _ _ (ap not h))
 
   pub read_body_sizes : wrong_size file ≡ false → in_order file ≡ true → missized (layout_in file) ≡ true
       → read_file file ≡ refused_with BodySizes
   unfolding read_rows file_rows
   read_body_sizes t1 t2 h =
-      reading file (Refused BodySizes)
+      reading file (Err BodySizes)
       (first_next FileSize _ _ t1 ∙ first_next Offsets _ _ (ap not t2) ∙ first_here BodySizes _ _ h)
 
   -- a file that passes tests 1 to 3: the answer is that of validating the decoded value
@@ -78,10 +79,10 @@ module _ (file : List ℕ) where
         (file_rows_pass file t1 t2 t3
         ∙ ap (λ (J : Job). first (job_rows J)) (sym (value_holds_decoded file (laid file t2 t3) j e)))
 
-    pub read_refused : (why : Refusal) → first (job_rows (job_in j)) ≡ Refused why → read_file file ≡ refused_with why
+    pub read_refused : (why : Refusal) → first (job_rows (job_in j)) ≡ Err why → read_file file ≡ refused_with why
     read_refused why h = read_validated ∙ ap (λ (v : Verdict). reading_of v (decoded file)) h
 
-    pub read_passed : first (job_rows (job_in j)) ≡ Pass → read_file file ≡ record { verdict = Pass; job = j }
+    pub read_passed : first (job_rows (job_in j)) ≡ pass → read_file file ≡ record { verdict = pass; job = j }
     read_passed h = read_validated ∙ ap (λ (v : Verdict). reading_of v (decoded file)) h ∙ rw e
 
 -- ── the slices that begin at a, b, c, d, e and g are the bodies ──
@@ -155,5 +156,5 @@ reads_of_answer file r e =
     record { answers = e; replies = rw e (reply_of_reading (first (read_rows file)) (decoded file)) }
   where
     reply_of_reading : (v : Verdict) (J : Job) → read_reply (reading_of v J) ≡ reply_by v (job_value J)
-    reply_of_reading Pass J = refl
-    reply_of_reading (Refused why) J = refl
+    reply_of_reading (Ok _) J = refl
+    reply_of_reading (Err why) J = refl

@@ -18,7 +18,7 @@ use Rattle.job.specs.Job.{Job, entries}
 use Rattle.job.specs.Refusal.{first}
 use Rattle.job.specs.declared.Form.{Form}
 use Rattle.job.specs.declared.Form.TheVariants.{Four, Five, Six}
-use Rattle.job.specs.declared.refusal.Verdict.TheVariants.{Pass}
+use Rattle.job.specs.Refusal.{pass}
 use Rattle.jobfile.specs.File.{reserve_bytes, head_bytes, amount_bytes, action_bytes, minute_bytes, extra_bodies}
 use Rattle.jobfile.specs.File.{file_of_bodies, file_of, form_in, entries_in, body_in, action_size, action_of, job_of}
 use Rattle.jobfile.specs.File.{bodies, offset, size, body, rule_of, decoded}
@@ -127,7 +127,7 @@ module _ (file : List ℕ) (h : Bytes file) (l : Laid file) where
       (numbers_again 1 handovers (omega arith) (body_bytes file h 4) (omega arith))
       (numbers_again 1 shortest (omega arith) (body_bytes file h 5) (omega arith)))
 
-pub read_write : (file : List ℕ) → Bytes file → first (read_rows file) ≡ Pass → file_of (decoded file) ≡ file
+pub read_write : (file : List ℕ) → Bytes file → first (read_rows file) ≡ pass → file_of (decoded file) ≡ file
 unfolding file_of
 read_write file h passes =
     let l = (passes_laid file passes).0 in

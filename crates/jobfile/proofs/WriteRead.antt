@@ -12,7 +12,7 @@ use Rattle.job.specs.Valid.{job_rows}
 use Rattle.job.specs.Passed.{Passed}
 use Rattle.job.specs.declared.Form.{Form}
 use Rattle.job.specs.declared.Form.TheVariants.{Four, Five, Six}
-use Rattle.job.specs.declared.refusal.Verdict.TheVariants.{Pass}
+use Rattle.job.specs.Refusal.{pass}
 use Rattle.job.proofs.Passed.{passed}
 use Rattle.job.proofs.Values.{Shape}
 use Rattle.jobfile.specs.File.{amount_bytes, bodies, file_of, form_of, form_in, entries_in, action_size}
@@ -75,8 +75,8 @@ module _ (J : Job) (h : Shape J) (f : Passed J) where
       rw (body 0, body 1, body 2, body 3, body 4, body 5) in
       said ∙ ap (λ (form : Form). job_of_bodies form (bodies J)) form_read ∙ bodies_read J h d f
 
-pub write_read : (J : Job) → Shape J → Each (λ a. a.duration < 256) J.actions → first (job_rows J) ≡ Pass
-    → (first (read_rows (file_of J)) ≡ Pass) × (decoded (file_of J) ≡ J)
+pub write_read : (J : Job) → Shape J → Each (λ a. a.duration < 256) J.actions → first (job_rows J) ≡ pass
+    → (first (read_rows (file_of J)) ≡ pass) × (decoded (file_of J) ≡ J)
 write_read J h d passes =
     let f = passed J passes in
     let file = file_of J in

@@ -7,11 +7,12 @@ use Rattle.job.specs.Job.{Job, job_value, zero_value}
 use Rattle.job.specs.Refusal.{Row, ◌when◌, number, first, Reply, refused, returned, reply_by}
 use Rattle.job.specs.Valid.{job_rows}
 use Rattle.job.specs.declared.refusal.Refusal.TheVariants.{FileSlice}
-use Rattle.job.specs.declared.refusal.Verdict.{Verdict}
-use Rattle.job.specs.declared.refusal.Verdict.TheVariants.{Pass, Refused}
+use Rattle.job.specs.Refusal.{Verdict}
+use Rattle.std.specs.Prelude.{Ok, Err}
+use Rattle.job.specs.Refusal.{pass}
 use Rattle.jobfile.specs.declared.Reading.{Reading}
 use Rattle.jobfile.specs.declared.Written.{Written}
-use Rattle.jobfile.specs.declared.Written.TheVariants as written
+use Rattle.std.specs.Prelude.{Ok, Err}
 use Rattle.jobfile.specs.File.{file_of, decoded, file_rows}
 
 -- ── reading ──
@@ -22,8 +23,8 @@ read_rows file = file_rows file ++ job_rows (decoded file)
 
 -- "the reader returns the job"; "a job standing beside a refusal is all zero"
 abbrev pub reading_of : Verdict → Job → Reading
-reading_of Pass J = record { verdict = Pass; job = job_value J }
-reading_of (Refused why) J = record { verdict = Refused why; job = zero_value }
+reading_of (Ok _) J = record { verdict = pass; job = job_value J }
+reading_of (Err why) J = record { verdict = Err why; job = zero_value }
 
 unfoldable pub read_file : List ℕ → Reading
 read_file file = reading_of (first (read_rows file)) (decoded file)
@@ -45,21 +46,21 @@ write_rows J slice = job_rows J ++ (FileSlice when ltb (length slice) (length (f
 
 -- "the writer returns the file's length"
 abbrev pub written_of : Verdict → Job → Written
-written_of Pass J = written.Length (length (file_of J))
-written_of (Refused why) J = written.Refused why
+written_of (Ok _) J = Ok (length (file_of J))
+written_of (Err why) J = Err why
 
 unfoldable pub write_file : Job → List ℕ → Written
 write_file J slice = written_of (first (write_rows J slice)) J
 
 -- the papers' reply: the number of the refusal, or the file's length
 abbrev pub written_reply : Written → Reply ℕ
-written_reply (written.Length n) = returned n
-written_reply (written.Refused why) = refused (number why)
+written_reply (Ok n) = returned n
+written_reply (Err why) = refused (number why)
 
 -- "and writes only so much"; "no slice changes" after a refusal
 abbrev pub left_of : Verdict → Job → List ℕ → List ℕ
-left_of Pass J slice = overwrite slice 0 (file_of J)
-left_of (Refused why) J slice = slice
+left_of (Ok _) J slice = overwrite slice 0 (file_of J)
+left_of (Err why) J slice = slice
 
 unfoldable pub left_by_write : Job → List ℕ → List ℕ
 left_by_write J slice = left_of (first (write_rows J slice)) J slice

@@ -14,8 +14,8 @@ use Rattle.job.specs.Passed.{Passed}
 use Rattle.job.specs.Refusal.{first}
 use Rattle.job.specs.Resources.{handover}
 use Rattle.job.specs.Valid.{over}
-use Rattle.job.specs.declared.refusal.Verdict.{Verdict}
-use Rattle.job.specs.declared.refusal.Verdict.TheVariants.{Pass}
+use Rattle.job.specs.Refusal.{Verdict}
+use Rattle.job.specs.Refusal.{pass}
 use Rattle.timeline.specs.Step.{steps_in, plan_bytes}
 use Rattle.timeline.specs.Timeline.{end, largest_below}
 use Rattle.timeline.specs.Accepted.{shape_rows}
@@ -56,8 +56,8 @@ module _ (J : Job) (bytes : List ℕ) (x : Day) (checked : x ≡ shape_day J byt
   unfolding shape_day
   shape_verdict = verdict_of_day (first (shape_rows J bytes)) J (steps_in J bytes) x checked
 
-  module _ (passes : x.verdict ≡ Pass) where
-    pub shape_passes : first (shape_rows J bytes) ≡ Pass
+  module _ (passes : x.verdict ≡ pass) where
+    pub shape_passes : first (shape_rows J bytes) ≡ pass
     shape_passes = sym shape_verdict ∙ passes
 
     shape_told : x ≡ tells (told_of J (steps_in J bytes))
@@ -85,8 +85,8 @@ module _ (J : Job) (bytes : List ℕ) (x : Day) (checked : x ≡ shape_day J byt
 
 -- ---- both
 module _ (J : Job) (a b : List ℕ) (x y d : Day) (minutes : ℕ) (passed : Passed J)
-    (first_told : x ≡ shape_day J a) (IsFirst-passes : x.verdict ≡ Pass)
-    (second_told : y ≡ shape_day J b) (second_passes : y.verdict ≡ Pass)
+    (first_told : x ≡ shape_day J a) (IsFirst-passes : x.verdict ≡ pass)
+    (second_told : y ≡ shape_day J b) (second_passes : y.verdict ≡ pass)
     (starts : minutes ≡ offset (largest_handover J) x.steps x.end) where
   starts_after : minutes ≡ offset (largest_handover J) (length (steps_in J a)) (end (steps_in J a))
   starts_after =

@@ -7,8 +7,9 @@ use native.Mathlib.Omega.{arith}
 use Rattle.job.specs.Job.{Job}
 use Rattle.job.specs.Refusal.{first}
 use Rattle.job.specs.Valid.{job_rows}
-use Rattle.job.specs.declared.refusal.Verdict.{Verdict}
-use Rattle.job.specs.declared.refusal.Verdict.TheVariants.{Pass, Refused}
+use Rattle.job.specs.Refusal.{Verdict}
+use Rattle.std.specs.Prelude.{Ok, Err}
+use Rattle.job.specs.Refusal.{pass}
 use Rattle.job.proofs.Table.{first_pass, pass_of_append}
 use Rattle.timeline.specs.declared.Day.{Day}
 use Rattle.timeline.specs.Accepted.{shape_rows}
@@ -25,10 +26,10 @@ joined_steps_are_few J a b slice answer told = by_verdict (first (join_rows J a 
   where
     by_verdict : (v : Verdict) → first (join_rows J a b slice) ≡ v → answer ≡ day_of v J (joined_steps J a b)
         → answer.steps ≤ 32
-    by_verdict Pass e h =
+    by_verdict (Ok _) e h =
         let plans = (pass_of_append (job_rows J) _ e).1 in
         let rest = (pass_of_append (shape_rows J b) _ (pass_of_append (shape_rows J a) _ plans).1).1 in
         let few = few_unless_too_long J (joined_steps J a b) (first_pass _ _ _ (first_pass _ _ _ rest).1).0 in
         let count = ap (λ (d : Day). d.steps) h in
         omega arith
-    by_verdict (Refused why) e h = few_without_day why answer h
+    by_verdict (Err why) e h = few_without_day why answer h

@@ -14,8 +14,8 @@ use Rattle.job.specs.Job.{Job}
 use Rattle.job.specs.Refusal.{◌when◌, first}
 use Rattle.job.specs.Valid.{job_rows}
 use Rattle.job.specs.declared.refusal.Refusal.TheVariants.{JoinedTooLong}
-use Rattle.job.specs.declared.refusal.Verdict.{Verdict}
-use Rattle.job.specs.declared.refusal.Verdict.TheVariants.{Pass}
+use Rattle.job.specs.Refusal.{Verdict}
+use Rattle.job.specs.Refusal.{pass}
 use Rattle.job.proofs.Table.{first_next, first_append_pass}
 use Rattle.job.proofs.Passed.{passed}
 use Rattle.timeline.specs.Step.{Step, steps_in, plan_bytes}
@@ -68,9 +68,9 @@ abbrev pub answer_by : Job → Joined → List ℕ → Called
 answer_by J (day P) slice = record { answer = tells (told_of J P); after = overwrite slice 0 (plan_bytes P) }
 answer_by J day_too_long slice = record { answer = no_day JoinedTooLong; after = slice }
 
-module _ (J : Job) (valid : first (job_rows J) ≡ Pass) where
+module _ (J : Job) (valid : first (job_rows J) ≡ pass) where
   -- where all tests before 34 pass, it decides
-  pub rows_pass : (a b slice : List ℕ) → first (shape_rows J a) ≡ Pass → first (shape_rows J b) ≡ Pass
+  pub rows_pass : (a b slice : List ℕ) → first (shape_rows J a) ≡ pass → first (shape_rows J b) ≡ pass
       → 96 ≤ length slice
       → first (join_rows J a b slice) ≡ first (JoinedTooLong when too_long J (joined_steps J a b) ∷ [])
   rows_pass a b slice pa pb l =
@@ -80,7 +80,7 @@ module _ (J : Job) (valid : first (job_rows J) ≡ Pass) where
       ∙ first_next _ _ _ (le-ltb (length slice) 96 l)
 
   -- for plans that pass 12 to 15 and a slice of 96 bytes or more a call answers by the join of the steps
-  pub call_joins : (a b slice : List ℕ) → first (shape_rows J a) ≡ Pass → first (shape_rows J b) ≡ Pass
+  pub call_joins : (a b slice : List ℕ) → first (shape_rows J a) ≡ pass → first (shape_rows J b) ≡ pass
       → 96 ≤ length slice
       → join_call J a b slice ≡ answer_by J (join J (largest_handover J) (steps_in J a) (steps_in J b)) slice
   unfolding join_answer left_by_join join first
@@ -97,9 +97,9 @@ module _ (J : Job) (valid : first (job_rows J) ≡ Pass) where
       by_test false P = refl
 
   -- a call with the plan of another call, on either side of it
-  then_call_lem : (a b room slice : List ℕ) → first (shape_rows J a) ≡ Pass → first (shape_rows J b) ≡ Pass
+  then_call_lem : (a b room slice : List ℕ) → first (shape_rows J a) ≡ pass → first (shape_rows J b) ≡ pass
       → 96 ≤ length room → (next : List ℕ → Called) (more : List Step → Joined)
-      → ((p : List ℕ) → first (shape_rows J p) ≡ Pass → next p ≡ answer_by J (more (steps_in J p)) slice)
+      → ((p : List ℕ) → first (shape_rows J p) ≡ pass → next p ≡ answer_by J (more (steps_in J p)) slice)
       → then_call (join_call J a b room) next slice
       ≡ answer_by J (and_then (join J (largest_handover J) (steps_in J a) (steps_in J b)) more) slice
   then_call_lem a b room slice pa pb l next more calls =
@@ -112,7 +112,7 @@ module _ (J : Job) (valid : first (job_rows J) ≡ Pass) where
       go (day P) e =
           let found = day_of_join J (largest_handover J) (steps_in J a) (steps_in J b) P e in
           let shape = joined_passes_shape J (largest_handover J) a b (passed J valid) pa pb found.1 in
-          let pass : first (shape_rows J (plan_bytes P)) ≡ Pass
+          let pass : first (shape_rows J (plan_bytes P)) ≡ pass
           = ap (λ (R : List Step). first (shape_rows J (plan_bytes R))) found.0 ∙ shape.0 in
           let same : steps_in J (plan_bytes P) ≡ P
           = ap (λ (R : List Step). steps_in J (plan_bytes R)) found.0 ∙ shape.1 ∙ sym found.0 in
@@ -122,8 +122,8 @@ module _ (J : Job) (valid : first (job_rows J) ≡ Pass) where
 
   -- "Joining first with second and then the third shall give the same bytes, or the same 34, as joining the first with
   -- what the other two give": the same answer, and the same bytes in the slice of the last call
-  pub join_calls_associate : (a b c left right slice : List ℕ) → first (shape_rows J a) ≡ Pass
-      → first (shape_rows J b) ≡ Pass → first (shape_rows J c) ≡ Pass
+  pub join_calls_associate : (a b c left right slice : List ℕ) → first (shape_rows J a) ≡ pass
+      → first (shape_rows J b) ≡ pass → first (shape_rows J c) ≡ pass
       → 96 ≤ length left → 96 ≤ length right → 96 ≤ length slice
       → then_call (join_call J a b left) (λ p. join_call J p c slice) slice
       ≡ then_call (join_call J b c right) (λ p. join_call J a p slice) slice
@@ -141,7 +141,7 @@ module _ (J : Job) (valid : first (job_rows J) ≡ Pass) where
   abbrev pub hands_out : List ℕ → List ℕ → Called
   hands_out a slice = record { answer = tells (told_of J (steps_in J a)); after = overwrite slice 0 a }
 
-  empty_passes : first (shape_rows J []) ≡ Pass
+  empty_passes : first (shape_rows J []) ≡ pass
   unfolding shape_rows first steps_in any tabulate
   empty_passes = refl
 
@@ -159,7 +159,7 @@ module _ (J : Job) (valid : first (job_rows J) ≡ Pass) where
       ap (λ (R : List Step). unless_too_long J (join_steps (largest_handover J) A R)) e
       ∙ ap (unless_too_long J) (nothing_behind (largest_handover J) A)
 
-  alone : (a slice : List ℕ) → first (shape_rows J a) ≡ Pass → Bytes a
+  alone : (a slice : List ℕ) → first (shape_rows J a) ≡ pass → Bytes a
       → answer_by J (unless_too_long J (steps_in J a)) slice ≡ hands_out a slice
   alone a slice pa small =
       ap {B = Called}
@@ -171,7 +171,7 @@ module _ (J : Job) (valid : first (job_rows J) ≡ Pass) where
       answers bytes = record { answer = tells (told_of J (steps_in J a)); after = overwrite slice 0 bytes }
 
   -- "The empty plan on either side changes nothing."
-  pub empty_changes_nothing : (a slice : List ℕ) → first (shape_rows J a) ≡ Pass → Bytes a → 96 ≤ length slice
+  pub empty_changes_nothing : (a slice : List ℕ) → first (shape_rows J a) ≡ pass → Bytes a → 96 ≤ length slice
       → (join_call J [] a slice ≡ hands_out a slice) × (join_call J a [] slice ≡ hands_out a slice)
   empty_changes_nothing a slice pa small l = (
     call_joins [] a slice empty_passes pa l

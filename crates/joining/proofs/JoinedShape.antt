@@ -19,7 +19,7 @@ use Rattle.job.specs.Job.{Job}
 use Rattle.job.specs.Passed.{Passed}
 use Rattle.job.specs.Refusal.{first}
 use Rattle.job.specs.Valid.{over}
-use Rattle.job.specs.declared.refusal.Verdict.TheVariants.{Pass}
+use Rattle.job.specs.Refusal.{pass}
 use Rattle.job.proofs.Table.{first_next, first_pass, first_none}
 use Rattle.timeline.specs.Step.{Step, step_in, steps_in, step_bytes, plan_bytes, before, strictly_rising}
 use Rattle.timeline.specs.Timeline.{end}
@@ -47,7 +47,7 @@ pub record OrderedSteps (J : Job) (P : List Step) : Type 0 where
   pub rising : strictly_rising P ≡ true
   pub before_deadline : EachStep (λ x. x.stop ≤ J.deadline) P
 
-pub ordered_steps : (J : Job) (P : List Step) → first (order_rows J P) ≡ Pass → OrderedSteps J P
+pub ordered_steps : (J : Job) (P : List Step) → first (order_rows J P) ≡ pass → OrderedSteps J P
 ordered_steps J P h =
     let t13 = first_pass _ _ _ h in
     let t14 = first_pass _ _ _ t13.1 in
@@ -58,7 +58,7 @@ ordered_steps J P h =
       before_deadline = λ x Q i. ltb-false J.deadline x.stop (none_of_any _ P t15.0 x Q i);
     }
 
-pub order_passes : (J : Job) (P : List Step) → OrderedSteps J P → first (order_rows J P) ≡ Pass
+pub order_passes : (J : Job) (P : List Step) → OrderedSteps J P → first (order_rows J P) ≡ pass
 order_passes J P k =
     first_next _ _ _ (any_of_none (unknown J) P (λ x Q i. lt-leb (length J.actions) x.number (k.known x Q i)))
     ∙ first_next _ _ _ (ap not k.rising)
@@ -66,7 +66,7 @@ order_passes J P k =
     ∙ first_none
 
 -- ---- bytes that pass 12 to 15
-module _ (J : Job) (bytes : List ℕ) (pass : first (shape_rows J bytes) ≡ Pass) where
+module _ (J : Job) (bytes : List ℕ) (pass : first (shape_rows J bytes) ≡ pass) where
   pub size_passes : wrong_size bytes ≡ false
   unfolding shape_rows
   size_passes = (first_pass _ _ _ pass).0
@@ -120,7 +120,7 @@ module _ (J : Job) (bytes : List ℕ) (pass : first (shape_rows J bytes) ≡ Pas
 
 -- ---- steps that pass 13 to 15, at most 32 of them, in bytes
 pub shape_of_steps : (J : Job) (P : List Step) → Passed J → EachStep (OfJob J) P → OrderedSteps J P → length P ≤ 32
-    → (first (shape_rows J (plan_bytes P)) ≡ Pass) × (steps_in J (plan_bytes P) ≡ P)
+    → (first (shape_rows J (plan_bytes P)) ≡ pass) × (steps_in J (plan_bytes P) ≡ P)
 unfolding shape_rows
 shape_of_steps J P passed own k few =
     let lasting = lasting_of_known J P passed own k.known in
@@ -157,9 +157,9 @@ joined_ordered J h (x ∷ A) (y ∷ B) lasting a b short =
     }
 
 -- a join of plans that pass 12 to 15 passes 12 to 15, and its bytes mean the joined steps
-pub joined_passes_shape : (J : Job) (h : ℕ) (a b : List ℕ) → Passed J → first (shape_rows J a) ≡ Pass
-    → first (shape_rows J b) ≡ Pass → too_long J (join_steps h (steps_in J a) (steps_in J b)) ≡ false
-    → (first (shape_rows J (plan_bytes (join_steps h (steps_in J a) (steps_in J b)))) ≡ Pass)
+pub joined_passes_shape : (J : Job) (h : ℕ) (a b : List ℕ) → Passed J → first (shape_rows J a) ≡ pass
+    → first (shape_rows J b) ≡ pass → too_long J (join_steps h (steps_in J a) (steps_in J b)) ≡ false
+    → (first (shape_rows J (plan_bytes (join_steps h (steps_in J a) (steps_in J b)))) ≡ pass)
     × (steps_in J (plan_bytes (join_steps h (steps_in J a) (steps_in J b))) ≡ join_steps h (steps_in J a) (steps_in J b))
 joined_passes_shape J h a b passed IsFirst-passes second_passes short =
     let A = steps_in J a in

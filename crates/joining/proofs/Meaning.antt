@@ -12,8 +12,9 @@ use Rattle.job.specs.Refusal.{first, refused}
 use Rattle.job.specs.Valid.{job_rows}
 use Rattle.job.specs.declared.refusal.Refusal.{Refusal}
 use Rattle.job.specs.declared.refusal.Refusal.TheVariants.{JoinedTooLong}
-use Rattle.job.specs.declared.refusal.Verdict.{Verdict}
-use Rattle.job.specs.declared.refusal.Verdict.TheVariants.{Pass, Refused}
+use Rattle.job.specs.Refusal.{Verdict}
+use Rattle.std.specs.Prelude.{Ok, Err}
+use Rattle.job.specs.Refusal.{pass}
 use Rattle.timeline.specs.Step.{steps_in}
 use Rattle.timeline.specs.Accepted.{shape_rows}
 use Rattle.timeline.specs.Day.{told_of, no_day, tells, day_reply}
@@ -30,12 +31,12 @@ parts_of : (r s : Day) (after then : List ℕ)
 parts_of r s after then e = (ap (λ (call : Called). call.answer) e, ap (λ (call : Called). call.after) e)
 
 -- on with the plan of a call, and not on from a refusal
-went_on : (call : Called) (next : List ℕ → Called) (slice : List ℕ) → call.answer.verdict ≡ Pass
+went_on : (call : Called) (next : List ℕ → Called) (slice : List ℕ) → call.answer.verdict ≡ pass
     → then_call call next slice ≡ next (plan_in call)
 went_on call next slice pass = ap (λ (v : Verdict). go_on v call next slice) pass
 
 stopped : (call : Called) (next : List ℕ → Called) (slice : List ℕ) (why : Refusal)
-    → call.answer.verdict ≡ Refused why → then_call call next slice ≡ record { answer = no_day why; after = slice }
+    → call.answer.verdict ≡ Err why → then_call call next slice ≡ record { answer = no_day why; after = slice }
 stopped call next slice why e = ap (λ (v : Verdict). go_on v call next slice) e
 
 -- 34, and the slice as it was
@@ -48,22 +49,22 @@ is_34 : (slice : List ℕ) (r : Day) (after : List ℕ)
 is_34 slice r after e =
     let parts = parts_of r (no_day JoinedTooLong) after slice e in (ap day_reply parts.0, parts.0, parts.1)
 
-module _ (J : Job) (valid : first (job_rows J) ≡ Pass) where
+module _ (J : Job) (valid : first (job_rows J) ≡ pass) where
   -- two plans that pass 12 to 15, joined in a slice of 96 bytes or more, are a day, or 34
-  pub day_or_34 : (a b slice : List ℕ) → first (shape_rows J a) ≡ Pass → first (shape_rows J b) ≡ Pass
+  pub day_or_34 : (a b slice : List ℕ) → first (shape_rows J a) ≡ pass → first (shape_rows J b) ≡ pass
       → 96 ≤ length slice → (r : Day) (after : List ℕ) → Joins J a b slice r after
-      → (r.verdict ≡ Pass) ⊎ Is34 slice r after
+      → (r.verdict ≡ pass) ⊎ Is34 slice r after
   day_or_34 a b slice pa pb room r after joins =
       by_day (join J (largest_handover J) (steps_in J a) (steps_in J b))
       (called J a b slice r after joins ∙ call_joins J valid a b slice pa pb room)
     where
       by_day : (d : Joined) → record { answer = r; after = after } ≡ answer_by J d slice
-          → (r.verdict ≡ Pass) ⊎ Is34 slice r after
+          → (r.verdict ≡ pass) ⊎ Is34 slice r after
       by_day (day P) e = inl (ap (λ (call : Called). call.answer.verdict) e)
       by_day day_too_long e = inr (is_34 slice r after e)
 
   -- "The empty plan on either side changes nothing": the other plan is told of, and stands at the front of the slice
-  pub empty_gives_the_other : (a slice : List ℕ) → first (shape_rows J a) ≡ Pass → Bytes a → 96 ≤ length slice
+  pub empty_gives_the_other : (a slice : List ℕ) → first (shape_rows J a) ≡ pass → Bytes a → 96 ≤ length slice
       → (r : Day) (after : List ℕ) → Joins J [] a slice r after ⊎ Joins J a [] slice r after
       → (r ≡ tells (told_of J (steps_in J a))) × (after ≡ overwrite slice 0 a)
   empty_gives_the_other a slice pa small room r after joins =
@@ -72,8 +73,8 @@ module _ (J : Job) (valid : first (job_rows J) ≡ Pass) where
       (λ j. parts_of r _ after _ (called J a [] slice r after j ∙ nothing.1)) joins
 
   -- three plans that pass 12 to 15, slices of 96 bytes or more, and the two joins that come first
-  module _ (a b c left right slice : List ℕ) (pa : first (shape_rows J a) ≡ Pass) (pb : first (shape_rows J b) ≡ Pass)
-      (pc : first (shape_rows J c) ≡ Pass) (room_left : 96 ≤ length left) (room_right : 96 ≤ length right)
+  module _ (a b c left right slice : List ℕ) (pa : first (shape_rows J a) ≡ pass) (pb : first (shape_rows J b) ≡ pass)
+      (pc : first (shape_rows J c) ≡ pass) (room_left : 96 ≤ length left) (room_right : 96 ≤ length right)
       (room : 96 ≤ length slice) (ab bc : Called) (first_two : Joins J a b left ab.answer ab.after)
       (last_two : Joins J b c right bc.answer bc.after) where
     both_ways : then_call ab (λ p. join_call J p c slice) slice ≡ then_call bc (λ p. join_call J a p slice) slice
@@ -87,7 +88,7 @@ module _ (J : Job) (valid : first (job_rows J) ≡ Pass) where
 
     -- "Joining first with second and then the third shall give the same bytes .. as joining the first with what the
     -- other two give": the same answer, with end, steps and peaks, and every byte of the slice
-    pub same_both_ways : ab.answer.verdict ≡ Pass → bc.answer.verdict ≡ Pass
+    pub same_both_ways : ab.answer.verdict ≡ pass → bc.answer.verdict ≡ pass
         → (r s : Day) (after then : List ℕ) → Joins J (plan_in ab) c slice r after
         → Joins J a (plan_in bc) slice s then → (r ≡ s) × (after ≡ then)
     same_both_ways p q r s after then j k =
@@ -98,7 +99,7 @@ module _ (J : Job) (valid : first (job_rows J) ≡ Pass) where
         ∙ went_on bc (λ x. join_call J a x slice) slice q ∙ sym (called J a (plan_in bc) slice s then k))
 
     -- "or the same 34": where the first two are 34 already, and the last two are a day, the last join is 34
-    pub first_two_too_long : ab.answer.verdict ≡ Refused JoinedTooLong → bc.answer.verdict ≡ Pass
+    pub first_two_too_long : ab.answer.verdict ≡ Err JoinedTooLong → bc.answer.verdict ≡ pass
         → (s : Day) (then : List ℕ) → Joins J a (plan_in bc) slice s then → Is34 slice s then
     first_two_too_long p q s then k =
         is_34 slice s then
@@ -107,7 +108,7 @@ module _ (J : Job) (valid : first (job_rows J) ≡ Pass) where
         ∙ sym both_ways ∙ stopped ab (λ x. join_call J x c slice) slice JoinedTooLong p)
 
     -- and where the last two are 34 already, and the first two are a day
-    pub last_two_too_long : bc.answer.verdict ≡ Refused JoinedTooLong → ab.answer.verdict ≡ Pass
+    pub last_two_too_long : bc.answer.verdict ≡ Err JoinedTooLong → ab.answer.verdict ≡ pass
         → (r : Day) (after : List ℕ) → Joins J (plan_in ab) c slice r after → Is34 slice r after
     last_two_too_long q p r after j =
         is_34 slice r after

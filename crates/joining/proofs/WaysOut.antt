@@ -13,8 +13,9 @@ use Rattle.job.specs.Refusal.{◌when◌, first}
 use Rattle.job.specs.Valid.{job_rows}
 use Rattle.job.specs.declared.refusal.Refusal.{Refusal}
 use Rattle.job.specs.declared.refusal.Refusal.TheVariants.{PlanSlice, JoinedTooLong}
-use Rattle.job.specs.declared.refusal.Verdict.{Verdict}
-use Rattle.job.specs.declared.refusal.Verdict.TheVariants.{Pass, Refused}
+use Rattle.job.specs.Refusal.{Verdict}
+use Rattle.std.specs.Prelude.{Ok, Err}
+use Rattle.job.specs.Refusal.{pass}
 use Rattle.job.proofs.Table.{first_here, first_next, first_append_pass, first_append_refused, first_none}
 use Rattle.timeline.specs.Step.{plan_bytes}
 use Rattle.timeline.specs.Accepted.{shape_rows}
@@ -37,26 +38,26 @@ module _ (J : Job) (a b slice : List ℕ) (r : Day) where
         leaves = l ∙ sym (ap (λ (w : Verdict). left_by w P slice) h);
       }
 
-  pub joins_refused_job : (why : Refusal) → r ≡ no_day why → first (job_rows J) ≡ Refused why → Joins J a b slice r slice
-  joins_refused_job why d h = by_verdict (Refused why) slice (first_append_refused (job_rows J) _ why h) d refl
+  pub joins_refused_job : (why : Refusal) → r ≡ no_day why → first (job_rows J) ≡ Err why → Joins J a b slice r slice
+  joins_refused_job why d h = by_verdict (Err why) slice (first_append_refused (job_rows J) _ why h) d refl
 
-  module _ (valid : first (job_rows J) ≡ Pass) where
-    pub joins_refused_first : (why : Refusal) → r ≡ no_day why → first (shape_rows J a) ≡ Refused why
+  module _ (valid : first (job_rows J) ≡ pass) where
+    pub joins_refused_first : (why : Refusal) → r ≡ no_day why → first (shape_rows J a) ≡ Err why
         → Joins J a b slice r slice
     joins_refused_first why d h =
-        by_verdict (Refused why) slice
+        by_verdict (Err why) slice
         (first_append_pass (job_rows J) _ valid ∙ first_append_refused (shape_rows J a) _ why h) d refl
 
-    module _ (pa : first (shape_rows J a) ≡ Pass) where
-      pub joins_refused_second : (why : Refusal) → r ≡ no_day why → first (shape_rows J b) ≡ Refused why
+    module _ (pa : first (shape_rows J a) ≡ pass) where
+      pub joins_refused_second : (why : Refusal) → r ≡ no_day why → first (shape_rows J b) ≡ Err why
           → Joins J a b slice r slice
       joins_refused_second why d h =
-          by_verdict (Refused why) slice
+          by_verdict (Err why) slice
           (first_append_pass (job_rows J) _ valid
           ∙ first_append_pass (shape_rows J a) _ pa
           ∙ first_append_refused (shape_rows J b) _ why h) d refl
 
-      module _ (pb : first (shape_rows J b) ≡ Pass) where
+      module _ (pb : first (shape_rows J b) ≡ pass) where
         plans_pass : (v : Verdict)
             → first (PlanSlice when ltb (length slice) 96 ∷ JoinedTooLong when too_long J (joined_steps J a b) ∷ []) ≡ v
             → first (join_rows J a b slice) ≡ v
@@ -67,14 +68,14 @@ module _ (J : Job) (a b slice : List ℕ) (r : Day) where
 
         pub joins_short_slice : r ≡ no_day PlanSlice → length slice < 96 → Joins J a b slice r slice
         joins_short_slice d short =
-            by_verdict (Refused PlanSlice) slice
+            by_verdict (Err PlanSlice) slice
             (plans_pass _ (first_here PlanSlice _ _ (lt-ltb (length slice) 96 short))) d refl
 
         module _ (room : 96 ≤ length slice) where
           pub joins_too_long : r ≡ no_day JoinedTooLong → too_long J (joined_steps J a b) ≡ true
               → Joins J a b slice r slice
           joins_too_long d long =
-              by_verdict (Refused JoinedTooLong) slice
+              by_verdict (Err JoinedTooLong) slice
               (plans_pass _
               (first_next PlanSlice _ _ (le-ltb (length slice) 96 room) ∙ first_here JoinedTooLong _ [] long)) d refl
 
@@ -82,7 +83,7 @@ module _ (J : Job) (a b slice : List ℕ) (r : Day) where
               → r ≡ tells (told_of J (joined_steps J a b)) → after ≡ overwrite slice 0 (plan_bytes (joined_steps J a b))
               → Joins J a b slice r after
           joins_day after short d l =
-              by_verdict Pass after
+              by_verdict pass after
               (plans_pass _
               (first_next PlanSlice _ _ (le-ltb (length slice) 96 room)
               ∙ first_next JoinedTooLong _ [] short ∙ first_none)) d l

@@ -6,8 +6,9 @@ use Rattle.job.specs.Job.{Job}
 use Rattle.job.specs.Refusal.{Row, ◌when◌, first, reply_by}
 use Rattle.job.specs.Valid.{job_rows}
 use Rattle.job.specs.declared.refusal.Refusal.TheVariants.{PlanSlice, JoinedTooLong}
-use Rattle.job.specs.declared.refusal.Verdict.{Verdict}
-use Rattle.job.specs.declared.refusal.Verdict.TheVariants.{Pass, Refused}
+use Rattle.job.specs.Refusal.{Verdict}
+use Rattle.std.specs.Prelude.{Ok, Err}
+use Rattle.job.specs.Refusal.{pass}
 use Rattle.timeline.specs.Step.{Step, plan_bytes}
 use Rattle.timeline.specs.Accepted.{shape_rows}
 use Rattle.timeline.specs.Day.{told_of, day_of, day_reply}
@@ -29,8 +30,8 @@ join_answer J a b slice = day_of (first (join_rows J a b slice)) J (joined_steps
 
 -- "writes those steps at the front of the slice, the rest kept"; after a refusal "no slice changes"
 abbrev pub left_by : Verdict → List Step → List ℕ → List ℕ
-left_by Pass P slice = overwrite slice 0 (plan_bytes P)
-left_by (Refused why) P slice = slice
+left_by (Ok _) P slice = overwrite slice 0 (plan_bytes P)
+left_by (Err why) P slice = slice
 
 unfoldable pub left_by_join : Job → List ℕ → List ℕ → List ℕ → List ℕ
 left_by_join J a b slice = left_by (first (join_rows J a b slice)) (joined_steps J a b) slice

@@ -2,8 +2,9 @@
 -- Assumes nothing.
 use Rattle.std.specs.Prelude.{ℕ, ◌*◌, true, false, List, take}
 use Rattle.job.specs.Job.{Job}
-use Rattle.job.specs.declared.refusal.Verdict.{Verdict}
-use Rattle.job.specs.declared.refusal.Verdict.TheVariants.{Pass, Refused}
+use Rattle.job.specs.Refusal.{Verdict}
+use Rattle.std.specs.Prelude.{Ok, Err}
+use Rattle.job.specs.Refusal.{pass}
 use Rattle.timeline.specs.Step.{Step}
 use Rattle.timeline.specs.Day.{no_day}
 use Rattle.timeline.specs.declared.Day.{Day}
@@ -41,8 +42,8 @@ plan_in call = take (3 * call.answer.steps) call.after
 -- a call made with the plan of another call; where that one was refused, its refusal, and the slice of the second call
 -- as it was
 abbrev pub go_on : Verdict → Called → (List ℕ → Called) → List ℕ → Called
-go_on Pass call next slice = next (plan_in call)
-go_on (Refused why) call next slice = record { answer = no_day why; after = slice }
+go_on (Ok _) call next slice = next (plan_in call)
+go_on (Err why) call next slice = record { answer = no_day why; after = slice }
 
 abbrev pub then_call : Called → (List ℕ → Called) → List ℕ → Called
 then_call call next slice = go_on call.answer.verdict call next slice

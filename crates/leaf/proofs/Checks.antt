@@ -14,8 +14,9 @@ use Rattle.encoding.specs.Bytes.{overwrite}
 use Rattle.facts.specs.FactSet.{foreign}
 use Rattle.job.specs.declared.refusal.Refusal.{Refusal}
 use Rattle.job.specs.declared.refusal.Refusal.TheVariants.{ForeignAskedFact}
-use Rattle.job.specs.declared.refusal.Verdict.{Verdict}
-use Rattle.job.specs.declared.refusal.Verdict.TheVariants.{Pass, Refused}
+use Rattle.job.specs.Refusal.{Verdict}
+use Rattle.std.specs.Prelude.{Ok, Err}
+use Rattle.job.specs.Refusal.{pass}
 use Rattle.job.specs.Job.{Job}
 use Rattle.job.specs.Refusal.{first}
 use Rattle.job.specs.Valid.{limit_rows}
@@ -57,12 +58,12 @@ front_whole J steps o w =
     omega arith
 
 -- ---- what the checker answers
-day_passed : (v : Verdict) (J : Job) (P : List Step) → (day_of v J P).verdict ≡ Pass
-    → (v ≡ Pass) × (end P ≡ (day_of v J P).end) × (peaks J P ≡ (day_of v J P).peaks)
-day_passed Pass J P h = (refl, refl, refl)
-day_passed (Refused why) J P h = (h, cc, cc)
+day_passed : (v : Verdict) (J : Job) (P : List Step) → (day_of v J P).verdict ≡ pass
+    → (v ≡ pass) × (end P ≡ (day_of v J P).end) × (peaks J P ≡ (day_of v J P).peaks)
+day_passed (Ok _) J P h = (refl, refl, refl)
+day_passed (Err why) J P h = (h, cc, cc)
 
-pub passed_accepted : (J : Job) (goal : ℕ) (bytes : List ℕ) → (check_within J goal bytes).verdict ≡ Pass
+pub passed_accepted : (J : Job) (goal : ℕ) (bytes : List ℕ) → (check_within J goal bytes).verdict ≡ pass
     → Accepted J goal bytes × (end (steps_in J bytes) ≡ (check_within J goal bytes).end)
     × (peaks J (steps_in J bytes) ≡ (check_within J goal bytes).peaks)
 unfolding check_within
@@ -70,7 +71,7 @@ passed_accepted J goal bytes h =
     let r = day_passed _ J (steps_in J bytes) h in
     ((first_pass _ _ _ (pass_of_append (limit_rows J) _ r.0).1).1, r.1, r.2)
 
-pub accepted_passes : (J : Job) (goal : ℕ) (bytes : List ℕ) → first (limit_rows J) ≡ Pass → foreign J.facts goal ≡ false
+pub accepted_passes : (J : Job) (goal : ℕ) (bytes : List ℕ) → first (limit_rows J) ≡ pass → foreign J.facts goal ≡ false
     → Accepted J goal bytes → check_within J goal bytes ≡ tells (told_of J (steps_in J bytes))
 unfolding check_within
 accepted_passes J goal bytes job own accepted =
@@ -95,10 +96,10 @@ module _ (J : Job) (goal T : ℕ) (steps : Steps) where
   abbrev as_plan : Day → List ℕ → Answer
   as_plan d plan = record { found = true; end = d.end; count = steps.count; peaks = d.peaks; plan = plan }
 
-  plan_answered : (d : Day) → d.end ≤ T → answer_to Pass d ≡ as_plan d (plan_of J steps)
+  plan_answered : (d : Day) → d.end ≤ T → answer_to pass d ≡ as_plan d (plan_of J steps)
   plan_answered d l = ap (λ (b : Bool). cond b no_answer (as_plan d (plan_of J steps))) (le-ltb T d.end l)
 
-  nothing_answered : (d : Day) → T < d.end → answer_to Pass d ≡ no_answer
+  nothing_answered : (d : Day) → T < d.end → answer_to pass d ≡ no_answer
   nothing_answered d l = ap (λ (b : Bool). cond b no_answer (as_plan d (plan_of J steps))) (lt-ltb T d.end l)
 
   -- o is the bytes that were written, and day what the checker says of them
@@ -108,20 +109,20 @@ module _ (J : Job) (goal T : ℕ) (steps : Steps) where
     by_verdict v h =
         ap (λ (d : Day). answer_to d.verdict d) (same_checked o day w e) ∙ ap (λ (x : Verdict). answer_to x day) h
 
-    pub answers_refused : (why : Refusal) → day.verdict ≡ Refused why → Answers J goal T steps no_answer
-    answers_refused why h = sym (by_verdict (Refused why) h)
+    pub answers_refused : (why : Refusal) → day.verdict ≡ Err why → Answers J goal T steps no_answer
+    answers_refused why h = sym (by_verdict (Err why) h)
 
-    pub answers_late : day.verdict ≡ Pass → T < day.end → Answers J goal T steps no_answer
-    answers_late h l = sym (by_verdict Pass h ∙ nothing_answered day l)
+    pub answers_late : day.verdict ≡ pass → T < day.end → Answers J goal T steps no_answer
+    answers_late h l = sym (by_verdict pass h ∙ nothing_answered day l)
 
-    pub answers_plan : day.verdict ≡ Pass → day.end ≤ T → Answers J goal T steps (as_plan day o)
-    answers_plan h l = ap (as_plan day) (w J) ∙ sym (by_verdict Pass h ∙ plan_answered day l)
+    pub answers_plan : day.verdict ≡ pass → day.end ≤ T → Answers J goal T steps (as_plan day o)
+    answers_plan h l = ap (as_plan day) (w J) ∙ sym (by_verdict pass h ∙ plan_answered day l)
 
   -- a plan that is found is accepted
   pub answer_found : steps.count ≤ 32 → (r : Answer) → Answers J goal T steps r → r.found ≡ true → Found J goal T r
   answer_found few r a h = by_verdict checks.verdict refl a
     where
-      by_end : (b : Bool) → ltb T checks.end ≡ b → checks.verdict ≡ Pass
+      by_end : (b : Bool) → ltb T checks.end ≡ b → checks.verdict ≡ pass
           → r ≡ cond b no_answer (as_plan checks (plan_of J steps)) → Found J goal T r
       by_end true l c q = not_both h (ap (λ (x : Answer). x.found) q)
       by_end false l c q =
@@ -138,8 +139,8 @@ module _ (J : Job) (goal T : ℕ) (steps : Steps) where
           })
 
       by_verdict : (v : Verdict) → checks.verdict ≡ v → r ≡ answer_to v checks → Found J goal T r
-      by_verdict Pass c q = by_end (ltb T checks.end) refl c q
-      by_verdict (Refused why) c q = not_both h (ap (λ (x : Answer). x.found) q)
+      by_verdict (Ok _) c q = by_end (ltb T checks.end) refl c q
+      by_verdict (Err why) c q = not_both h (ap (λ (x : Answer). x.found) q)
 
   -- its bytes are those of the steps
   pub answer_bytes : (r : Answer) → Answers J goal T steps r → r.found ≡ true → bytes_in r ≡ plan_bytes (in_order J steps)
@@ -151,12 +152,12 @@ module _ (J : Job) (goal T : ℕ) (steps : Steps) where
       by_end false q = ap bytes_in q ∙ plan_in_front J steps (3 * steps.count) refl
 
       by_verdict : (v : Verdict) → r ≡ answer_to v checks → bytes_in r ≡ plan_bytes (in_order J steps)
-      by_verdict Pass q = by_end (ltb T checks.end) q
-      by_verdict (Refused why) q = not_both h (ap (λ (x : Answer). x.found) q)
+      by_verdict (Ok _) q = by_end (ltb T checks.end) q
+      by_verdict (Err why) q = not_both h (ap (λ (x : Answer). x.found) q)
 
   -- where nothing is found, the steps as they stand are no accepted plan that ends by T
   pub answer_not_found : (r : Answer) → Answers J goal T steps r → r.found ≡ false → (day : Day) → checks ≡ day
-      → day.verdict ≡ Pass → day.end ≤ T → ⊥
+      → day.verdict ≡ pass → day.end ≤ T → ⊥
   answer_not_found r a h day c p l =
       not_both
       (ap (λ (x : Answer). x.found)

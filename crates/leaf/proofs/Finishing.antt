@@ -9,8 +9,9 @@ use lib.ListN.{length, get_or}
 use Rattle.lists.proofs.Tabulate.{length_tabulate}
 use Rattle.job.specs.declared.Job as held
 use Rattle.job.specs.declared.refusal.Refusal.{Refusal}
-use Rattle.job.specs.declared.refusal.Verdict.{Verdict}
-use Rattle.job.specs.declared.refusal.Verdict.TheVariants.{Pass, Refused}
+use Rattle.job.specs.Refusal.{Verdict}
+use Rattle.std.specs.Prelude.{Ok, Err}
+use Rattle.job.specs.Refusal.{pass}
 use Rattle.job.specs.Job.{Job, job_in}
 use Rattle.job.specs.Refusal.{first}
 use Rattle.job.specs.Resumed.{resumed, resumed_value}
@@ -40,12 +41,12 @@ use Rattle.leaf.proofs.InOrder.{in_order_permutes, in_order_own, in_order_rising
 use Rattle.leaf.proofs.Checks.{accepted_passes, answer_found, answer_bytes, answer_not_found}
 
 abbrev passes : Verdict → Bool
-passes Pass = true
-passes (Refused why) = false
+passes (Ok _) = true
+passes (Err why) = false
 
 -- the file has no job
 pub finishes_unread : (file : List ℕ) (frame : Frame) (steps : Steps) (reading : Reading) (why : Refusal) (r : Answer)
-    → reading ≡ read_file file → reading.verdict ≡ Refused why → Finishes file frame steps r
+    → reading ≡ read_file file → reading.verdict ≡ Err why → Finishes file frame steps r
 finishes_unread file frame steps reading why r e h =
     record {
       found = λ f J have. unread (ap (λ (x : Reading). x.verdict) (e ∙ have.read));
@@ -54,7 +55,7 @@ finishes_unread file frame steps reading why r e h =
       dead = λ f J have asked b t l. unread (ap (λ (x : Reading). x.verdict) (e ∙ have.read));
     }
   where
-    unread : {A : Type 0} → reading.verdict ≡ Pass → A
+    unread : {A : Type 0} → reading.verdict ≡ pass → A
     unread p = not_both (ap passes p) (ap passes h)
 
 -- s is the chosen steps in order
@@ -63,7 +64,7 @@ module _ (J : Job) (frame : Frame) (steps s : Steps) (same : Reordered steps s) 
   order = permutation_trans (in_order_permutes J s) (same.order J)
 
   -- the plan that is found has them in order, and its bytes are theirs
-  module _ (pass : first (limit_rows J) ≡ Pass) (known : Known (length J.actions) steps)
+  module _ (pass : first (limit_rows J) ≡ pass) (known : Known (length J.actions) steps)
       (starts : (k : ℕ) → k < steps.count → get_or steps.starts k 0 < 65536) (r : Answer)
       (a : Answers J frame.goal frame.horizon s r) (h : r.found ≡ true) where
     steps_in_order : steps_in J (bytes_in r) ≡ in_order J s
@@ -82,7 +83,7 @@ module _ (J : Job) (frame : Frame) (steps s : Steps) (same : Reordered steps s) 
     found_bytes : bytes_in r ≡ plan_bytes (steps_in J (bytes_in r))
     found_bytes = answer_bytes J frame.goal frame.horizon s r a h ∙ ap plan_bytes (sym steps_in_order)
 
-  dead : first (limit_rows J) ≡ Pass → Asked J frame steps → (r : Answer)
+  dead : first (limit_rows J) ≡ pass → Asked J frame steps → (r : Answer)
       → Answers J frame.goal frame.horizon s r → r.found ≡ false → (b : From) (t : ℕ)
       → t ≤ b.minute
       → Dead J b frame.goal frame.horizon (Until b t) (chosen J steps)
@@ -106,7 +107,7 @@ module _ (J : Job) (frame : Frame) (steps s : Steps) (same : Reordered steps s) 
           let q = asked.known.few in
           omega arith
 
-      refused : first (step_rows J frame.goal (in_order J s)) ≡ Pass → end (in_order J s) ≤ frame.horizon → ⊥
+      refused : first (step_rows J frame.goal (in_order J s)) ≡ pass → end (in_order J s) ≤ frame.horizon → ⊥
       refused p in_time =
           let plan = accepted_bytes_of_steps J frame.goal (in_order J s) (within_limits J pass) (in_order_own J s) few p in
           let bytes = plan_bytes (in_order J s) in

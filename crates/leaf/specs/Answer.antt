@@ -4,8 +4,9 @@ use Rattle.std.specs.Prelude.{ℕ, ◌*◌, ◌≤◌, ◌<◌, ◌≡◌, true,
 use Rattle.encoding.specs.Bytes.{overwrite}
 use Rattle.facts.specs.FactSet.{foreign}
 use Rattle.job.specs.declared.Job as held
-use Rattle.job.specs.declared.refusal.Verdict.{Verdict}
-use Rattle.job.specs.declared.refusal.Verdict.TheVariants.{Pass, Refused}
+use Rattle.job.specs.Refusal.{Verdict}
+use Rattle.std.specs.Prelude.{Ok, Err}
+use Rattle.job.specs.Refusal.{pass}
 use Rattle.job.specs.Job.{Job, job_in}
 use Rattle.job.specs.Refusal.{first}
 use Rattle.job.specs.Resumed.{resumed}
@@ -31,9 +32,9 @@ no_answer = record { found = false; end = 0; count = 0; peaks = replicate 4 0; p
 
 -- the plan, where it is accepted and ends by the horizon T
 abbrev pub answer_by : Verdict → ℕ → List ℕ → ℕ → ℕ → List ℕ → Answer
-answer_by Pass e peaks T count plan =
+answer_by (Ok _) e peaks T count plan =
     cond (ltb T e) no_answer (record { found = true; end = e; count = count; peaks = peaks; plan = plan })
-answer_by (Refused why) e peaks T count plan = no_answer
+answer_by (Err why) e peaks T count plan = no_answer
 
 abbrev pub answer_of : Day → ℕ → ℕ → List ℕ → Answer
 answer_of day T count plan = answer_by day.verdict day.end day.peaks T count plan
@@ -50,9 +51,9 @@ Answers J goal T steps r =
 -- J is the job of the file with these facts at its start and so much in its stores, and is within its limits
 pub record FileOf (J : Job) (file : List ℕ) (start : ℕ) (supplies : List ℕ) : Type 0 where
   pub value : held.Job
-  pub read : read_file file ≡ record { verdict = Pass; job = value }
+  pub read : read_file file ≡ record { verdict = pass; job = value }
   pub same : resumed (job_in value) start supplies ≡ J
-  pub passes : first (limit_rows J) ≡ Pass
+  pub passes : first (limit_rows J) ≡ pass
 
 -- the bytes of the answer's plan
 abbrev pub bytes_in : Answer → List ℕ

@@ -9,8 +9,9 @@ use lib.ListN.{length}
 use Rattle.job.specs.Job.{Job}
 use Rattle.job.specs.Refusal.{first}
 use Rattle.job.specs.declared.refusal.Refusal.TheVariants.{NoPlan, ListEnded}
-use Rattle.job.specs.declared.refusal.Verdict.{Verdict}
-use Rattle.job.specs.declared.refusal.Verdict.TheVariants.{Pass, Refused}
+use Rattle.job.specs.Refusal.{Verdict}
+use Rattle.std.specs.Prelude.{Ok, Err}
+use Rattle.job.specs.Refusal.{pass}
 use Rattle.timeline.specs.declared.Day.{Day}
 use Rattle.timeline.specs.Step.{Step, plan_bytes}
 use Rattle.timeline.proofs.DayLaws.{few_without_day}
@@ -41,5 +42,5 @@ listed_steps_are_few J place slice answer after lists = by_verdict (first (plan_
     by_makespan no_plan p = few_without_day NoPlan answer p.answers
 
     by_verdict : (v : Verdict) → ListsBy v J place slice answer after → answer.steps ≤ 32
-    by_verdict Pass p = by_makespan (makespan J J.goal) p
-    by_verdict (Refused why) p = few_without_day why answer p.answers
+    by_verdict (Ok _) p = by_makespan (makespan J J.goal) p
+    by_verdict (Err why) p = few_without_day why answer p.answers

@@ -10,8 +10,9 @@ use borrow.Author.Tests.{lt-ltb, le-ltb}
 use Rattle.encoding.specs.Bytes.{overwrite}
 use Rattle.job.specs.declared.refusal.Refusal.{Refusal}
 use Rattle.job.specs.declared.refusal.Refusal.TheVariants.{PlanSlice, NoPlan, ListEnded}
-use Rattle.job.specs.declared.refusal.Verdict.{Verdict}
-use Rattle.job.specs.declared.refusal.Verdict.TheVariants.{Pass, Refused}
+use Rattle.job.specs.Refusal.{Verdict}
+use Rattle.std.specs.Prelude.{Ok, Err}
+use Rattle.job.specs.Refusal.{pass}
 use Rattle.job.specs.Job.{Job}
 use Rattle.job.specs.Refusal.{first}
 use Rattle.job.specs.Valid.{job_rows}
@@ -35,24 +36,24 @@ module _ (J : Job) (place : ℕ) (slice : List ℕ) where
   by_verdict v answer after e h = subst (λ (w : Verdict). ListsBy w J place slice answer after) (sym e) h
 
   -- a job that fails its tests
-  pub lists_refused : (why : Refusal) (r : Day) → r ≡ no_day why → first (job_rows J) ≡ Refused why
+  pub lists_refused : (why : Refusal) (r : Day) → r ≡ no_day why → first (job_rows J) ≡ Err why
       → Lists J place slice r slice
   lists_refused why r told e =
-      by_verdict (Refused why) r slice (first_append_refused (job_rows J) _ why e) (refused_with_lem slice why r told)
+      by_verdict (Err why) r slice (first_append_refused (job_rows J) _ why e) (refused_with_lem slice why r told)
 
   -- a slice that is too short
-  pub lists_short : (r : Day) → r ≡ no_day PlanSlice → first (job_rows J) ≡ Pass → length slice < 96
+  pub lists_short : (r : Day) → r ≡ no_day PlanSlice → first (job_rows J) ≡ pass → length slice < 96
       → Lists J place slice r slice
   lists_short r told passes short =
-      by_verdict (Refused PlanSlice) r slice
+      by_verdict (Err PlanSlice) r slice
       (first_append_pass (job_rows J) _ passes ∙ first_here PlanSlice _ [] (lt-ltb (length slice) 96 short))
       (refused_with_lem slice PlanSlice r told)
 
-  module _ (passes : first (job_rows J) ≡ Pass) (room : 96 ≤ length slice) where
+  module _ (passes : first (job_rows J) ≡ pass) (room : 96 ≤ length slice) where
     answered : (m : Makespan) → makespan J J.goal ≡ m → (r : Day) (after : List ℕ)
         → ListsFor m J J.goal place slice r after → Lists J place slice r after
     answered m e r after h =
-        by_verdict Pass r after
+        by_verdict pass r after
         (first_append_pass (job_rows J) _ passes
         ∙ first_next PlanSlice _ [] (le-ltb (length slice) 96 room)
         ∙ first_none)

@@ -16,8 +16,9 @@ use Rattle.job.proofs.Passed.{passed}
 use Rattle.job.proofs.Table.{pass_of_append}
 use Rattle.job.specs.declared.refusal.Refusal.{Refusal}
 use Rattle.job.specs.declared.refusal.Refusal.TheVariants.{NoPlan, ListEnded}
-use Rattle.job.specs.declared.refusal.Verdict.{Verdict}
-use Rattle.job.specs.declared.refusal.Verdict.TheVariants.{Pass, Refused}
+use Rattle.job.specs.Refusal.{Verdict}
+use Rattle.std.specs.Prelude.{Ok, Err}
+use Rattle.job.specs.Refusal.{pass}
 use Rattle.timeline.specs.Step.{Step, steps_in, plan_bytes}
 use Rattle.timeline.specs.Timeline.{end}
 use Rattle.timeline.specs.Day.{told_of, tells}
@@ -59,8 +60,8 @@ module _ (J : Job) (place : ℕ) (slice : List ℕ) (r s : Day) (after then : Li
       by_makespan no_plan a b = same_refusal _ a b
 
       by_verdict : (v : Verdict) → ListsBy v J place slice r after → ListsBy v J place slice s then → Same
-      by_verdict Pass a b = by_makespan (makespan J J.goal) a b
-      by_verdict (Refused why) a b = same_refusal why a b
+      by_verdict (Ok _) a b = by_makespan (makespan J J.goal) a b
+      by_verdict (Err why) a b = same_refusal why a b
 
 -- every listed plan ends at the makespan
 pub listed_ends_at_makespan : (J : Job) (goal e : ℕ) → Passed J → makespan J goal ≡ ends_at e → (P : List Step)
@@ -74,10 +75,10 @@ listed_ends_at_makespan J goal e within q P listed =
     let least = least.least (plan_bytes P) listed.accepted (every_plan_counts J (plan_bytes P)) in
     omega arith
 
-pass_not_refused : {v : Verdict} {why : Refusal} → v ≡ Pass → v ≡ Refused why → ⊥
+pass_not_refused : {v : Verdict} {why : Refusal} → v ≡ pass → v ≡ Err why → ⊥
 pass_not_refused a b = let z : ◌≡◌ {A = ℕ} 0 1 = cc in omega arith
 
-refused_once : {v : Verdict} {why other : Refusal} → v ≡ Refused why → v ≡ Refused other → why ≡ other
+refused_once : {v : Verdict} {why other : Refusal} → v ≡ Err why → v ≡ Err other → why ≡ other
 refused_once a b = cc
 
 tests_before_28 : (J : Job) (slice : List ℕ) → has_number 28 (plan_refusals J slice) ≡ false
@@ -89,11 +90,11 @@ module _ (J : Job) (place : ℕ) (slice : List ℕ) (r s : Day) (after then : Li
   -- both are refused by the same number, which is not 28; or both hand out plans with the same end; or the planner alone
   -- does, and the list ends before the place
   pub data BesidePlanner : Type 0 where
-    refused_alike : (why : Refusal) → (why ≡ ListEnded → ⊥) → r.verdict ≡ Refused why → s.verdict ≡ Refused why
+    refused_alike : (why : Refusal) → (why ≡ ListEnded → ⊥) → r.verdict ≡ Err why → s.verdict ≡ Err why
         → BesidePlanner
-    handed_out : r.verdict ≡ Pass → s.verdict ≡ Pass → r.end ≡ s.end → (EndsBefore J J.goal place → ⊥)
+    handed_out : r.verdict ≡ pass → s.verdict ≡ pass → r.end ≡ s.end → (EndsBefore J J.goal place → ⊥)
         → BesidePlanner
-    ended : r.verdict ≡ Refused ListEnded → s.verdict ≡ Pass → EndsBefore J J.goal place → BesidePlanner
+    ended : r.verdict ≡ Err ListEnded → s.verdict ≡ pass → EndsBefore J J.goal place → BesidePlanner
 
   told_by : {a b : Day} → a ≡ b → a.verdict ≡ b.verdict
   told_by e = ap (λ (d : Day). d.verdict) e
@@ -116,30 +117,30 @@ module _ (J : Job) (place : ℕ) (slice : List ℕ) (r s : Day) (after then : Li
 
       by_verdict : (v : Verdict) → first (plan_refusals J slice) ≡ v → ListsBy v J place slice r after
           → PlansBy v J slice s then → BesidePlanner
-      by_verdict Pass q a b =
+      by_verdict (Ok _) q a b =
           by_makespan (passed J (pass_of_append (job_rows J) _ q).0) (makespan J J.goal) refl a b
-      by_verdict (Refused why) q a b =
+      by_verdict (Err why) q a b =
           refused_alike why
-          (λ e. never_first ListEnded (plan_refusals J slice) (tests_before_28 J slice) (q ∙ ap Refused e))
+          (λ e. never_first ListEnded (plan_refusals J slice) (tests_before_28 J slice) (q ∙ ap Err e))
           (told_by a.answers) (told_by b.answers)
 
   module _ (lists : Lists J place slice r after) (plans : Plans J slice s then) where
     -- a plan handed out ends where the planner's ends
-    pub same_end_as_planned : r.verdict ≡ Pass → (s.verdict ≡ Pass) × (r.end ≡ s.end)
+    pub same_end_as_planned : r.verdict ≡ pass → (s.verdict ≡ pass) × (r.end ≡ s.end)
     same_end_as_planned pass = go (beside_planner lists plans)
       where
-        go : BesidePlanner → (s.verdict ≡ Pass) × (r.end ≡ s.end)
+        go : BesidePlanner → (s.verdict ≡ pass) × (r.end ≡ s.end)
         go (refused_alike why other a b) = absurd (pass_not_refused pass a)
         go (handed_out a b same more) = (b, same)
         go (ended a b short) = absurd (pass_not_refused pass a)
 
     -- 22 exactly where the planner says 22
-    pub no_plan_as_planned : (r.verdict ≡ Refused NoPlan → s.verdict ≡ Refused NoPlan)
-        × (s.verdict ≡ Refused NoPlan → r.verdict ≡ Refused NoPlan)
+    pub no_plan_as_planned : (r.verdict ≡ Err NoPlan → s.verdict ≡ Err NoPlan)
+        × (s.verdict ≡ Err NoPlan → r.verdict ≡ Err NoPlan)
     no_plan_as_planned = go (beside_planner lists plans)
       where
-        go : BesidePlanner → (r.verdict ≡ Refused NoPlan → s.verdict ≡ Refused NoPlan)
-            × (s.verdict ≡ Refused NoPlan → r.verdict ≡ Refused NoPlan)
+        go : BesidePlanner → (r.verdict ≡ Err NoPlan → s.verdict ≡ Err NoPlan)
+            × (s.verdict ≡ Err NoPlan → r.verdict ≡ Err NoPlan)
         go (refused_alike why other a b) = (λ h. b ∙ sym a ∙ h, λ h. a ∙ sym b ∙ h)
         go (handed_out a b same more) = (λ h. absurd (pass_not_refused a h), λ h. absurd (pass_not_refused b h))
         go (ended a b short) = (
@@ -148,12 +149,12 @@ module _ (J : Job) (place : ℕ) (slice : List ℕ) (r s : Day) (after then : Li
         )
 
     -- 28 exactly where there is a shortest day and the list is not longer than the place
-    pub ended_exactly : (r.verdict ≡ Refused ListEnded → (s.verdict ≡ Pass) × EndsBefore J J.goal place)
-        × (s.verdict ≡ Pass → EndsBefore J J.goal place → r.verdict ≡ Refused ListEnded)
+    pub ended_exactly : (r.verdict ≡ Err ListEnded → (s.verdict ≡ pass) × EndsBefore J J.goal place)
+        × (s.verdict ≡ pass → EndsBefore J J.goal place → r.verdict ≡ Err ListEnded)
     ended_exactly = go (beside_planner lists plans)
       where
-        go : BesidePlanner → (r.verdict ≡ Refused ListEnded → (s.verdict ≡ Pass) × EndsBefore J J.goal place)
-            × (s.verdict ≡ Pass → EndsBefore J J.goal place → r.verdict ≡ Refused ListEnded)
+        go : BesidePlanner → (r.verdict ≡ Err ListEnded → (s.verdict ≡ pass) × EndsBefore J J.goal place)
+            × (s.verdict ≡ pass → EndsBefore J J.goal place → r.verdict ≡ Err ListEnded)
         go (refused_alike why other a b) =
             (λ h. absurd (other (refused_once a h)), λ pass short. absurd (pass_not_refused pass b))
         go (handed_out a b same more) = (λ h. absurd (pass_not_refused a h), λ pass short. absurd (more short))

@@ -5,8 +5,9 @@ use Rattle.encoding.specs.Bytes.{overwrite}
 use Rattle.job.specs.Job.{Job}
 use Rattle.job.specs.Refusal.{first, returned}
 use Rattle.job.specs.declared.refusal.Refusal.TheVariants.{NoPlan, ListEnded}
-use Rattle.job.specs.declared.refusal.Verdict.{Verdict}
-use Rattle.job.specs.declared.refusal.Verdict.TheVariants.{Pass, Refused}
+use Rattle.job.specs.Refusal.{Verdict}
+use Rattle.std.specs.Prelude.{Ok, Err}
+use Rattle.job.specs.Refusal.{pass}
 use Rattle.timeline.specs.Step.{Step, plan_bytes}
 use Rattle.timeline.specs.Day.{told_of, tells, day_reply}
 use Rattle.timeline.specs.declared.Day.{Day}
@@ -31,8 +32,8 @@ ListsFor no_plan J goal place slice answer after = RefusedWith NoPlan slice answ
 
 -- the tests of the job and of the slice come first, as for the planner
 abbrev pub ListsBy : Verdict → Job → ℕ → List ℕ → Day → List ℕ → Type 0
-ListsBy Pass J place slice answer after = ListsFor (makespan J J.goal) J J.goal place slice answer after
-ListsBy (Refused why) J place slice answer after = RefusedWith why slice answer after
+ListsBy (Ok _) J place slice answer after = ListsFor (makespan J J.goal) J J.goal place slice answer after
+ListsBy (Err why) J place slice answer after = RefusedWith why slice answer after
 
 -- the answer to a job, a place and a slice, and every byte that the slice then holds
 abbrev pub Lists : Job → ℕ → List ℕ → Day → List ℕ → Type 0

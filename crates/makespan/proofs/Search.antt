@@ -15,8 +15,9 @@ use Rattle.lists.proofs.Bools.{and_left, and_right}
 use Rattle.job.specs.Job.{Job}
 use Rattle.job.specs.Refusal.{first}
 use Rattle.job.specs.Passed.{Passed}
-use Rattle.job.specs.declared.refusal.Verdict.{Verdict}
-use Rattle.job.specs.declared.refusal.Verdict.TheVariants.{Pass, Refused}
+use Rattle.job.specs.Refusal.{Verdict}
+use Rattle.std.specs.Prelude.{Ok, Err}
+use Rattle.job.specs.Refusal.{pass}
 use Rattle.timeline.specs.Step.{Step, step_of, steps_in, before, strictly_rising, plan_bytes}
 use Rattle.timeline.specs.Timeline.{end}
 use Rattle.timeline.specs.Accepted.{Accepted, clashing, step_rows}
@@ -52,14 +53,14 @@ either_passed : (x y : Bool) → ◌≡◌ {A = Bool} (elim x [ true ↦ true | 
 either_passed true y h = inl refl
 either_passed false y h = inr h
 
-pub pass_of_test : (v : Verdict) → is_pass v ≡ true → v ≡ Pass
-pass_of_test Pass h = refl
-pass_of_test (Refused why) h = not_both h refl
+pub pass_of_test : (v : Verdict) → is_pass v ≡ true → v ≡ pass
+pass_of_test (Ok _) h = refl
+pass_of_test (Err why) h = not_both h refl
 
 -- ---- the next step
 -- in steps that pass, each step that stops by T can follow those before it
 can_follow_lem : (J : Job) (goal minute T : ℕ) (P : List Step) (x : Step) (F : List Step) → minute ≤ x.start → x.stop ≤ T
-    → first (step_rows J goal (P ++ (x ∷ F))) ≡ Pass → can_follow minute T P x ≡ true
+    → first (step_rows J goal (P ++ (x ∷ F))) ≡ pass → can_follow minute T P x ≡ true
 can_follow_lem J goal minute T P x F late in_time pass =
     let steps = accepted_steps J goal (P ++ (x ∷ F)) pass in
     and_both (le-leb minute x.start late)
@@ -107,7 +108,7 @@ record Completion (J : Job) (goal minute T n : ℕ) (P : List Step) : Type 0 whe
   own : EachStep (OfJob J) steps
   in_time : EachStep (λ x. x.stop ≤ T) steps
   late : EachStep (λ x. minute ≤ x.start) steps
-  pass : first (step_rows J goal (P ++ steps)) ≡ Pass
+  pass : first (step_rows J goal (P ++ steps)) ≡ pass
 
 module _ (J : Job) (goal minute T : ℕ) where
   -- where P passes alone, and back
@@ -122,7 +123,7 @@ module _ (J : Job) (goal minute T : ℕ) where
         pass = ap (λ (Q : List Step). first (step_rows J goal Q)) (append-nil P) ∙ pass_of_test _ h;
       }
 
-  passes_alone : (P : List Step) → first (step_rows J goal (P ++ [])) ≡ Pass → passes J goal P ≡ true
+  passes_alone : (P : List Step) → first (step_rows J goal (P ++ [])) ≡ pass → passes J goal P ≡ true
   passes_alone P pass = ap (passes J goal) (sym (append-nil P)) ∙ ap is_pass pass
 
   -- what the search finds completes P, and the search finds whatever completes P
@@ -147,7 +148,7 @@ module _ (J : Job) (goal minute T : ℕ) where
       (either_passed (passes J goal P) _ h)
 
   completable_of_completion : (n : ℕ) (P F : List Step) → length F ≤ n → EachStep (OfJob J) F → Lasting F
-      → EachStep (λ x. x.stop ≤ T) F → EachStep (λ x. minute ≤ x.start) F → first (step_rows J goal (P ++ F)) ≡ Pass
+      → EachStep (λ x. x.stop ≤ T) F → EachStep (λ x. minute ≤ x.start) F → first (step_rows J goal (P ++ F)) ≡ pass
       → completable J goal minute T n P ≡ true
   completable_of_completion zero P [] few own lasting in_time late pass = passes_alone P pass
   completable_of_completion zero P (x ∷ F) few own lasting in_time late pass = absurd (omega arith)

@@ -4,8 +4,9 @@ use Rattle.std.specs.Prelude.{ℕ, zero, suc, ◌-◌, ◌≤◌, ◌≡◌, Boo
 use Rattle.lists.specs.Lists.{any, any_below}
 use Rattle.job.specs.Job.{Job}
 use Rattle.job.specs.Refusal.{first}
-use Rattle.job.specs.declared.refusal.Verdict.{Verdict}
-use Rattle.job.specs.declared.refusal.Verdict.TheVariants.{Pass, Refused}
+use Rattle.job.specs.Refusal.{Verdict}
+use Rattle.std.specs.Prelude.{Ok, Err}
+use Rattle.job.specs.Refusal.{pass}
 use Rattle.timeline.specs.Step.{Step, step_of, steps_in, before}
 use Rattle.timeline.specs.Timeline.{end}
 use Rattle.timeline.specs.Accepted.{Accepted, clashing, step_rows}
@@ -34,8 +35,8 @@ pub record LeastEnd (J : Job) (goal minute : ℕ) (K : List Step) (e : ℕ) : Ty
 
 -- the verdict is a pass
 abbrev pub is_pass : Verdict → Bool
-is_pass Pass = true
-is_pass (Refused why) = false
+is_pass (Ok _) = true
+is_pass (Err why) = false
 
 -- none of tests 13 to 20 is true of the steps
 abbrev pub passes : Job → ℕ → List Step → Bool

@@ -3,13 +3,14 @@
 use Rattle.std.specs.Prelude.{ℕ, ◌+◌, ◌*◌, ◌≤◌, ◌<◌, ◌≡◌, List}
 use Rattle.job.specs.Refusal.{number}
 use Rattle.job.specs.declared.refusal.Refusal.{Refusal}
-use Rattle.job.specs.declared.refusal.Verdict.{Verdict}
-use Rattle.job.specs.declared.refusal.Verdict.TheVariants.{Pass, Refused}
+use Rattle.job.specs.Refusal.{Verdict}
+use Rattle.std.specs.Prelude.{Ok, Err}
+use Rattle.job.specs.Refusal.{pass}
 use Rattle.jobfile.specs.declared.Written.{Written}
-use Rattle.jobfile.specs.declared.Written.TheVariants as written
+use Rattle.std.specs.Prelude.{Ok, Err}
 use Rattle.timeline.specs.declared.Day.{Day}
 use Rattle.price.specs.declared.Priced.{Priced}
-use Rattle.price.specs.declared.Priced.TheVariants as priced
+use Rattle.std.specs.Prelude.{Ok, Err}
 use Rattle.earliest.specs.declared.EarliestTime.{EarliestTime}
 use Rattle.earliest.specs.declared.EarliestTime.TheVariants as time
 
@@ -31,13 +32,13 @@ unreachable = packed 2 0 0 0
 
 -- "the writer returns the file's length"
 abbrev pub written_number : Written → ℕ
-written_number (written.Length n) = done n 0
-written_number (written.Refused why) = refusal why
+written_number (Ok n) = done n 0
+written_number (Err why) = refusal why
 
 -- a day with so many steps told
 abbrev pub day_number : Verdict → ℕ → ℕ → ℕ
-day_number Pass end steps = done end steps
-day_number (Refused why) end steps = refusal why
+day_number (Ok _) end steps = done end steps
+day_number (Err why) end steps = refusal why
 
 -- "the checker returns the end"
 abbrev pub checked_number : Day → ℕ
@@ -49,8 +50,8 @@ planned_number day = day_number day.verdict day.end day.steps
 
 -- the peaks of a day in a lent array; beside a refusal it is as it was
 abbrev pub peaks_by : Verdict → List ℕ → List ℕ → List ℕ
-peaks_by Pass told before = told
-peaks_by (Refused why) told before = before
+peaks_by (Ok _) told before = told
+peaks_by (Err why) told before = before
 
 -- kind 0 of a price: the cents in bits 8 to 63. A refusal is the same number as in every call
 unfoldable pub cost : ℕ → ℕ
@@ -58,21 +59,21 @@ cost cents = 256 * cents
 
 -- a price, or why there is none
 abbrev pub priced_number : Priced → ℕ
-priced_number (priced.Cents cents) = cost cents
-priced_number (priced.Refused why) = refusal why
+priced_number (Ok cents) = cost cents
+priced_number (Err why) = refusal why
 
 -- "a time is a number or 'unreachable'"
 abbrev pub time_number : EarliestTime → ℕ
 time_number (time.At x) = done x 0
 time_number time.Unreachable = unreachable
-time_number (time.Refused why) = refusal why
+time_number (Err why) = refusal why
 
 -- ---- what inner functions ask: the numbers fit their bits
 
 -- a file has at most 4,096 bytes
 abbrev pub ShortFile : Written → Type 0
-ShortFile answer = (n : ℕ) → answer ≡ written.Length n → n ≤ 4096
+ShortFile answer = (n : ℕ) → answer ≡ Ok n → n ≤ 4096
 
 -- a price has at most 56 bits
 abbrev pub SmallPrice : Priced → Type 0
-SmallPrice answer = (cents : ℕ) → answer ≡ priced.Cents cents → cents < 72057594037927936
+SmallPrice answer = (cents : ℕ) → answer ≡ Ok cents → cents < 72057594037927936

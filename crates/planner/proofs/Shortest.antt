@@ -11,8 +11,9 @@ use borrow.Author.Tests.{eq-eqb}
 use Rattle.lists.proofs.Bools.{or_left, or_right}
 use Rattle.job.specs.declared.refusal.Refusal.{Refusal}
 use Rattle.job.specs.declared.refusal.Refusal.TheVariants.{NoPlan}
-use Rattle.job.specs.declared.refusal.Verdict.{Verdict}
-use Rattle.job.specs.declared.refusal.Verdict.TheVariants.{Pass, Refused}
+use Rattle.job.specs.Refusal.{Verdict}
+use Rattle.std.specs.Prelude.{Ok, Err}
+use Rattle.job.specs.Refusal.{pass}
 use Rattle.job.specs.Job.{Job}
 use Rattle.job.specs.Refusal.{Row, ◌when◌, number, first}
 use Rattle.job.specs.Valid.{job_rows, limit_rows, action_rows}
@@ -32,11 +33,11 @@ use Rattle.makespan.proofs.LeastEnds.{every_plan_counts, nothing_begun}
 use Rattle.planner.specs.Plan.{plan_refusals, HandsOut, PlansFor, PlansBy, Plans}
 
 -- an answer that tells of a plan refuses nothing, and a refusal is its own
-told_not_refused : (answer : Day) (told : Told) (why : Refusal) → answer ≡ tells told → answer.verdict ≡ Refused why
+told_not_refused : (answer : Day) (told : Told) (why : Refusal) → answer ≡ tells told → answer.verdict ≡ Err why
     → ⊥
 told_not_refused answer told why same h = let z : ◌≡◌ {A = ℕ} 0 1 = cc in omega arith
 
-pub refusals_same : (answer : Day) (w v : Refusal) → answer ≡ no_day w → answer.verdict ≡ Refused v → w ≡ v
+pub refusals_same : (answer : Day) (w v : Refusal) → answer ≡ no_day w → answer.verdict ≡ Err v → w ≡ v
 refusals_same answer w v told h = cc
 
 -- ---- the tests before the search never tell that there is no plan
@@ -46,7 +47,7 @@ has_number n [] = false
 has_number n (why when test ∷ rows) = eqb (number why) n || has_number n rows
 
 -- a refusal whose number no row has is never the first
-pub never_first : (why : Refusal) (rows : List Row) → has_number (number why) rows ≡ false → first rows ≡ Refused why → ⊥
+pub never_first : (why : Refusal) (rows : List Row) → has_number (number why) rows ≡ false → first rows ≡ Err why → ⊥
 unfolding first
 never_first why [] others h = let z : ◌≡◌ {A = ℕ} 0 1 = cc h in omega arith
 never_first why (w when true ∷ rows) others h =
@@ -61,7 +62,7 @@ tests_before_22 J slice = refl
 
 -- "For jobs that still pass, the shortest day is what it was": of every job within its limits, whether or not 26 holds
 -- of it, a makespan that is a minute is the least end of its accepted plans
-pub shortest_day_without_26 : (J : Job) → first (limit_rows J) ≡ Pass → (e : ℕ) → makespan J J.goal ≡ ends_at e
+pub shortest_day_without_26 : (J : Job) → first (limit_rows J) ≡ pass → (e : ℕ) → makespan J J.goal ≡ ends_at e
     → LeastEnd J J.goal 0 [] e
 shortest_day_without_26 J limits e ends =
     least_end_of_makespan J J.goal 0 [] (within_limits J limits) (nothing_begun J) e ends
@@ -87,14 +88,14 @@ module _ (J : Job) (goal minute : ℕ) (K : List Step) (slice : List ℕ) (answe
       }
 
   module _ (within : Passed J) (none : Refusal) where
-    pub shortest_by_makespan : BegunSteps J minute K → answer.verdict ≡ Pass → (m : Makespan)
+    pub shortest_by_makespan : BegunSteps J minute K → answer.verdict ≡ pass → (m : Makespan)
         → makespan_from J goal minute K ≡ m → PlansFor m none J goal minute K slice answer after → Shortest
     shortest_by_makespan kept pass (ends_at e) q p =
         shortest_handed_out e (least_end_of_makespan J goal minute K within kept e q) p
     shortest_by_makespan kept pass no_plan q p = absurd (refused_not_passed answer none p.answers pass)
 
     pub none_by_makespan : (m : Makespan) → makespan_from J goal minute K ≡ m
-        → PlansFor m none J goal minute K slice answer after → answer.verdict ≡ Refused none
+        → PlansFor m none J goal minute K slice answer after → answer.verdict ≡ Err none
         → (bytes : List ℕ) → Accepted J goal bytes → Counts J minute K bytes → ⊥
     none_by_makespan (ends_at e) q p refused bytes accepted counts =
         told_not_refused answer _ none p.answers refused
@@ -103,7 +104,7 @@ module _ (J : Job) (goal minute : ℕ) (K : List Step) (slice : List ℕ) (answe
 
     pub shortest_when_accepted : BegunSteps J minute K → (m : Makespan) → makespan_from J goal minute K ≡ m
         → PlansFor m none J goal minute K slice answer after → (bytes : List ℕ) → Accepted J goal bytes
-        → Counts J minute K bytes → (answer.verdict ≡ Pass) × Shortest
+        → Counts J minute K bytes → (answer.verdict ≡ pass) × Shortest
     shortest_when_accepted kept (ends_at e) q p bytes accepted counts = (
       ap (λ (d : Day). d.verdict) p.answers,
       shortest_handed_out e (least_end_of_makespan J goal minute K within kept e q) p,
@@ -113,36 +114,36 @@ module _ (J : Job) (goal minute : ℕ) (K : List Step) (slice : List ℕ) (answe
 
 -- ---- the planner's answer
 module _ (J : Job) (slice : List ℕ) (answer : Day) (after : List ℕ) where
-  shortest_by_verdict : answer.verdict ≡ Pass → (v : Verdict) → first (plan_refusals J slice) ≡ v
+  shortest_by_verdict : answer.verdict ≡ pass → (v : Verdict) → first (plan_refusals J slice) ≡ v
       → PlansBy v J slice answer after → Shortest J J.goal 0 [] slice answer after
-  shortest_by_verdict pass Pass q p =
+  shortest_by_verdict pass (Ok _) q p =
       shortest_by_makespan J J.goal 0 [] slice answer after (passed J (pass_of_append (job_rows J) _ q).0) NoPlan
       (nothing_begun J) pass (makespan J J.goal) refl p
-  shortest_by_verdict pass (Refused why) q p = absurd (refused_not_passed answer why p.answers pass)
+  shortest_by_verdict pass (Err why) q p = absurd (refused_not_passed answer why p.answers pass)
 
   -- a plan that is handed out is a shortest one
-  pub plan_is_shortest : Plans J slice answer after → answer.verdict ≡ Pass
+  pub plan_is_shortest : Plans J slice answer after → answer.verdict ≡ pass
       → Shortest J J.goal 0 [] slice answer after
   plan_is_shortest h pass = shortest_by_verdict pass (first (plan_refusals J slice)) refl h
 
   none_by_verdict : (v : Verdict) → first (plan_refusals J slice) ≡ v → PlansBy v J slice answer after
-      → answer.verdict ≡ Refused NoPlan → (bytes : List ℕ) → Accepted J J.goal bytes → ⊥
-  none_by_verdict Pass q p refused bytes accepted =
+      → answer.verdict ≡ Err NoPlan → (bytes : List ℕ) → Accepted J J.goal bytes → ⊥
+  none_by_verdict (Ok _) q p refused bytes accepted =
       none_by_makespan J J.goal 0 [] slice answer after (passed J (pass_of_append (job_rows J) _ q).0) NoPlan
       (makespan J J.goal) refl p refused bytes accepted (every_plan_counts J bytes)
-  none_by_verdict (Refused why) q p refused bytes accepted =
+  none_by_verdict (Err why) q p refused bytes accepted =
       never_first NoPlan (plan_refusals J slice) (tests_before_22 J slice)
-      (q ∙ ap Refused (refusals_same answer why NoPlan p.answers refused))
+      (q ∙ ap Err (refusals_same answer why NoPlan p.answers refused))
 
   -- 22 means that no plan is accepted
-  pub no_plan_when_refused : Plans J slice answer after → answer.verdict ≡ Refused NoPlan
+  pub no_plan_when_refused : Plans J slice answer after → answer.verdict ≡ Err NoPlan
       → (bytes : List ℕ) → Accepted J J.goal bytes → ⊥
   no_plan_when_refused h = none_by_verdict (first (plan_refusals J slice)) refl h
 
   -- where no refusal of the job holds, nor 21, and some plan is accepted, a shortest plan is handed out
-  pub plan_when_accepted : Plans J slice answer after → first (plan_refusals J slice) ≡ Pass
+  pub plan_when_accepted : Plans J slice answer after → first (plan_refusals J slice) ≡ pass
       → (bytes : List ℕ) → Accepted J J.goal bytes
-      → (answer.verdict ≡ Pass) × Shortest J J.goal 0 [] slice answer after
+      → (answer.verdict ≡ pass) × Shortest J J.goal 0 [] slice answer after
   plan_when_accepted h pass bytes accepted =
       shortest_when_accepted J J.goal 0 [] slice answer after (passed J (pass_of_append (job_rows J) _ pass).0)
       NoPlan (nothing_begun J) (makespan J J.goal) refl

@@ -7,8 +7,9 @@ use lib.ListN.{length}
 use borrow.Author.Tests.{lt-ltb, le-ltb}
 use Rattle.job.specs.declared.refusal.Refusal.{Refusal}
 use Rattle.job.specs.declared.refusal.Refusal.TheVariants.{PlanSlice, NoPlan}
-use Rattle.job.specs.declared.refusal.Verdict.{Verdict}
-use Rattle.job.specs.declared.refusal.Verdict.TheVariants.{Pass, Refused}
+use Rattle.job.specs.Refusal.{Verdict}
+use Rattle.std.specs.Prelude.{Ok, Err}
+use Rattle.job.specs.Refusal.{pass}
 use Rattle.job.specs.Job.{Job}
 use Rattle.job.specs.Refusal.{first}
 use Rattle.job.specs.Valid.{job_rows}
@@ -26,24 +27,24 @@ module _ (J : Job) (slice : List ℕ) where
   by_verdict v answer after e h = subst (λ (w : Verdict). PlansBy w J slice answer after) (sym e) h
 
   -- a job that fails its tests
-  pub plans_refused : (why : Refusal) (r : Day) → r ≡ no_day why → first (job_rows J) ≡ Refused why
+  pub plans_refused : (why : Refusal) (r : Day) → r ≡ no_day why → first (job_rows J) ≡ Err why
       → Plans J slice r slice
   plans_refused why r told e =
-      by_verdict (Refused why) r slice (first_append_refused (job_rows J) _ why e) (refused_with_lem slice why r told)
+      by_verdict (Err why) r slice (first_append_refused (job_rows J) _ why e) (refused_with_lem slice why r told)
 
   -- a slice that is too short
-  pub plans_short : (r : Day) → r ≡ no_day PlanSlice → first (job_rows J) ≡ Pass → length slice < 96
+  pub plans_short : (r : Day) → r ≡ no_day PlanSlice → first (job_rows J) ≡ pass → length slice < 96
       → Plans J slice r slice
   plans_short r told passes short =
-      by_verdict (Refused PlanSlice) r slice
+      by_verdict (Err PlanSlice) r slice
       (first_append_pass (job_rows J) _ passes ∙ first_here PlanSlice _ [] (lt-ltb (length slice) 96 short))
       (refused_with_lem slice PlanSlice r told)
 
   -- what the search found, or that it found nothing
-  pub plans_answered : first (job_rows J) ≡ Pass → 96 ≤ length slice → (a : Answer) → Solved J J.goal 0 [] a
+  pub plans_answered : first (job_rows J) ≡ pass → 96 ≤ length slice → (a : Answer) → Solved J J.goal 0 [] a
       → (r : Day) (after : List ℕ) → HandedOut a NoPlan slice r after → Plans J slice r after
   plans_answered passes room a solved r after handed =
-      by_verdict Pass r after
+      by_verdict pass r after
       (first_append_pass (job_rows J) _ passes
       ∙ first_next PlanSlice _ [] (le-ltb (length slice) 96 room)
       ∙ first_none)

@@ -7,8 +7,9 @@ use Rattle.job.specs.Refusal.{Row, ◌when◌, number, first, refused, returned}
 use Rattle.job.specs.Valid.{job_rows}
 use Rattle.job.specs.declared.refusal.Refusal.{Refusal}
 use Rattle.job.specs.declared.refusal.Refusal.TheVariants.{PlanSlice, NoPlan}
-use Rattle.job.specs.declared.refusal.Verdict.{Verdict}
-use Rattle.job.specs.declared.refusal.Verdict.TheVariants.{Pass, Refused}
+use Rattle.job.specs.Refusal.{Verdict}
+use Rattle.std.specs.Prelude.{Ok, Err}
+use Rattle.job.specs.Refusal.{pass}
 use Rattle.timeline.specs.Step.{Step, steps_in}
 use Rattle.timeline.specs.Timeline.{end}
 use Rattle.timeline.specs.Accepted.{Accepted}
@@ -49,8 +50,8 @@ PlansFor no_plan none J goal minute K slice answer after = RefusedWith none slic
 -- "Of the refusals that hold, the one standing first in the table is returned"; otherwise by the makespan for the job's
 -- goal, where every plan counts; 22 where there is "no plan that passes 12 to 20"
 abbrev pub PlansBy : Verdict → Job → List ℕ → Day → List ℕ → Type 0
-PlansBy Pass J slice answer after = PlansFor (makespan J J.goal) NoPlan J J.goal 0 [] slice answer after
-PlansBy (Refused why) J slice answer after = RefusedWith why slice answer after
+PlansBy (Ok _) J slice answer after = PlansFor (makespan J J.goal) NoPlan J J.goal 0 [] slice answer after
+PlansBy (Err why) J slice answer after = RefusedWith why slice answer after
 
 -- the answer to a job and a slice, and every byte that the slice then holds
 abbrev pub Plans : Job → List ℕ → Day → List ℕ → Type 0

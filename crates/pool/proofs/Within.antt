@@ -10,22 +10,23 @@ use Rattle.encoding.proofs.Overwrite.{length_overwrite}
 use Rattle.job.specs.Job.{Job}
 use Rattle.job.specs.Refusal.{first}
 use Rattle.job.specs.Valid.{job_rows}
-use Rattle.job.specs.declared.refusal.Verdict.{Verdict}
-use Rattle.job.specs.declared.refusal.Verdict.TheVariants.{Pass, Refused}
+use Rattle.job.specs.Refusal.{Verdict}
+use Rattle.std.specs.Prelude.{Ok, Err}
+use Rattle.job.specs.Refusal.{pass}
 use Rattle.job.proofs.Table.{first_pass, pass_of_append}
 use Rattle.jobfile.specs.declared.Written.{Written}
-use Rattle.jobfile.specs.declared.Written.TheVariants as written
+use Rattle.std.specs.Prelude.{Ok, Err}
 use Rattle.jobfile.specs.File.{file_of}
 use Rattle.jobfile.specs.Answers.{write_rows, written_of, write_file, left_of, left_by_write}
 use Rattle.writer.specs.Wrote.{Wrote}
 
-told : (v : Verdict) (J : Job) (slice : List ℕ) (n : ℕ) → written_of v J ≡ written.Length n
-    → (v ≡ Pass) × (length (file_of J) ≡ n)
-told Pass J slice n h = (refl, cc)
-told (Refused why) J slice n h = (cc, cc)
+told : (v : Verdict) (J : Job) (slice : List ℕ) (n : ℕ) → written_of v J ≡ Ok n
+    → (v ≡ pass) × (length (file_of J) ≡ n)
+told (Ok _) J slice n h = (refl, cc)
+told (Err why) J slice n h = (cc, cc)
 
 pub written_within : (J : Job) (slice after : List ℕ) (answer : Written) (n : ℕ) → Wrote J slice answer after
-    → answer ≡ written.Length n → n ≤ length after
+    → answer ≡ Ok n → n ≤ length after
 unfolding write_rows write_file left_by_write
 written_within J slice after answer n wrote same =
     let w = told (first (write_rows J slice)) J slice n (sym wrote.answers ∙ same) in

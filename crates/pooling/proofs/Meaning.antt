@@ -5,7 +5,7 @@ use mathlib.Core.Path.{◌≡◌, sym, ap, ◌∙◌}
 use mathlib.Core.List.{List}
 use lib.ListN.{length}
 use Rattle.job.specs.declared.Job as held
-use Rattle.job.specs.declared.refusal.Verdict.TheVariants.{Pass}
+use Rattle.job.specs.Refusal.{pass}
 use Rattle.job.specs.Job.{Job, job_in}
 use Rattle.job.specs.Refusal.{first}
 use Rattle.job.specs.Valid.{job_rows}
@@ -33,13 +33,13 @@ module _ (one other : held.Job) (r : Pooled) (h : Pools (job_in one) (job_in oth
   B = job_in other
 
   -- for two jobs that pass, the other order is answered by the same refusal, or by none
-  pub same_refusal_in_other_order : (s : Pooled) → Pools B A s → first (job_rows A) ≡ Pass → first (job_rows B) ≡ Pass
+  pub same_refusal_in_other_order : (s : Pooled) → Pools B A s → first (job_rows A) ≡ pass → first (job_rows B) ≡ pass
       → r.verdict ≡ s.verdict
   same_refusal_in_other_order s k a b =
       verdict_is A B r h ∙ refusals_other_order A B a b ∙ sym (verdict_is B A s k)
 
-  module _ (pass : r.verdict ≡ Pass) where
-    rows : first (pool_rows A B) ≡ Pass
+  module _ (pass : r.verdict ≡ pass) where
+    rows : first (pool_rows A B) ≡ pass
     rows = sym (verdict_is A B r h) ∙ pass
 
     pooling : Pooling A B
@@ -50,7 +50,7 @@ module _ (one other : held.Job) (r : Pooled) (h : Pools (job_in one) (job_in oth
     answer_is_pooled = ap (λ (x : Pooled). job_in x.job) h.answers ∙ answer_holds_pooled one other rows
 
     -- the pooled job passes every test of a job, so every call takes it
-    pub pooled_job_passes : first (job_rows (job_in r.job)) ≡ Pass
+    pub pooled_job_passes : first (job_rows (job_in r.job)) ≡ pass
     pooled_job_passes =
         ap (λ (x : Pooled). first (job_rows (job_in x.job))) h.answers ∙ answer_passes one other rows
 
@@ -65,14 +65,14 @@ module _ (one other : held.Job) (r : Pooled) (h : Pools (job_in one) (job_in oth
         (day.0, ap (λ (J : Job). makespan J J.goal) answer_is_pooled ∙ day.1, day.2)
 
   -- "Pooling in the other order gives the same end, or the same 22."
-  pub same_day_in_other_order : (s : Pooled) → Pools B A s → r.verdict ≡ Pass
-      → (s.verdict ≡ Pass)
+  pub same_day_in_other_order : (s : Pooled) → Pools B A s → r.verdict ≡ pass
+      → (s.verdict ≡ pass)
       × (makespan (job_in r.job) (job_in r.job).goal ≡ makespan (job_in s.job) (job_in s.job).goal)
   same_day_in_other_order s k pass =
       let both = pooling pass in
-      let too : s.verdict ≡ Pass
+      let too : s.verdict ≡ pass
       = sym (same_refusal_in_other_order s k both.valid_a both.valid_b) ∙ pass in
-      let back : first (pool_rows B A) ≡ Pass = sym (verdict_is B A s k) ∙ too in
+      let back : first (pool_rows B A) ≡ pass = sym (verdict_is B A s k) ∙ too in
       let other_job : job_in s.job ≡ pooled B A
       = ap (λ (x : Pooled). job_in x.job) k.answers ∙ answer_holds_pooled other one back in (
         too,

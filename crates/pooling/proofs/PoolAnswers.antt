@@ -7,8 +7,9 @@ use mathlib.Core.List.{[], ◌∷◌}
 use Rattle.job.specs.declared.Job as held
 use Rattle.job.specs.declared.refusal.Refusal.{Refusal}
 use Rattle.job.specs.declared.refusal.Refusal.TheVariants.{PoolTooLarge, PoolUnlike}
-use Rattle.job.specs.declared.refusal.Verdict.{Verdict}
-use Rattle.job.specs.declared.refusal.Verdict.TheVariants.{Pass, Refused}
+use Rattle.job.specs.Refusal.{Verdict}
+use Rattle.std.specs.Prelude.{Ok, Err}
+use Rattle.job.specs.Refusal.{pass}
 use Rattle.job.specs.Job.{Job, job_in, job_value}
 use Rattle.job.specs.Refusal.{◌when◌, first, reply_by}
 use Rattle.job.specs.Valid.{job_rows}
@@ -25,31 +26,31 @@ use Rattle.pooling.proofs.PooledPasses.{pooling_of_rows, pooled_passes}
 
 -- ---- the rows in their order
 module _ (A B : Job) where
-  pub first_refused : (why : Refusal) → first (job_rows A) ≡ Refused why → first (pool_rows A B) ≡ Refused why
+  pub first_refused : (why : Refusal) → first (job_rows A) ≡ Err why → first (pool_rows A B) ≡ Err why
   unfolding pool_rows
   first_refused why h = first_append_refused (job_rows A) _ why h
 
-  module _ (a : first (job_rows A) ≡ Pass) where
-    pub second_refused : (why : Refusal) → first (job_rows B) ≡ Refused why → first (pool_rows A B) ≡ Refused why
+  module _ (a : first (job_rows A) ≡ pass) where
+    pub second_refused : (why : Refusal) → first (job_rows B) ≡ Err why → first (pool_rows A B) ≡ Err why
     unfolding pool_rows
     second_refused why h = first_append_pass (job_rows A) _ a ∙ first_append_refused (job_rows B) _ why h
 
-    module _ (b : first (job_rows B) ≡ Pass) where
+    module _ (b : first (job_rows B) ≡ pass) where
       own_rows : first (pool_rows A B) ≡ first (PoolTooLarge when too_large A B ∷ PoolUnlike when unlike A B ∷ [])
       unfolding pool_rows
       own_rows = first_append_pass (job_rows A) _ a ∙ first_append_pass (job_rows B) _ b
 
-      pub refused_by_32 : too_large A B ≡ true → first (pool_rows A B) ≡ Refused PoolTooLarge
+      pub refused_by_32 : too_large A B ≡ true → first (pool_rows A B) ≡ Err PoolTooLarge
       refused_by_32 h = own_rows ∙ first_here _ _ _ h
 
-      pub refused_by_33 : too_large A B ≡ false → unlike A B ≡ true → first (pool_rows A B) ≡ Refused PoolUnlike
+      pub refused_by_33 : too_large A B ≡ false → unlike A B ≡ true → first (pool_rows A B) ≡ Err PoolUnlike
       refused_by_33 small h = own_rows ∙ first_next _ _ _ small ∙ first_here _ _ _ h
 
-      pub refused_by_none : too_large A B ≡ false → unlike A B ≡ false → first (pool_rows A B) ≡ Pass
+      pub refused_by_none : too_large A B ≡ false → unlike A B ≡ false → first (pool_rows A B) ≡ pass
       refused_by_none small alike = own_rows ∙ first_next _ _ _ small ∙ first_next _ _ _ alike ∙ first_none
 
 -- for jobs that pass, the other order is refused by the same number, or not at all
-pub refusals_other_order : (A B : Job) → first (job_rows A) ≡ Pass → first (job_rows B) ≡ Pass
+pub refusals_other_order : (A B : Job) → first (job_rows A) ≡ pass → first (job_rows B) ≡ pass
     → first (pool_rows A B) ≡ first (pool_rows B A)
 refusals_other_order A B a b =
     own_rows A B a b
@@ -58,11 +59,11 @@ refusals_other_order A B a b =
     ∙ sym (own_rows B A b a)
 
 -- and of the refusals that are not their own only 32 and 33 are left
-pub only_32_or_33 : (A B : Job) → first (job_rows A) ≡ Pass → first (job_rows B) ≡ Pass → (why : Refusal)
-    → first (pool_rows A B) ≡ Refused why → (why ≡ PoolTooLarge) ⊎ (why ≡ PoolUnlike)
+pub only_32_or_33 : (A B : Job) → first (job_rows A) ≡ pass → first (job_rows B) ≡ pass → (why : Refusal)
+    → first (pool_rows A B) ≡ Err why → (why ≡ PoolTooLarge) ⊎ (why ≡ PoolUnlike)
 only_32_or_33 A B a b why h = left (too_large A B) (unlike A B) why (sym (own_rows A B a b) ∙ h)
   where
-    left : (x y : Bool) (why : Refusal) → first (PoolTooLarge when x ∷ PoolUnlike when y ∷ []) ≡ Refused why
+    left : (x y : Bool) (why : Refusal) → first (PoolTooLarge when x ∷ PoolUnlike when y ∷ []) ≡ Err why
         → (why ≡ PoolTooLarge) ⊎ (why ≡ PoolUnlike)
     left true y why h = inl (cc (first_here PoolTooLarge true (PoolUnlike when y ∷ []) refl))
     left false true why h =
@@ -76,8 +77,8 @@ only_32_or_33 A B a b why h = left (too_large A B) (unlike A B) why (sym (own_ro
 
 -- ---- the answer
 verdict_of_rows : (v : Verdict) (J : Job) → (pooled_of v J).verdict ≡ v
-verdict_of_rows Pass J = refl
-verdict_of_rows (Refused why) J = refl
+verdict_of_rows (Ok _) J = refl
+verdict_of_rows (Err why) J = refl
 
 -- its verdict is that of the rows
 pub verdict_of_pooling : (A B : Job) → (pool_jobs A B).verdict ≡ first (pool_rows A B)
@@ -85,14 +86,14 @@ unfolding pool_jobs
 verdict_of_pooling A B = verdict_of_rows (first (pool_rows A B)) (pooled A B)
 
 reply_of_rows : (v : Verdict) (J : Job) → pooled_reply (pooled_of v J) ≡ reply_by v (job_value J)
-reply_of_rows Pass J = refl
-reply_of_rows (Refused why) J = refl
+reply_of_rows (Ok _) J = refl
+reply_of_rows (Err why) J = refl
 
 module _ (A B : Job) (r : Pooled) where
   answer_when : (v : Verdict) → r.verdict ≡ v → r.job ≡ (pooled_of v (pooled A B)).job → r ≡ pooled_of v (pooled A B)
-  answer_when Pass verdict job =
+  answer_when (Ok _) verdict job =
       ap₂ {C = Pooled} (λ (v : Verdict) (j : held.Job). record { verdict = v; job = j }) verdict job
-  answer_when (Refused why) verdict job =
+  answer_when (Err why) verdict job =
       ap₂ {C = Pooled} (λ (v : Verdict) (j : held.Job). record { verdict = v; job = j }) verdict job
 
   -- what is promised, for a verdict that the rows have
@@ -105,7 +106,7 @@ module _ (A B : Job) (r : Pooled) where
       record { answers = same; replies = ap pooled_reply same ∙ reply_of_rows (first (pool_rows A B)) (pooled A B) }
 
 -- ---- what inner functions ask
-module _ (one other : held.Job) (a : first (job_rows (job_in one)) ≡ Pass) (b : first (job_rows (job_in other)) ≡ Pass)
+module _ (one other : held.Job) (a : first (job_rows (job_in one)) ≡ pass) (b : first (job_rows (job_in other)) ≡ pass)
   where
     pub both_pass : BothPass one other
     both_pass =
@@ -121,14 +122,14 @@ module _ (one other : held.Job) (a : first (job_rows (job_in one)) ≡ Pass) (b 
     poolable small alike = record { both = both_pass; not_too_large = small; not_unlike = alike }
 
 -- ---- where two values are pooled, the answer's value holds the pooled job, and every call takes it
-module _ (one other : held.Job) (rows : first (pool_rows (job_in one) (job_in other)) ≡ Pass) where
+module _ (one other : held.Job) (rows : first (pool_rows (job_in one) (job_in other)) ≡ pass) where
   pub answer_holds_pooled : job_in (pool_jobs (job_in one) (job_in other)).job ≡ pooled (job_in one) (job_in other)
   unfolding pool_jobs
   answer_holds_pooled =
       ap (λ (v : Verdict). job_in (pooled_of v (pooled (job_in one) (job_in other))).job) rows
       ∙ value_holds_pooled (job_in one) (job_in other) (job_in_shape one) (job_in_shape other)
 
-  pub answer_passes : first (job_rows (job_in (pool_jobs (job_in one) (job_in other)).job)) ≡ Pass
+  pub answer_passes : first (job_rows (job_in (pool_jobs (job_in one) (job_in other)).job)) ≡ pass
   answer_passes =
       ap (λ (J : Job). first (job_rows J)) answer_holds_pooled
       ∙ pooled_passes (job_in one) (job_in other)

@@ -15,7 +15,7 @@ use Rattle.lists.proofs.Below.{none_below}
 use Rattle.lists.proofs.Tabulate.{each_map, each_tabulate}
 use Rattle.facts.specs.FactSet.{union, foreign}
 use Rattle.facts.proofs.SetLaws.{foreign_union}
-use Rattle.job.specs.declared.refusal.Verdict.TheVariants.{Pass}
+use Rattle.job.specs.Refusal.{pass}
 use Rattle.job.specs.Job.{Action, Job}
 use Rattle.job.specs.Refusal.{first}
 use Rattle.job.specs.Lengths.{longest_of, shortest_of}
@@ -43,12 +43,12 @@ use Rattle.pooling.proofs.PassingActions.{right_range, within_larger}
 pub record Pooling (A B : Job) : Type 0 where
   pub shape_a : Shape A
   pub shape_b : Shape B
-  pub valid_a : first (job_rows A) ≡ Pass
-  pub valid_b : first (job_rows B) ≡ Pass
+  pub valid_a : first (job_rows A) ≡ pass
+  pub valid_b : first (job_rows B) ≡ pass
   pub not_too_large : too_large A B ≡ false
   pub not_unlike : unlike A B ≡ false
 
-pub pooling_of_rows : (A B : Job) → Shape A → Shape B → first (pool_rows A B) ≡ Pass → Pooling A B
+pub pooling_of_rows : (A B : Job) → Shape A → Shape B → first (pool_rows A B) ≡ pass → Pooling A B
 unfolding pool_rows
 pooling_of_rows A B shape_a shape_b h =
     let mine = pass_of_append (job_rows A) _ h in
@@ -161,7 +161,7 @@ module _ (A B : Job) (pooling : Pooling A B) where
       either_small true pool = small_handover A passed_a pool
       either_small false pool = small_handover B passed_b pool
 
-  limits_pass : first (limit_rows (pooled A B)) ≡ Pass
+  limits_pass : first (limit_rows (pooled A B)) ≡ pass
   unfolding limit_rows action_rows
   limits_pass =
       let n = length_plus A.pools B.pools in
@@ -193,7 +193,7 @@ module _ (A B : Job) (pooling : Pooling A B) where
       ∙ first_none
 
   -- the pooled job passes every test of a job, so every call takes it
-  pub pooled_passes : first (job_rows (pooled A B)) ≡ Pass
+  pub pooled_passes : first (job_rows (pooled A B)) ≡ pass
   unfolding job_rows
   pooled_passes =
       first_append_pass (limit_rows (pooled A B)) _ limits_pass ∙ first_next _ _ _ none_beyond ∙ first_none

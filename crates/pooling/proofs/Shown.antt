@@ -10,7 +10,8 @@ use Rattle.job.specs.declared.Form.TheVariants.{Four, Five}
 use Rattle.job.specs.declared.StoreRule.{StoreRule}
 use Rattle.job.specs.declared.StoreRule.TheVariants.{PerStep, PerHour}
 use Rattle.job.specs.declared.refusal.Refusal.TheVariants.{PoolTooLarge, PoolUnlike}
-use Rattle.job.specs.declared.refusal.Verdict.TheVariants.{Pass, Refused}
+use Rattle.std.specs.Prelude.{Ok, Err}
+use Rattle.job.specs.Refusal.{pass}
 use Rattle.job.specs.Job.{Job}
 use Rattle.job.specs.Lengths.{shortest_of}
 use Rattle.job.specs.Refusal.{first}
@@ -43,7 +44,7 @@ abbrev small : Job
 small = crew Four PerStep 0 1 []
 
 -- both work at the same time, each with a receiver
-pub pooled_small : (first (pool_rows small small) ≡ Pass)
+pub pooled_small : (first (pool_rows small small) ≡ pass)
     × (makespan (pooled small small) (pooled small small).goal ≡ ends_at 3)
 unfolding tabulate any has union difference subset meets foreign first action_rows limit_rows uses_beyond job_rows free
     store_amount store_cap shortest_of step_rows makespan_from handover behind plus pool_rows
@@ -51,13 +52,13 @@ pooled_small = (refl, refl)
 
 -- "a sum over 1,000,000" gives 32, a million itself does not; a handover on one side alone, other head forms or other
 -- reserves give 33; 32 is told before 33
-pub pooled_refused : (first (pool_rows small (crew Four PerStep 0 999999 [])) ≡ Pass)
-    × (first (pool_rows small (crew Four PerStep 0 1000000 [])) ≡ Refused PoolTooLarge)
-    × (first (pool_rows small (crew Five PerStep 0 1 (0 ∷ []))) ≡ Pass)
-    × (first (pool_rows small (crew Five PerStep 0 1 (5 ∷ []))) ≡ Refused PoolUnlike)
-    × (first (pool_rows small (crew Four PerHour 0 1 [])) ≡ Refused PoolUnlike)
-    × (first (pool_rows (crew Four PerHour 10 1 []) (crew Four PerHour 20 1 [])) ≡ Refused PoolUnlike)
-    × (first (pool_rows small (crew Five PerStep 0 1000000 (5 ∷ []))) ≡ Refused PoolTooLarge)
+pub pooled_refused : (first (pool_rows small (crew Four PerStep 0 999999 [])) ≡ pass)
+    × (first (pool_rows small (crew Four PerStep 0 1000000 [])) ≡ Err PoolTooLarge)
+    × (first (pool_rows small (crew Five PerStep 0 1 (0 ∷ []))) ≡ pass)
+    × (first (pool_rows small (crew Five PerStep 0 1 (5 ∷ []))) ≡ Err PoolUnlike)
+    × (first (pool_rows small (crew Four PerHour 0 1 [])) ≡ Err PoolUnlike)
+    × (first (pool_rows (crew Four PerHour 10 1 []) (crew Four PerHour 20 1 [])) ≡ Err PoolUnlike)
+    × (first (pool_rows small (crew Five PerStep 0 1000000 (5 ∷ []))) ≡ Err PoolTooLarge)
 unfolding tabulate any has meets foreign first action_rows limit_rows uses_beyond job_rows store_amount store_cap shortest_of
     handover behind plus pool_rows
 pooled_refused = (refl, refl, refl, refl, refl, refl, refl)

@@ -7,8 +7,9 @@ use Rattle.job.specs.declared.Form.{Form}
 use Rattle.job.specs.declared.Form.TheVariants.{Four, Five, Six}
 use Rattle.job.specs.declared.Job as held
 use Rattle.job.specs.declared.refusal.Refusal.TheVariants.{PoolTooLarge, PoolUnlike}
-use Rattle.job.specs.declared.refusal.Verdict.{Verdict}
-use Rattle.job.specs.declared.refusal.Verdict.TheVariants.{Pass, Refused}
+use Rattle.job.specs.Refusal.{Verdict}
+use Rattle.std.specs.Prelude.{Ok, Err}
+use Rattle.job.specs.Refusal.{pass}
 use Rattle.job.specs.Job.{Action, Job, entries, handover_count, head_size, job_value, zero_value}
 use Rattle.job.specs.Lengths.{shortest_of}
 use Rattle.job.specs.Refusal.{Row, ◌when◌, first, Reply, reply_by}
@@ -106,8 +107,8 @@ pool_rows A B = job_rows A ++ (job_rows B ++ (PoolTooLarge when too_large A B �
 
 -- the pooled job, or a refusal: "a job or number standing beside it is all zero"
 abbrev pub pooled_of : Verdict → Job → Pooled
-pooled_of Pass J = record { verdict = Pass; job = job_value J }
-pooled_of (Refused why) J = record { verdict = Refused why; job = zero_value }
+pooled_of (Ok _) J = record { verdict = pass; job = job_value J }
+pooled_of (Err why) J = record { verdict = Err why; job = zero_value }
 
 -- what pooling answers: the first refusal, or the pooled job
 unfoldable pub pool_jobs : Job → Job → Pooled

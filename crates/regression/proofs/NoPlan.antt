@@ -10,7 +10,7 @@ use lib.ListN.{length}
 use Rattle.job.specs.Job.{Job}
 use Rattle.job.specs.Refusal.{first}
 use Rattle.job.specs.Passed.{Passed}
-use Rattle.job.specs.declared.refusal.Verdict.TheVariants.{Pass}
+use Rattle.job.specs.Refusal.{pass}
 use Rattle.timeline.specs.Step.{Step, strictly_rising}
 use Rattle.timeline.specs.From.{From, IsNew, IsKept}
 use Rattle.timeline.specs.Timeline.{end}
@@ -38,7 +38,7 @@ module _ (J : Job) (b : From) (goal T : ℕ) where
 
   -- R is L in rising order, and it is refused or ends after T
   pub dead_when_refused : T ≤ J.deadline → (t : ℕ) → t ≤ b.minute → (L R : List Step) → Permutation R L
-      → (AllApart L → strictly_rising R ≡ true) → (first (step_rows J goal R) ≡ Pass → end R ≤ T → ⊥)
+      → (AllApart L → strictly_rising R ≡ true) → (first (step_rows J goal R) ≡ pass → end R ≤ T → ⊥)
       → Dead J b goal T (Until b t) L
   dead_when_refused d t l L R o rising refused =
       dead_when_none_left t l L
@@ -50,7 +50,7 @@ module _ (J : Job) (b : From) (goal T : ℕ) where
   -- R is an accepted plan of the new steps P and the kept steps K
   pub no_plan_when_dead : Passed J → (P K R : List Step) → Permutation R (P ++ K) → EachStep (OfJob J) R
       → EachStep (IsNew b) P → EachStep (IsKept b) K → length R ≤ 32
-      → first (step_rows J goal R) ≡ Pass → end R ≤ T → Dead J b goal T (Until b T) K → ⊥
+      → first (step_rows J goal R) ≡ pass → end R ≤ T → Dead J b goal T (Until b T) K → ⊥
   no_plan_when_dead passed P K R o own new kept few pass l dead =
       let Known : Step → Type 0 = λ x. x.number < length J.actions in
       let known = (accepted_steps J goal R pass).known in

@@ -12,7 +12,7 @@ use Rattle.facts.specs.FactSet.{meets}
 use Rattle.job.specs.Job.{Job, no_action}
 use Rattle.job.specs.Refusal.{first}
 use Rattle.job.specs.Passed.{Passed, PassedAction}
-use Rattle.job.specs.declared.refusal.Verdict.TheVariants.{Pass}
+use Rattle.job.specs.Refusal.{pass}
 use Rattle.timeline.specs.Step.{Step, strictly_rising}
 use Rattle.timeline.specs.From.{From, IsNew, IsKept}
 use Rattle.timeline.specs.Timeline.{end}
@@ -127,7 +127,7 @@ module _ (J : Job) (b : From) (goal T : ℕ) where
 
   -- in rising order it is accepted
   pub normal_plan_accepted : T ≤ J.deadline → {R P : List Step} → Permutation R P → strictly_rising R ≡ true
-      → NormalPlan J b goal T P → (first (step_rows J goal R) ≡ Pass) × (end R ≤ T)
+      → NormalPlan J b goal T P → (first (step_rows J goal R) ≡ pass) × (end R ≤ T)
   normal_plan_accepted l {R} o rising p =
       let q = normal_plan_permuted o p in
       accepted_of_keeps J goal R T l q.plan.known rising q.plan.keeps

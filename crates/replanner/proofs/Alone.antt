@@ -10,7 +10,7 @@ use native.Mathlib.Omega.{arith}
 use lib.ListN.{length}
 use Rattle.lists.proofs.Tabulate.{length_tabulate, each_tabulate}
 use Rattle.facts.specs.FactSet.{foreign}
-use Rattle.job.specs.declared.refusal.Verdict.TheVariants.{Pass}
+use Rattle.job.specs.Refusal.{pass}
 use Rattle.job.specs.Job.{Job}
 use Rattle.job.specs.Refusal.{first}
 use Rattle.job.specs.Valid.{job_rows}
@@ -38,7 +38,7 @@ use Rattle.solver.specs.Task.{Solved}
 use Rattle.replanner.specs.Kept.{KeptFit, Replanned}
 use Rattle.replanner.proofs.Begun.{all_begun, accepted_alone}
 
-module _ (J : Job) (goal minute : ℕ) (kept : Steps) (valid : first (job_rows J) ≡ Pass)
+module _ (J : Job) (goal minute : ℕ) (kept : Steps) (valid : first (job_rows J) ≡ pass)
     (own : foreign J.facts goal ≡ false) (fit : KeptFit J minute kept) where
   abbrev K : List Step
   K = in_order J kept

@@ -13,7 +13,7 @@ use borrow.Author.Tests.{lt-ltb, le-ltb}
 use Rattle.lists.specs.Lists.{tabulate}
 use Rattle.lists.proofs.Tabulate.{length_tabulate, tabulate_snoc, tabulate_same, get_d_tabulate}
 use Rattle.job.specs.declared.Job as held
-use Rattle.job.specs.declared.refusal.Verdict.TheVariants.{Pass}
+use Rattle.job.specs.Refusal.{pass}
 use Rattle.job.specs.Job.{Job, job_in, no_action}
 use Rattle.job.specs.Refusal.{first}
 use Rattle.job.specs.Valid.{job_rows}
@@ -123,7 +123,7 @@ each_placed F n f h k l =
 
 -- the plan in the bytes passes tests 12 to 19
 module _ (job : held.Job) (current : List ℕ) (plan : Plan) (decodes : Decodes job current plan)
-    (valid : first (job_rows (job_in job)) ≡ Pass) (runs : Accepted (job_in job) 0 current) where
+    (valid : first (job_rows (job_in job)) ≡ pass) (runs : Accepted (job_in job) 0 current) where
   abbrev J : Job
   J = job_in job
 

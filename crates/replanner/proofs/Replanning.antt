@@ -12,8 +12,9 @@ use Rattle.encoding.specs.Bytes.{overwrite}
 use Rattle.facts.specs.FactSet.{foreign}
 use Rattle.job.specs.declared.refusal.Refusal.{Refusal}
 use Rattle.job.specs.declared.refusal.Refusal.TheVariants.{ForeignAskedFact, PlanSlice, NoPlanWithKept}
-use Rattle.job.specs.declared.refusal.Verdict.{Verdict}
-use Rattle.job.specs.declared.refusal.Verdict.TheVariants.{Pass, Refused}
+use Rattle.job.specs.Refusal.{Verdict}
+use Rattle.std.specs.Prelude.{Ok, Err}
+use Rattle.job.specs.Refusal.{pass}
 use Rattle.job.specs.Job.{Job}
 use Rattle.job.specs.Refusal.{Row, ◌when◌, first}
 use Rattle.job.specs.Valid.{job_rows}
@@ -44,16 +45,16 @@ module _ (J : Job) (current : List ℕ) (minute goal : ℕ) (slice : List ℕ) w
       → ReplansBy v J goal minute K slice r after → Replans J current minute goal slice r after
   by_verdict v r after e h = subst (λ (w : Verdict). ReplansBy w J goal minute K slice r after) (sym e) h
 
-  refused_by : (why : Refusal) (r : Day) → r ≡ no_day why → first (replan_rows J current goal slice) ≡ Refused why
+  refused_by : (why : Refusal) (r : Day) → r ≡ no_day why → first (replan_rows J current goal slice) ≡ Err why
       → Replans J current minute goal slice r slice
-  refused_by why r told e = by_verdict (Refused why) r slice e (refused_with_lem slice why r told)
+  refused_by why r told e = by_verdict (Err why) r slice e (refused_with_lem slice why r told)
 
   -- a job that fails its tests
-  pub replans_refused : (why : Refusal) (r : Day) → r ≡ no_day why → first (job_rows J) ≡ Refused why
+  pub replans_refused : (why : Refusal) (r : Day) → r ≡ no_day why → first (job_rows J) ≡ Err why
       → Replans J current minute goal slice r slice
   replans_refused why r told e = refused_by why r told (first_append_refused (job_rows J) _ why e)
 
-  module _ (valid : first (job_rows J) ≡ Pass) where
+  module _ (valid : first (job_rows J) ≡ pass) where
     -- a goal with a foreign fact
     pub replans_foreign : (r : Day) → r ≡ no_day ForeignAskedFact → foreign J.facts goal ≡ true
         → Replans J current minute goal slice r slice
@@ -66,13 +67,13 @@ module _ (J : Job) (current : List ℕ) (minute goal : ℕ) (slice : List ℕ) w
       plan_rows_lem = first_append_pass (job_rows J) _ valid ∙ first_next ForeignAskedFact _ _ own
 
       -- a current plan that fails one of 12 to 19
-      pub replans_plan_refused : (why : Refusal) (r : Day) → r ≡ no_day why → first (plan_rows J 0 current) ≡ Refused why
+      pub replans_plan_refused : (why : Refusal) (r : Day) → r ≡ no_day why → first (plan_rows J 0 current) ≡ Err why
           → Replans J current minute goal slice r slice
       replans_plan_refused why r told e =
           refused_by why r told
           (plan_rows_lem ∙ first_append_refused (run_rows J current) _ why (sym (run_rows_lem J current) ∙ e))
 
-      module _ (runs : first (plan_rows J 0 current) ≡ Pass) where
+      module _ (runs : first (plan_rows J 0 current) ≡ pass) where
         slice_rows : first (replan_rows J current goal slice) ≡ first (slice_row ∷ [])
         slice_rows = plan_rows_lem ∙ first_append_pass (run_rows J current) _ (sym (run_rows_lem J current) ∙ runs)
 
@@ -102,7 +103,7 @@ module _ (J : Job) (current : List ℕ) (minute goal : ℕ) (slice : List ℕ) w
           -- what was found with the kept steps, or that nothing was
           pub replans_answered : Replans J current minute goal slice r after
           replans_answered =
-              by_verdict Pass r after
+              by_verdict pass r after
               (slice_rows ∙ first_next PlanSlice _ [] (le-ltb (length slice) 96 room) ∙ first_none)
               (⊎_elim (λ e. by_pass true e (kept_handed_out e))
               (λ e.

@@ -6,8 +6,9 @@ use mathlib.Core.Path.{◌≡◌, refl, sym, ap, ◌∙◌, subst}
 use mathlib.Core.Bool.{Bool, true, false}
 use mathlib.Core.List.{List, []}
 use Rattle.job.specs.declared.refusal.Refusal.TheVariants.{NoPlanWithKept}
-use Rattle.job.specs.declared.refusal.Verdict.{Verdict}
-use Rattle.job.specs.declared.refusal.Verdict.TheVariants.{Pass, Refused}
+use Rattle.job.specs.Refusal.{Verdict}
+use Rattle.std.specs.Prelude.{Ok, Err}
+use Rattle.job.specs.Refusal.{pass}
 use Rattle.job.specs.Job.{Job}
 use Rattle.job.specs.Refusal.{first, returned}
 use Rattle.job.specs.Valid.{job_rows, limit_rows, action_rows}
@@ -43,7 +44,7 @@ module _ (J : Job) (current : List ℕ) (minute goal : ℕ) (slice : List ℕ) (
   abbrev PlansWithKept : Type 0
   PlansWithKept = PlansFor (makespan_from J goal minute K) NoPlanWithKept J goal minute K slice answer after
 
-  module _ (rows : first (replan_rows J current goal slice) ≡ Pass) where
+  module _ (rows : first (replan_rows J current goal slice) ≡ pass) where
     within : Passed J
     within = passed J (pass_of_append (job_rows J) _ rows).0
 
@@ -79,62 +80,62 @@ module _ (J : Job) (current : List ℕ) (minute goal : ℕ) (slice : List ℕ) (
         (kept_hands_out alone p)
     plans_by_pass false e p = p
 
-    plans_with_kept : ReplansBy Pass J goal minute K slice answer after → PlansWithKept
+    plans_with_kept : ReplansBy pass J goal minute K slice answer after → PlansWithKept
     plans_with_kept p = plans_by_pass (passes J goal K) refl p
 
   -- the promise, where no refusal of the job holds, nor 24, 12 to 19 or 21
   plans_when_tests_pass : Replans J current minute goal slice answer after
-      → first (replan_rows J current goal slice) ≡ Pass → PlansWithKept
+      → first (replan_rows J current goal slice) ≡ pass → PlansWithKept
   plans_when_tests_pass h rows =
       plans_with_kept rows (subst (λ (v : Verdict). ReplansBy v J goal minute K slice answer after) rows h)
 
-  shortest_by_verdict : answer.verdict ≡ Pass → (v : Verdict) → first (replan_rows J current goal slice) ≡ v
+  shortest_by_verdict : answer.verdict ≡ pass → (v : Verdict) → first (replan_rows J current goal slice) ≡ v
       → ReplansBy v J goal minute K slice answer after → Shortest J goal minute K slice answer after
-  shortest_by_verdict pass Pass rows p =
+  shortest_by_verdict pass (Ok _) rows p =
       shortest_by_makespan J goal minute K slice answer after (within rows) NoPlanWithKept (begun_steps rows) pass
       (makespan_from J goal minute K) refl (plans_with_kept rows p)
-  shortest_by_verdict pass (Refused why) rows p = absurd (refused_not_passed answer why p.answers pass)
+  shortest_by_verdict pass (Err why) rows p = absurd (refused_not_passed answer why p.answers pass)
 
   -- a plan that is handed out is a shortest one of those with the kept steps
-  pub replan_is_shortest : Replans J current minute goal slice answer after → answer.verdict ≡ Pass
+  pub replan_is_shortest : Replans J current minute goal slice answer after → answer.verdict ≡ pass
       → Shortest J goal minute K slice answer after
   replan_is_shortest h pass = shortest_by_verdict pass (first (replan_rows J current goal slice)) refl h
 
   none_by_verdict : (v : Verdict) → first (replan_rows J current goal slice) ≡ v
-      → ReplansBy v J goal minute K slice answer after → answer.verdict ≡ Refused NoPlanWithKept
+      → ReplansBy v J goal minute K slice answer after → answer.verdict ≡ Err NoPlanWithKept
       → (bytes : List ℕ) → Accepted J goal bytes → Counts J minute K bytes → ⊥
-  none_by_verdict Pass rows p refused =
+  none_by_verdict (Ok _) rows p refused =
       none_by_makespan J goal minute K slice answer after (within rows) NoPlanWithKept
       (makespan_from J goal minute K) refl (plans_with_kept rows p) refused
-  none_by_verdict (Refused why) rows p refused = λ bytes accepted counts.
+  none_by_verdict (Err why) rows p refused = λ bytes accepted counts.
       never_first NoPlanWithKept (replan_rows J current goal slice) (tests_before_35 J current goal slice)
-      (rows ∙ ap Refused (refusals_same answer why NoPlanWithKept p.answers refused))
+      (rows ∙ ap Err (refusals_same answer why NoPlanWithKept p.answers refused))
 
   -- 35 means that no plan with the kept steps is accepted for the goal
-  pub no_plan_when_35 : Replans J current minute goal slice answer after → answer.verdict ≡ Refused NoPlanWithKept
+  pub no_plan_when_35 : Replans J current minute goal slice answer after → answer.verdict ≡ Err NoPlanWithKept
       → (bytes : List ℕ) → Accepted J goal bytes → Counts J minute K bytes → ⊥
   no_plan_when_35 h = none_by_verdict (first (replan_rows J current goal slice)) refl h
 
   module _ (h : Replans J current minute goal slice answer after)
-      (rows : first (replan_rows J current goal slice) ≡ Pass) where
+      (rows : first (replan_rows J current goal slice) ≡ pass) where
     -- where none of the tests before the search holds and some plan with the kept steps is accepted, a shortest one is
     -- handed out
     pub plan_when_counts : (bytes : List ℕ) → Accepted J goal bytes → Counts J minute K bytes
-        → (answer.verdict ≡ Pass) × Shortest J goal minute K slice answer after
+        → (answer.verdict ≡ pass) × Shortest J goal minute K slice answer after
     plan_when_counts =
         shortest_when_accepted J goal minute K slice answer after (within rows) NoPlanWithKept (begun_steps rows)
         (makespan_from J goal minute K) refl (plans_when_tests_pass h rows)
 
     -- the current plan counts: where it meets the goal, the day ends no later than it does
     pub no_later_than_current : Accepted J goal current
-        → (answer.verdict ≡ Pass) × (answer.end ≤ end (steps_in J current))
+        → (answer.verdict ≡ pass) × (answer.end ≤ end (steps_in J current))
     no_later_than_current accepted =
         let shortest = plan_when_counts current accepted refl in
         (shortest.0, shortest.1.least.least current accepted refl)
 
 -- at minute 0 nothing is kept: an ordinary planning call for the goal, with 35 where that gives 22
 pub replan_at_0 : (J : Job) (current : List ℕ) (goal : ℕ) (slice : List ℕ) (answer : Day) (after : List ℕ)
-    → Replans J current 0 goal slice answer after → first (replan_rows J current goal slice) ≡ Pass
+    → Replans J current 0 goal slice answer after → first (replan_rows J current goal slice) ≡ pass
     → PlansFor (makespan J goal) NoPlanWithKept J goal 0 [] slice answer after
 replan_at_0 J current goal slice answer after h rows =
     subst (λ (K : List Step). PlansFor (makespan_from J goal 0 K) NoPlanWithKept J goal 0 K slice answer after)

@@ -7,8 +7,9 @@ use Rattle.job.specs.Job.{Job}
 use Rattle.job.specs.Refusal.{Row, ◌when◌, first, returned}
 use Rattle.job.specs.Valid.{job_rows}
 use Rattle.job.specs.declared.refusal.Refusal.TheVariants.{ForeignAskedFact, PlanSlice, NoPlanWithKept}
-use Rattle.job.specs.declared.refusal.Verdict.{Verdict}
-use Rattle.job.specs.declared.refusal.Verdict.TheVariants.{Pass, Refused}
+use Rattle.job.specs.Refusal.{Verdict}
+use Rattle.std.specs.Prelude.{Ok, Err}
+use Rattle.job.specs.Refusal.{pass}
 use Rattle.timeline.specs.Step.{Step, steps_in, plan_bytes}
 use Rattle.timeline.specs.Accepted.{run_rows}
 use Rattle.timeline.specs.Day.{told_of, tells, day_reply}
@@ -43,8 +44,8 @@ ReplansWith false J goal minute K slice answer after =
 -- "Of the refusals that hold, the one standing first in the table is returned"; otherwise by whether the kept steps are
 -- accepted for the goal as they are
 abbrev pub ReplansBy : Verdict → Job → ℕ → ℕ → List Step → List ℕ → Day → List ℕ → Type 0
-ReplansBy Pass J goal minute K slice answer after = ReplansWith (passes J goal K) J goal minute K slice answer after
-ReplansBy (Refused why) J goal minute K slice answer after = RefusedWith why slice answer after
+ReplansBy (Ok _) J goal minute K slice answer after = ReplansWith (passes J goal K) J goal minute K slice answer after
+ReplansBy (Err why) J goal minute K slice answer after = RefusedWith why slice answer after
 
 -- the answer to a job, the current plan, the minute, the new goal and a slice, and every byte that the slice then holds
 abbrev pub Replans : Job → List ℕ → ℕ → ℕ → List ℕ → Day → List ℕ → Type 0

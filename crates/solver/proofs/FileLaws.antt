@@ -12,8 +12,8 @@ use Rattle.encoding.proofs.Overwrite.{length_overwrite}
 use Rattle.job.specs.declared.Job as held
 use Rattle.job.specs.declared.refusal.Refusal.{Refusal}
 use Rattle.job.specs.declared.refusal.Refusal.TheVariants.{FileSlice}
-use Rattle.job.specs.declared.refusal.Verdict.{Verdict}
-use Rattle.job.specs.declared.refusal.Verdict.TheVariants.{Pass}
+use Rattle.job.specs.Refusal.{Verdict}
+use Rattle.job.specs.Refusal.{pass}
 use Rattle.job.specs.Job.{Job, job_in, job_value}
 use Rattle.job.specs.Refusal.{first}
 use Rattle.job.specs.Resumed.{resumed}
@@ -22,7 +22,7 @@ use Rattle.job.proofs.Passed.{passed}
 use Rattle.job.proofs.Table.{first_next, first_append_pass, first_none}
 use Rattle.job.proofs.Values.{job_in_shape, value_holds_job}
 use Rattle.jobfile.specs.declared.Written.{Written}
-use Rattle.jobfile.specs.declared.Written.TheVariants as written
+use Rattle.std.specs.Prelude.{Ok, Err}
 use Rattle.jobfile.specs.File.{file_of}
 use Rattle.jobfile.specs.Answers.{read_file, write_rows, written_of, write_file, left_of, left_by_write}
 use Rattle.jobfile.proofs.Lengths.{file_fits}
@@ -31,16 +31,16 @@ use Rattle.writer.specs.Wrote.{Wrote}
 use Rattle.leaf.specs.Answer.{FileOf}
 
 -- the writer's answers are different, and a length is told by its number
-lengths_same : {m n : ℕ} → ◌≡◌ {A = Written} (written.Length m) (written.Length n) → m ≡ n
+lengths_same : {m n : ℕ} → ◌≡◌ {A = Written} (Ok m) (Ok n) → m ≡ n
 lengths_same h = cc h
 
-no_length_when_refused : {n : ℕ} {why : Refusal} → ◌≡◌ {A = Written} (written.Refused why) (written.Length n) → ⊥
+no_length_when_refused : {n : ℕ} {why : Refusal} → ◌≡◌ {A = Written} (Err why) (Ok n) → ⊥
 no_length_when_refused h = let z : ◌≡◌ {A = ℕ} 0 1 = cc h in omega arith
 
-module _ (job : held.Job) (passes : first (job_rows (job_in job)) ≡ Pass) (slice : List ℕ)
+module _ (job : held.Job) (passes : first (job_rows (job_in job)) ≡ pass) (slice : List ℕ)
     (room : length slice ≡ 4096) where
   -- none of the writer's tests fails
-  none_fails : first (write_rows (job_in job) slice) ≡ Pass
+  none_fails : first (write_rows (job_in job) slice) ≡ pass
   unfolding write_rows
   none_fails =
       let J = job_in job in
@@ -49,7 +49,7 @@ module _ (job : held.Job) (passes : first (job_rows (job_in job)) ≡ Pass) (sli
       ∙ first_next FileSlice _ [] (le-ltb (length slice) (length (file_of J)) (omega arith))
       ∙ first_none
 
-  file_written : write_file (job_in job) slice ≡ written.Length (length (file_of (job_in job)))
+  file_written : write_file (job_in job) slice ≡ Ok (length (file_of (job_in job)))
   unfolding write_file
   file_written = ap (λ (v : Verdict). written_of v (job_in job)) none_fails
 
@@ -59,11 +59,11 @@ module _ (job : held.Job) (passes : first (job_rows (job_in job)) ≡ Pass) (sli
 
   module _ (answer : Written) (after : List ℕ) (wrote : Wrote (job_in job) slice answer after) where
     -- 23 is no answer
-    pub file_not_refused : (why : Refusal) → answer ≡ written.Refused why → ⊥
+    pub file_not_refused : (why : Refusal) → answer ≡ Err why → ⊥
     file_not_refused why h = no_length_when_refused (sym h ∙ wrote.answers ∙ file_written)
 
     -- the file ends in the slice
-    pub file_in_slice : (n : ℕ) → answer ≡ written.Length n → n ≤ length after
+    pub file_in_slice : (n : ℕ) → answer ≡ Ok n → n ≤ length after
     file_in_slice n h =
         let J = job_in job in
         let fits = file_fits J (job_in_shape job) (passed J passes) in
@@ -72,18 +72,18 @@ module _ (job : held.Job) (passes : first (job_rows (job_in job)) ≡ Pass) (sli
         let same = length_overwrite slice 0 (file_of J) (omega arith) in
         omega arith
 
-    pub file_length : (n : ℕ) → answer ≡ written.Length n → n ≡ length (take n after)
+    pub file_length : (n : ℕ) → answer ≡ Ok n → n ≡ length (take n after)
     file_length n h = sym (length-take-le n after (file_in_slice n h))
 
 -- what the writer leaves in the slice, up to the file's length, is a file of which J is resumed
 pub file_of_job : (job : held.Job) (slice : List ℕ) (answer : Written) (after : List ℕ)
-    → Wrote (job_in job) slice answer after → ByteDurations job → (n : ℕ) → answer ≡ written.Length n
-    → (start : ℕ) (stocks : List ℕ) (J : Job) → resumed (job_in job) start stocks ≡ J → first (limit_rows J) ≡ Pass
+    → Wrote (job_in job) slice answer after → ByteDurations job → (n : ℕ) → answer ≡ Ok n
+    → (start : ℕ) (stocks : List ℕ) (J : Job) → resumed (job_in job) start stocks ≡ J → first (limit_rows J) ≡ pass
     → FileOf J (take n after) start stocks
 file_of_job job slice answer after wrote durations n h start stocks J same passes =
     record {
       value = job_value (job_in job);
-      read = subst (λ (bytes : List ℕ). read_file (take n bytes) ≡ record { verdict = Pass; job = job_value (job_in job) })
+      read = subst (λ (bytes : List ℕ). read_file (take n bytes) ≡ record { verdict = pass; job = job_value (job_in job) })
           (sym wrote.leaves) (read_after_write_slice job slice n durations (sym wrote.answers ∙ h));
       same = ap (λ (K : Job). resumed K start stocks) (value_holds_job (job_in job) (job_in_shape job)) ∙ same;
       passes = passes;

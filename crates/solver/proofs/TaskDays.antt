@@ -6,7 +6,7 @@ use mathlib.Core.List.{[]}
 use native.Mathlib.Omega.{arith}
 use Rattle.lists.specs.Lists.{tabulate}
 use Rattle.job.specs.declared.Job as held
-use Rattle.job.specs.declared.refusal.Verdict.TheVariants.{Pass}
+use Rattle.job.specs.Refusal.{pass}
 use Rattle.job.specs.Job.{Job, job_in}
 use Rattle.job.specs.Refusal.{first}
 use Rattle.job.specs.Valid.{job_rows}
@@ -34,7 +34,7 @@ module _ (job : held.Job) (goal minute : ℕ) (kept : Steps) (task : Task) (is :
       (subst (λ (t : Task). Solved (day_of job t) t.goal t.first (in_order (day_of job t) t.kept) r) is solved)
 
 module _ (job : held.Job) (task : Task) (is : task ≡ whole_day job) where
-  pub whole_day_fits : first (job_rows (job_in job)) ≡ Pass → TaskFits (day_of job task) task
+  pub whole_day_fits : first (job_rows (job_in job)) ≡ pass → TaskFits (day_of job task) task
   unfolding tabulate
   whole_day_fits passes =
       begun_day_fits job job.goal 0 no_steps task is

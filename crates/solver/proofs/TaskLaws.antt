@@ -8,7 +8,7 @@ use native.Mathlib.Omega.{arith}
 use Rattle.lists.proofs.Tabulate.{length_tabulate}
 use Rattle.facts.specs.FactSet.{has}
 use Rattle.job.specs.declared.Job as held
-use Rattle.job.specs.declared.refusal.Verdict.TheVariants.{Pass}
+use Rattle.job.specs.Refusal.{pass}
 use Rattle.job.specs.Job.{Job, Fits, action_at, job_in}
 use Rattle.job.specs.Refusal.{first}
 use Rattle.job.specs.Resumed.{resumed, resumed_value}
@@ -41,7 +41,7 @@ use Rattle.solver.specs.Task.{day_of, TaskFits, RestTimes, Solved}
 use Rattle.solver.proofs.Solving.{solved}
 
 -- the numbers of the actions, with durations of one byte
-pub numbers_of_job : (job : held.Job) (sets numbers : List ℕ) → first (limit_rows (job_in job)) ≡ Pass
+pub numbers_of_job : (job : held.Job) (sets numbers : List ℕ) → first (limit_rows (job_in job)) ≡ pass
     → Filled job sets numbers → Numbers numbers job.counts.actions
 numbers_of_job job sets numbers passes filled =
     record {
@@ -55,7 +55,7 @@ numbers_of_job job sets numbers passes filled =
     }
 
 -- the tables of the actions stay while those of the facts are filled
-pub filled_still : (job : held.Job) (sets numbers sets' numbers' : List ℕ) → first (limit_rows (job_in job)) ≡ Pass
+pub filled_still : (job : held.Job) (sets numbers sets' numbers' : List ℕ) → first (limit_rows (job_in job)) ≡ pass
     → Filled job sets numbers → KeptBefore 256 384 sets sets' → KeptBefore 576 1220 numbers numbers'
     → Filled job sets' numbers'
 filled_still job sets numbers sets' numbers' passes filled kept_sets kept_numbers =
@@ -120,7 +120,7 @@ module _ (day : held.Job) (task : Task) (fits : TaskFits (job_in day) task) (fra
   same : frame ≡ whole
   same = framed.same
 
-  passes : first (limit_rows J) ≡ Pass
+  passes : first (limit_rows J) ≡ pass
   passes = fits.passes
 
   counts : Fits day.counts

@@ -3,7 +3,7 @@
 use Rattle.std.specs.Prelude.{ℕ, ◌<◌, ◌≡◌, true, false, List, length, get_or}
 use Rattle.facts.specs.FactSet.{foreign}
 use Rattle.job.specs.declared.Job as held
-use Rattle.job.specs.declared.refusal.Verdict.TheVariants.{Pass}
+use Rattle.job.specs.Refusal.{pass}
 use Rattle.job.specs.Job.{Job, job_in}
 use Rattle.job.specs.Refusal.{first}
 use Rattle.job.specs.Resumed.{resumed}
@@ -39,7 +39,7 @@ StartBefore minute steps = (k : ℕ) → k < steps.count → get_or steps.starts
 -- what may be asked of the job J: it is within its limits ("26 looks only at the job as given"), the goal has its facts
 -- only, and the kept steps are its own, start before the first free minute and stand in rising order
 pub record TaskFits (J : Job) (task : Task) : Type 0 where
-  pub passes : first (limit_rows J) ≡ Pass
+  pub passes : first (limit_rows J) ≡ pass
   pub goal : foreign J.facts task.goal ≡ false
   pub known : Known (length J.actions) task.kept
   pub early : StartBefore task.first task.kept

@@ -11,7 +11,7 @@ use Rattle.job.proofs.ResourceLaws.{small_charge, allowed_is}
 use Rattle.job.proofs.Rows.{fits_of_limits}
 use Rattle.times.specs.Earliest.{action_of}
 use Rattle.job.specs.declared.Job as held
-use Rattle.job.specs.declared.refusal.Verdict.TheVariants.{Pass}
+use Rattle.job.specs.Refusal.{pass}
 use Rattle.job.specs.Job.{Action, job_in, action_at, beyond, no_action}
 use Rattle.job.specs.Resources.{store_amount, HandoversOf}
 use Rattle.job.specs.Refusal.{first}
@@ -34,7 +34,7 @@ module _ (job : held.Job) (sets numbers : List ℕ) (filled : Filled job sets nu
       let same = ap (λ (x : Action). x.duration) (action_of_value job i l) in
       omega arith
 
-  module _ (passes : first (limit_rows (job_in job)) ≡ Pass) where
+  module _ (passes : first (limit_rows (job_in job)) ≡ pass) where
     -- what an action that passes its tests uses up of a store
     small_amount : (store : ℕ) (a : Action) → a.duration ≤ 255 → PassedAction job.facts a
         → store_amount (job_in job) store a < 4294967296

@@ -16,7 +16,7 @@ use Rattle.job.specs.Resources.{store_cap}
 use Rattle.job.specs.Job.{Job}
 use Rattle.job.specs.Refusal.{Row, ◌when◌, first}
 use Rattle.job.specs.declared.refusal.Refusal.{Refusal}
-use Rattle.job.specs.declared.refusal.Verdict.TheVariants.{Pass}
+use Rattle.job.specs.Refusal.{pass}
 use Rattle.job.proofs.Table.{first_next, first_pass}
 use Rattle.timeline.specs.Step.{Step, strictly_rising, any_pair, largest}
 use Rattle.timeline.specs.Timeline.{end, held, free, in_use, used_up}
@@ -59,7 +59,7 @@ missing set held h = (subset_decides set held).sound (not-false (subset set held
 not_missing : (set held : ℕ) → Subset set held → not (subset set held) ≡ false
 not_missing set held h = ap not ((subset_decides set held).complete h)
 
-pub accepted_steps : (J : Job) (goal : ℕ) (P : List Step) → first (step_rows J goal P) ≡ Pass → AcceptedSteps J goal P
+pub accepted_steps : (J : Job) (goal : ℕ) (P : List Step) → first (step_rows J goal P) ≡ pass → AcceptedSteps J goal P
 unfolding step_rows
 accepted_steps J goal P h =
     let t13 = first_pass _ _ _ h in
@@ -83,15 +83,15 @@ accepted_steps J goal P h =
     }
 
 -- a table passes if its first row does not hold and the others pass
-row_passes : (why : Refusal) (test : Bool) (rows : List Row) → test ≡ false → first rows ≡ Pass
-    → first (why when test ∷ rows) ≡ Pass
+row_passes : (why : Refusal) (test : Bool) (rows : List Row) → test ≡ false → first rows ≡ pass
+    → first (why when test ∷ rows) ≡ pass
 row_passes why test rows h k = first_next why test rows h ∙ k
 
-no_rows_pass : first [] ≡ Pass
+no_rows_pass : first [] ≡ pass
 unfolding first
 no_rows_pass = refl
 
-pub steps_accepted : (J : Job) (goal : ℕ) (P : List Step) → AcceptedSteps J goal P → first (step_rows J goal P) ≡ Pass
+pub steps_accepted : (J : Job) (goal : ℕ) (P : List Step) → AcceptedSteps J goal P → first (step_rows J goal P) ≡ pass
 unfolding step_rows
 steps_accepted J goal P k =
     row_passes _ _ _ (any_of_none (unknown J) P (λ x Q i. lt-leb (length J.actions) x.number (k.known x Q i)))

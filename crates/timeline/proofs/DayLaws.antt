@@ -7,8 +7,9 @@ use native.Mathlib.Omega.{arith}
 use lib.ListN.{length}
 use Rattle.lists.proofs.Tabulate.{length_tabulate}
 use Rattle.job.specs.declared.refusal.Refusal.{Refusal}
-use Rattle.job.specs.declared.refusal.Verdict.{Verdict}
-use Rattle.job.specs.declared.refusal.Verdict.TheVariants.{Pass, Refused}
+use Rattle.job.specs.Refusal.{Verdict}
+use Rattle.std.specs.Prelude.{Ok, Err}
+use Rattle.job.specs.Refusal.{pass}
 use Rattle.job.specs.Job.{Job}
 use Rattle.job.specs.Refusal.{reply_by}
 use Rattle.timeline.specs.Step.{Step, steps_in}
@@ -18,11 +19,11 @@ use Rattle.timeline.specs.Day.{told_of, no_day, day_of, day_reply}
 
 -- the verdict of a day is that of the tests that it was made by
 pub verdict_of_day : (v : Verdict) (J : Job) (P : List Step) (day : Day) → day ≡ day_of v J P → day.verdict ≡ v
-verdict_of_day Pass J P day h = ap (λ (d : Day). d.verdict) h
-verdict_of_day (Refused why) J P day h = ap (λ (d : Day). d.verdict) h
+verdict_of_day (Ok _) J P day h = ap (λ (d : Day). d.verdict) h
+verdict_of_day (Err why) J P day h = ap (λ (d : Day). d.verdict) h
 
 -- an answer that refuses tells of no plan
-pub refused_not_passed : (answer : Day) (why : Refusal) → answer ≡ no_day why → answer.verdict ≡ Pass → ⊥
+pub refused_not_passed : (answer : Day) (why : Refusal) → answer ≡ no_day why → answer.verdict ≡ pass → ⊥
 refused_not_passed answer why told h = let z : ◌≡◌ {A = ℕ} 0 1 = cc in omega arith
 
 -- where there is no day there are no steps
@@ -30,8 +31,8 @@ pub few_without_day : (why : Refusal) (answer : Day) → answer ≡ no_day why �
 few_without_day why answer told = let zero = ap (λ (d : Day). d.steps) told in omega arith
 
 pub reply_of_day : (v : Verdict) (J : Job) (P : List Step) → day_reply (day_of v J P) ≡ reply_by v (told_of J P)
-reply_of_day Pass J P = refl
-reply_of_day (Refused why) J P = refl
+reply_of_day (Ok _) J P = refl
+reply_of_day (Err why) J P = refl
 
 -- the bytes of n steps hold n steps
 pub steps_in_bytes : (J : Job) (bytes : List ℕ) (n : ℕ) → length bytes ≡ 3 * n → length (steps_in J bytes) ≡ n

@@ -10,7 +10,7 @@ use Rattle.encoding.specs.Bytes.{part}
 use Rattle.job.specs.Job.{Job, no_action}
 use Rattle.job.specs.Refusal.{first}
 use Rattle.job.specs.Passed.{Passed, PassedAction}
-use Rattle.job.specs.declared.refusal.Verdict.TheVariants.{Pass}
+use Rattle.job.specs.Refusal.{pass}
 use Rattle.job.proofs.Table.{first_pass}
 use Rattle.timeline.specs.Step.{Step, step_of, step_in, steps_in}
 use Rattle.timeline.specs.Timeline.{end}
@@ -46,7 +46,7 @@ steps_in_bytes J bytes =
 
 -- the plan in bytes, accepted
 pub steps_of_accepted : (J : Job) (goal : ℕ) (bytes : List ℕ) → Accepted J goal bytes
-    → first (step_rows J goal (steps_in J bytes)) ≡ Pass
+    → first (step_rows J goal (steps_in J bytes)) ≡ pass
 unfolding plan_rows
 steps_of_accepted J goal bytes h = (first_pass _ _ _ h).1
 

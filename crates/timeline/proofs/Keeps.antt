@@ -8,7 +8,7 @@ use native.Mathlib.Omega.{arith}
 use lib.ListN.{length}
 use Rattle.job.specs.Job.{Job}
 use Rattle.job.specs.Refusal.{first}
-use Rattle.job.specs.declared.refusal.Verdict.TheVariants.{Pass}
+use Rattle.job.specs.Refusal.{pass}
 use Rattle.timeline.specs.Step.{Step, strictly_rising}
 use Rattle.timeline.specs.Timeline.{end}
 use Rattle.timeline.specs.Accepted.{step_rows}
@@ -19,7 +19,7 @@ use Rattle.timeline.proofs.HeldFacts.{held_after_end}
 use Rattle.timeline.proofs.AcceptedSteps.{AcceptedSteps, accepted_steps, steps_accepted}
 
 pub keeps_of_accepted : (J : Job) (goal : ℕ) (P : List Step) (T : ℕ) → Lasting P
-    → first (step_rows J goal P) ≡ Pass → end P ≤ T → Keeps J T goal P
+    → first (step_rows J goal P) ≡ pass → end P ≤ T → Keeps J T goal P
 keeps_of_accepted J goal P T lasting h l =
     let a = accepted_steps J goal P h in
     record {
@@ -34,7 +34,7 @@ keeps_of_accepted J goal P T lasting h l =
 
 pub accepted_of_keeps : (J : Job) (goal : ℕ) (P : List Step) (T : ℕ) → T ≤ J.deadline
     → EachStep (λ x. x.number < length J.actions) P → strictly_rising P ≡ true → Keeps J T goal P
-    → (first (step_rows J goal P) ≡ Pass) × (end P ≤ T)
+    → (first (step_rows J goal P) ≡ pass) × (end P ≤ T)
 accepted_of_keeps J goal P T d known rising k =
     let l : end P ≤ T = largest_at_most (λ x. x.stop) T P k.in_time in
     let steps : AcceptedSteps J goal P

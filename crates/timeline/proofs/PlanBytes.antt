@@ -17,7 +17,7 @@ use Rattle.encoding.proofs.Pieces.{length_joined, split_joined}
 use Rattle.job.specs.Job.{Job}
 use Rattle.job.specs.Refusal.{first}
 use Rattle.job.specs.Passed.{Passed}
-use Rattle.job.specs.declared.refusal.Verdict.TheVariants.{Pass}
+use Rattle.job.specs.Refusal.{pass}
 use Rattle.job.proofs.Table.{first_next, first_pass}
 use Rattle.timeline.specs.Step.{Step, step_of, step_in, steps_in, step_bytes, plan_bytes}
 use Rattle.timeline.specs.Accepted.{Accepted, wrong_size, step_rows, plan_rows}
@@ -63,7 +63,7 @@ bytes_of_steps J P own numbers starts =
 
 -- steps that pass, at most 32 of them, are an accepted plan in bytes
 pub accepted_bytes_of_steps : (J : Job) (goal : ℕ) (P : List Step) → Passed J → EachStep (OfJob J) P → length P ≤ 32
-    → first (step_rows J goal P) ≡ Pass → Accepted J goal (plan_bytes P) × (steps_in J (plan_bytes P) ≡ P)
+    → first (step_rows J goal P) ≡ pass → Accepted J goal (plan_bytes P) × (steps_in J (plan_bytes P) ≡ P)
 unfolding plan_rows
 accepted_bytes_of_steps J goal P passed own few pass =
     let steps = accepted_steps J goal P pass in

@@ -9,7 +9,7 @@ use native.Mathlib.Omega.{arith}
 use lib.ListN.{length}
 use Rattle.job.specs.Job.{Job}
 use Rattle.job.specs.Refusal.{first}
-use Rattle.job.specs.declared.refusal.Verdict.TheVariants.{Pass}
+use Rattle.job.specs.Refusal.{pass}
 use Rattle.timeline.specs.Step.{Step, before, strictly_rising}
 use Rattle.timeline.specs.Timeline.{end}
 use Rattle.timeline.specs.Accepted.{step_rows}
@@ -85,7 +85,7 @@ apart_of_no_clash P lasting no_clash x Q i y R j e f =
 -- a plan that keeps the rules is accepted once it is sorted
 pub accepted_when_sorted : (J : Job) (goal : ℕ) (P : List Step) (T : ℕ) → T ≤ J.deadline
     → EachStep (λ x. x.number < length J.actions) P → Keeps J T goal P
-    → (R : List Step) × Permutation R P × (first (step_rows J goal R) ≡ Pass) × (end R ≤ T)
+    → (R : List Step) × Permutation R P × (first (step_rows J goal R) ≡ pass) × (end R ≤ T)
 accepted_when_sorted J goal P T d known keeps =
     let s = sorted P (apart_of_no_clash P keeps.lasting (no_clash_of_test P keeps.no_clash)) in
     let in_order = permutation_keeps J T goal s.order keeps in

@@ -14,7 +14,7 @@ use Rattle.lists.proofs.Bools.{or_left, or_right}
 use Rattle.job.specs.Job.{Job}
 use Rattle.job.specs.Lengths.{shortest_of}
 use Rattle.job.specs.Refusal.{first}
-use Rattle.job.specs.declared.refusal.Verdict.TheVariants.{Pass}
+use Rattle.job.specs.Refusal.{pass}
 use Rattle.job.specs.Passed.{Passed}
 use Rattle.timeline.specs.Step.{Step, before, strictly_rising, steps_in}
 use Rattle.timeline.specs.Timeline.{end}
@@ -84,7 +84,7 @@ each_with_lengths count (x ∷ P) (n ∷ lengths) h =
 -- the whole, with the goal at the true end
 pub true_lengths_pass : (J : Job) (goal : ℕ) (bytes lengths : List ℕ) → Passed J → Accepted J goal bytes
     → wrong_lengths J (steps_in J bytes) lengths ≡ false
-    → (first (step_rows J goal (with_lengths (steps_in J bytes) lengths)) ≡ Pass)
+    → (first (step_rows J goal (with_lengths (steps_in J bytes) lengths)) ≡ pass)
     × (end (with_lengths (steps_in J bytes) lengths) ≤ end (steps_in J bytes))
 true_lengths_pass J goal bytes lengths passed accepted right =
     let P = steps_in J bytes in

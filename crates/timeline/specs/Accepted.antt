@@ -9,7 +9,7 @@ use Rattle.job.specs.Refusal.{Row, ◌when◌, first}
 use Rattle.job.specs.Valid.{over}
 use Rattle.job.specs.declared.refusal.Refusal.TheVariants.{PlanSize, UnknownAction, StepOrder, AfterDeadline, Clash}
 use Rattle.job.specs.declared.refusal.Refusal.TheVariants.{PoolExceeded, StoreExceeded, NeedMissing, GoalMissing}
-use Rattle.job.specs.declared.refusal.Verdict.TheVariants.{Pass}
+use Rattle.job.specs.Refusal.{pass}
 use Rattle.timeline.specs.Step.{Step, steps_in, strictly_rising, any_pair, largest}
 use Rattle.timeline.specs.Timeline.{end, clash, overlap, held, free, in_use, used_up}
 
@@ -78,4 +78,4 @@ run_rows J bytes =
 -- "A plan is accepted for a goal set exactly if, by these rules and with that set as the goal, none of 12 to 20 is
 -- true of it."
 abbrev pub Accepted : Job → ℕ → List ℕ → Type 0
-Accepted J goal bytes = first (plan_rows J goal bytes) ≡ Pass
+Accepted J goal bytes = first (plan_rows J goal bytes) ≡ pass

@@ -9,7 +9,7 @@ use Rattle.facts.specs.FactSet.{Subset}
 use Rattle.job.specs.Job.{Job}
 use Rattle.job.specs.Refusal.{first}
 use Rattle.job.specs.Valid.{job_rows}
-use Rattle.job.specs.declared.refusal.Verdict.TheVariants.{Pass}
+use Rattle.job.specs.Refusal.{pass}
 use Rattle.job.proofs.Passed.{passed}
 use Rattle.timeline.specs.Step.{steps_in}
 use Rattle.timeline.specs.Timeline.{end, held}
@@ -28,7 +28,7 @@ number_by (at x) t by = (x, refl, by)
 number_by unreachable t by = absurd by
 
 -- "In a plan that passes 12 to 19"
-module _ (J : Job) (job : first (job_rows J) ≡ Pass) (bytes : List ℕ) (runs : first (run_rows J bytes) ≡ Pass) (T : Table)
+module _ (J : Job) (job : first (job_rows J) ≡ pass) (bytes : List ℕ) (runs : first (run_rows J bytes) ≡ pass) (T : Table)
     (solves : Solves J T) where
   plan : PlanOf J (end (steps_in J bytes)) 0 (steps_in J bytes)
   plan = plan_of_accepted J 0 bytes (end (steps_in J bytes)) (passed J job) (run_rows_lem J bytes ∙ runs) (le_refl _)

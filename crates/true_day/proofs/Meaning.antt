@@ -3,7 +3,7 @@
 use Prim.Native.Nat.{ℕ, ◌≤◌}
 use mathlib.Core.Path.{◌≡◌}
 use mathlib.Core.List.{List, ◌++◌}
-use Rattle.job.specs.declared.refusal.Verdict.TheVariants.{Pass}
+use Rattle.job.specs.Refusal.{pass}
 use Rattle.job.specs.Job.{Job}
 use Rattle.job.specs.Refusal.{first}
 use Rattle.job.specs.Valid.{job_rows}
@@ -17,8 +17,8 @@ use Rattle.checker.specs.Check.{check_rows}
 use Rattle.true_day.specs.TrueDay.{true_rows, true_steps}
 
 -- "For every choice of true length within the ranges, one for each step, the same starts must still pass the checker."
-pub true_day_passes : (J : Job) (bytes lengths : List ℕ) → first (true_rows J bytes lengths) ≡ Pass
-    → (first (step_rows J J.goal (true_steps J bytes lengths)) ≡ Pass)
+pub true_day_passes : (J : Job) (bytes lengths : List ℕ) → first (true_rows J bytes lengths) ≡ pass
+    → (first (step_rows J J.goal (true_steps J bytes lengths)) ≡ pass)
     × (end (true_steps J bytes lengths) ≤ end (steps_in J bytes))
 unfolding true_rows check_rows
 true_day_passes J bytes lengths h =

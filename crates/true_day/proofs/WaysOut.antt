@@ -7,8 +7,9 @@ use mathlib.Core.List.{List, []}
 use lib.ListN.{length}
 use Rattle.job.specs.declared.refusal.Refusal.{Refusal}
 use Rattle.job.specs.declared.refusal.Refusal.TheVariants.{TrueLengths}
-use Rattle.job.specs.declared.refusal.Verdict.{Verdict}
-use Rattle.job.specs.declared.refusal.Verdict.TheVariants.{Pass, Refused}
+use Rattle.job.specs.Refusal.{Verdict}
+use Rattle.std.specs.Prelude.{Ok, Err}
+use Rattle.job.specs.Refusal.{pass}
 use Rattle.job.specs.Job.{Job}
 use Rattle.job.specs.Refusal.{first}
 use Rattle.job.specs.Valid.{job_rows}
@@ -32,37 +33,37 @@ module _ (J : Job) (bytes lengths : List ℕ) (r : Day) where
       let answers : r ≡ day_of (first (true_rows J bytes lengths)) J P = d ∙ sym (ap (λ (w : Verdict). day_of w J P) h) in
       record { answers = answers; replies = rw answers (reply_of_day (first (true_rows J bytes lengths)) J P) }
 
-  pub tells_refused_job : (why : Refusal) → r ≡ no_day why → first (job_rows J) ≡ Refused why
+  pub tells_refused_job : (why : Refusal) → r ≡ no_day why → first (job_rows J) ≡ Err why
       → TellsTrueDay J bytes lengths r
   unfolding true_rows check_rows
   tells_refused_job why d h =
-      by_verdict (Refused why)
+      by_verdict (Err why)
       (first_append_refused (check_rows J bytes) _ why (first_append_refused (job_rows J) _ why h)) d
 
-  module _ (valid : first (job_rows J) ≡ Pass) where
+  module _ (valid : first (job_rows J) ≡ pass) where
     checked : (v : Verdict) → first (plan_rows J J.goal bytes) ≡ v → first (check_rows J bytes) ≡ v
     unfolding check_rows
     checked v h = first_append_pass (job_rows J) _ valid ∙ h
 
-    pub tells_refused_plan : (why : Refusal) → r ≡ no_day why → first (plan_rows J J.goal bytes) ≡ Refused why
+    pub tells_refused_plan : (why : Refusal) → r ≡ no_day why → first (plan_rows J J.goal bytes) ≡ Err why
         → TellsTrueDay J bytes lengths r
     unfolding true_rows
     tells_refused_plan why d h =
-        by_verdict (Refused why) (first_append_refused (check_rows J bytes) _ why (checked _ h)) d
+        by_verdict (Err why) (first_append_refused (check_rows J bytes) _ why (checked _ h)) d
 
-    module _ (accepted : first (plan_rows J J.goal bytes) ≡ Pass) where
+    module _ (accepted : first (plan_rows J J.goal bytes) ≡ pass) where
       pub tells_wrong_lengths : r ≡ no_day TrueLengths → wrong_lengths J (steps_in J bytes) lengths ≡ true
           → TellsTrueDay J bytes lengths r
       unfolding true_rows
       tells_wrong_lengths d h =
-          by_verdict (Refused TrueLengths)
+          by_verdict (Err TrueLengths)
           (first_append_pass (check_rows J bytes) _ (checked _ accepted) ∙ first_here TrueLengths _ [] h) d
 
       pub tells_day : wrong_lengths J (steps_in J bytes) lengths ≡ false
           → r ≡ tells (told_of J (true_steps J bytes lengths)) → TellsTrueDay J bytes lengths r
       unfolding true_rows
       tells_day h d =
-          by_verdict Pass
+          by_verdict pass
           (first_append_pass (check_rows J bytes) _ (checked _ accepted) ∙ first_next TrueLengths _ [] h ∙ first_none) d
 
 -- what is told of steps, by numbers that are theirs

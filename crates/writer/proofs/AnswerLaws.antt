@@ -8,13 +8,14 @@ use borrow.Author.Tests.{lt-ltb, le-ltb}
 use Rattle.encoding.specs.Bytes.{overwrite}
 use Rattle.job.specs.declared.refusal.Refusal.{Refusal}
 use Rattle.job.specs.declared.refusal.Refusal.TheVariants.{FileSlice}
-use Rattle.job.specs.declared.refusal.Verdict.{Verdict}
-use Rattle.job.specs.declared.refusal.Verdict.TheVariants.{Pass, Refused}
+use Rattle.job.specs.Refusal.{Verdict}
+use Rattle.std.specs.Prelude.{Ok, Err}
+use Rattle.job.specs.Refusal.{pass}
 use Rattle.job.specs.Job.{Job}
 use Rattle.job.specs.Refusal.{first, reply_by}
 use Rattle.job.specs.Valid.{job_rows}
 use Rattle.job.proofs.Table.{first_here, first_next, first_append_pass, first_append_refused}
-use Rattle.jobfile.specs.declared.Written.TheVariants as written
+use Rattle.std.specs.Prelude.{Ok, Err}
 use Rattle.jobfile.specs.File.{file_of}
 use Rattle.writer.specs.Wrote.{Wrote}
 use Rattle.jobfile.specs.Answers.{write_rows, written_of, written_reply, write_file, left_of, left_by_write}
@@ -25,23 +26,23 @@ module _ (J : Job) (slice : List ℕ) where
   by_verdict v e = record { answers = rw e; replies = rw e (reply_of v); leaves = rw e }
     where
       reply_of : (w : Verdict) → written_reply (written_of w J) ≡ reply_by w (length (file_of J))
-      reply_of Pass = refl
-      reply_of (Refused why) = refl
+      reply_of (Ok _) = refl
+      reply_of (Err why) = refl
 
-  pub wrote_refused : (why : Refusal) → first (job_rows J) ≡ Refused why → Wrote J slice (written.Refused why) slice
+  pub wrote_refused : (why : Refusal) → first (job_rows J) ≡ Err why → Wrote J slice (Err why) slice
   unfolding write_rows
-  wrote_refused why e = by_verdict (Refused why) (first_append_refused (job_rows J) _ why e)
+  wrote_refused why e = by_verdict (Err why) (first_append_refused (job_rows J) _ why e)
 
-  pub wrote_short : first (job_rows J) ≡ Pass → length slice < length (file_of J)
-      → Wrote J slice (written.Refused FileSlice) slice
+  pub wrote_short : first (job_rows J) ≡ pass → length slice < length (file_of J)
+      → Wrote J slice (Err FileSlice) slice
   unfolding write_rows
   wrote_short e h =
-      by_verdict (Refused FileSlice)
+      by_verdict (Err FileSlice)
       (first_append_pass (job_rows J) _ e ∙ first_here FileSlice _ [] (lt-ltb (length slice) (length (file_of J)) h))
 
-  pub wrote_file : first (job_rows J) ≡ Pass → length (file_of J) ≤ length slice
-      → Wrote J slice (written.Length (length (file_of J))) (overwrite slice 0 (file_of J))
+  pub wrote_file : first (job_rows J) ≡ pass → length (file_of J) ≤ length slice
+      → Wrote J slice (Ok (length (file_of J))) (overwrite slice 0 (file_of J))
   unfolding write_rows first
   wrote_file e h =
-      by_verdict Pass
+      by_verdict pass
       (first_append_pass (job_rows J) _ e ∙ first_next FileSlice _ [] (le-ltb (length slice) (length (file_of J)) h))

@@ -1,6 +1,6 @@
 -- `ruhkevois_read` meets its contract: the file is refused, or its length is told.
 use mathlib.Core.Path.{◌∙◌}
-use Rattle.job.specs.declared.refusal.Verdict.TheVariants.{Pass}
+use Rattle.job.specs.Refusal.{pass}
 use Rattle.calls.proofs.Fitting.{accepted_file_is_short}
 use Rattle.calls.proofs.CallLaws.{verdict_of_file, file_refused, read_accepted}
 use native.Mathlib.Omega.{arith}
@@ -12,7 +12,7 @@ returns-in-Refused c =
 
 pub overflow_cast-file : goal.overflow_cast-file
 overflow_cast-file c =
-    let passed = verdict_of_file _ _ c.read-reading.ensures.answers Pass c.in_default.is in
+    let passed = verdict_of_file _ _ c.read-reading.ensures.answers pass c.in_default.is in
     let short = accepted_file_is_short _ passed in
     record { fits = omega arith }
 

@@ -1,6 +1,6 @@
 -- `check_for` meets its contract: the tests of the job, then as within its limits.
 use mathlib.Core.Path.{sym, ap, ◌∙◌}
-use Rattle.job.specs.declared.refusal.Verdict.{Verdict}
+use Rattle.job.specs.Refusal.{Verdict}
 use Rattle.job.specs.Job.{job_in}
 use Rattle.job.specs.Valid.{job_rows, limit_rows}
 use Rattle.job.proofs.Rows.{limits_of_pass}

@@ -2,10 +2,10 @@
 use mathlib.Core.Path.{sym, ap, ◌∙◌}
 use mathlib.Core.List.{[]}
 use Rattle.job.specs.declared.refusal.Refusal.TheVariants.{UnknownAction, StepOrder, AfterDeadline}
-use Rattle.job.specs.declared.refusal.Verdict.{Verdict}
+use Rattle.job.specs.Refusal.{Verdict}
 use Rattle.job.proofs.Table.{first_next, first_none}
 use Rattle.timeline.specs.Value.{steps_of}
-use Rattle.checker.specs.declared.Checked.TheVariants.{Ends}
+use Rattle.std.specs.Prelude.{Ok, Err}
 use Rattle.checker.specs.Check.{checked_of}
 use Rattle.checker.proofs.ChainLaws.{check_passes, check_fails}
 use Rattle.checker.proofs.check_order.Goals as goal
@@ -25,7 +25,7 @@ returns-in_default-deadline c =
 
 pub returns : goal.returns
 returns c =
-    ap Ends c.end-last.ensures
+    ap Ok c.end-last.ensures
     ∙ sym (ap (λ (v : Verdict). checked_of v (steps_of c.args.plan))
     (first_next UnknownAction _ _ c.requires.1
     ∙ check_passes StepOrder _ _ (sym c.order.ensures ∙ c.in-Pass.is)

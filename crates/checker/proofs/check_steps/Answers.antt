@@ -4,7 +4,7 @@ use mathlib.Core.Bool.{not}
 use Rattle.facts.specs.FactSet.{subset}
 use Rattle.job.specs.declared.refusal.Refusal.TheVariants.{UnknownAction, StepOrder, AfterDeadline, Clash}
 use Rattle.job.specs.declared.refusal.Refusal.TheVariants.{PoolExceeded, StoreExceeded, NeedMissing, GoalMissing}
-use Rattle.job.specs.declared.refusal.Verdict.{Verdict}
+use Rattle.job.specs.Refusal.{Verdict}
 use Rattle.job.specs.Job.{job_in}
 use mathlib.Core.List.{[], ◌∷◌}
 use Rattle.job.specs.Refusal.{◌when◌, first}
@@ -12,7 +12,7 @@ use Rattle.job.proofs.Table.{first_here, first_next}
 use Rattle.timeline.specs.Accepted.{step_rows}
 use Rattle.timeline.specs.Value.{steps_of}
 use Rattle.checker.specs.declared.clock.Clock.{Clock}
-use Rattle.checker.specs.declared.Checked.TheVariants.{Ends}
+use Rattle.std.specs.Prelude.{Ok, Err}
 use Rattle.checker.specs.Check.{checked_of}
 use Rattle.checker.proofs.ChainLaws.{check_passes, check_fails}
 use Rattle.job.proofs.Table.{first_none}
@@ -98,7 +98,7 @@ unfolding step_rows
 returns c =
     let w = watched_done _ _ _ (sym (c.watch.ensures (job_in c.args.job) refl) ∙ c.in-Done.is) in
     let g : Clock → Verdict = λ k. first (GoalMissing when not (subset c.args.goal k.facts) ∷ []) in
-    ap Ends c.end-last.ensures
+    ap Ok c.end-last.ensures
     ∙ sym (ap (λ (v : Verdict). checked_of v (steps_of c.args.plan))
     (first_next UnknownAction _ _ c.requires.plan_value.0
     ∙ check_passes StepOrder _ _ (sym c.order.ensures ∙ c.in-Pass.is)

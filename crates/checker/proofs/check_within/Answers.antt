@@ -1,7 +1,7 @@
 -- `check_within` meets its contract: the limits of the job, the goal, then the plan.
 use mathlib.Core.Path.{sym, ap, ◌∙◌}
 use Rattle.job.specs.declared.refusal.Refusal.TheVariants.{ForeignAskedFact}
-use Rattle.job.specs.declared.refusal.Verdict.{Verdict}
+use Rattle.job.specs.Refusal.{Verdict}
 use Rattle.job.specs.Job.{job_in}
 use Rattle.job.specs.Valid.{limit_rows}
 use Rattle.job.proofs.Table.{first_here, first_next, first_append_pass, first_append_refused}

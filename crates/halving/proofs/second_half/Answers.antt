@@ -1,7 +1,7 @@
 -- `second_half` meets its contract: the task is the day that the first half leaves.
 use mathlib.Core.Path.{◌≡◌, sym, subst}
 use Rattle.job.specs.declared.Job as held
-use Rattle.job.specs.declared.refusal.Verdict.TheVariants.{Pass}
+use Rattle.job.specs.Refusal.{pass}
 use Rattle.job.specs.Job.{job_in}
 use Rattle.job.specs.Refusal.{first}
 use Rattle.job.specs.Valid.{job_rows}
@@ -29,7 +29,7 @@ pub plan_at-requires : goal.plan_at-requires
 plan_at-requires c =
     let job = c.args.job in
     let task = c.afternoon-task.result in
-    subst (λ (j : held.Job). (first (job_rows (job_in j)) ≡ Pass) × TaskFits (day_of j task) task × WholeTask task)
+    subst (λ (j : held.Job). (first (job_rows (job_in j)) ≡ pass) × TaskFits (day_of j task) task × WholeTask task)
     (sym c.without_reserve.ensures) (
       valid_without_reserve job c.requires.0,
       second_fits job c.args.halfway c.args.morning.now c.requires.0 c.requires.1 c.checked_plan-checked.result

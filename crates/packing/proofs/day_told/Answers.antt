@@ -1,6 +1,6 @@
 -- `day_told` meets its contract: a way out for each verdict.
 use mathlib.Core.Path.{sym, ap, ◌∙◌}
-use Rattle.job.specs.declared.refusal.Verdict.{Verdict}
+use Rattle.job.specs.Refusal.{Verdict}
 use Rattle.packing.specs.Answer.{day_number}
 use Rattle.packing.proofs.day_told.Goals as goal
 

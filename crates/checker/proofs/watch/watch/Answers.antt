@@ -10,7 +10,7 @@ use Rattle.timeline.specs.Timeline.{held, next}
 use Rattle.timeline.specs.Accepted.{lacks_need}
 use Rattle.timeline.specs.Value.{steps_of}
 use Rattle.checker.specs.declared.clock.Clock.{Clock}
-use Rattle.checker.specs.declared.watch.Watched.TheVariants.{Done}
+use Rattle.std.specs.Prelude.{Ok, Err}
 use Rattle.checker.proofs.WatchLaws.{lacks, watching_none, watching_missing, watching_next}
 use Rattle.checker.proofs.WatchLaws.{watching_end, watching_clock, held_tick}
 use native.Mathlib.Omega.{arith}
