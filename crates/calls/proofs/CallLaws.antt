@@ -9,7 +9,7 @@ use Rattle.job.specs.declared.refusal.Refusal.{Refusal}
 use Rattle.job.specs.Refusal.{Verdict}
 use Rattle.std.specs.Prelude.{Ok, Err}
 use Rattle.job.specs.Refusal.{pass}
-use Rattle.jobfile.specs.declared.Reading.{Reading}
+use Rattle.jobfile.specs.Answers.{Reading}
 use Rattle.jobfile.specs.Answers.{read_file, left_by_write}
 use Rattle.earliest.specs.declared.EarliestTime.{EarliestTime}
 use Rattle.earliest.specs.Answer.{Answers}

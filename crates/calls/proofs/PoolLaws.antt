@@ -8,8 +8,8 @@ use Rattle.job.specs.declared.refusal.Refusal.{Refusal}
 use Rattle.job.specs.Refusal.{Verdict}
 use Rattle.std.specs.Prelude.{Ok, Err}
 use Rattle.job.specs.Refusal.{pass}
-use Rattle.jobfile.specs.declared.Reading.{Reading}
-use Rattle.jobfile.specs.declared.Written.{Written}
+use Rattle.jobfile.specs.Answers.{Reading}
+use Rattle.jobfile.specs.Answers.{Written}
 use Rattle.jobfile.specs.Answers.{read_file, write_file, left_by_write}
 use Rattle.pooling.specs.declared.Pooled.{Pooled}
 use Rattle.pooling.specs.Pooled.{pool_jobs}

@@ -65,6 +65,11 @@ pub data Reply (A : Type 0) : Type 0 where
   refused : ℕ → Reply A
   returned : A → Reply A
 
+-- the reply that an answer makes
+abbrev pub reply_of : {A : Type 0} → Result A Refusal → Reply A
+reply_of (Ok value) = returned value
+reply_of (Err why) = refused (number why)
+
 -- the first refusal that holds, "alone", or else what the call returns
 abbrev pub reply_by : {A : Type 0} → Verdict → A → Reply A
 reply_by (Ok _) value = returned value

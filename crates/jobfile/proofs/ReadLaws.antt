@@ -8,8 +8,8 @@ use native.Mathlib.Omega.{arith}
 use lib.ListN.{length}
 use borrow.Author.Tests.{le-ltb, not-false}
 use Rattle.encoding.specs.Bytes.{part}
-use Rattle.job.specs.Job.{Job, job_in, job_value, zero_value}
-use Rattle.job.specs.Refusal.{first, reply_by}
+use Rattle.job.specs.Job.{Job, job_in, job_value}
+use Rattle.job.specs.Refusal.{first, reply_of, reply_by}
 use Rattle.job.specs.Valid.{job_rows}
 use Rattle.job.specs.declared.Job as held
 use Rattle.job.specs.declared.refusal.Refusal.{Refusal}
@@ -19,16 +19,12 @@ use Rattle.std.specs.Prelude.{Ok, Err}
 use Rattle.job.specs.Refusal.{pass}
 use Rattle.job.proofs.Table.{first_here, first_next, first_pass}
 use Rattle.job.proofs.Values.{few_handovers_lem, few_shortest_lem}
-use Rattle.jobfile.specs.declared.Reading.{Reading}
+use Rattle.jobfile.specs.Answers.{Reading}
 use Rattle.jobfile.specs.File.{form_in, entries_in, size_in, body_in, layout_in, action_size, job_of, decoded}
 use Rattle.jobfile.specs.File.{missized, wrong_size, in_order, file_rows}
-use Rattle.jobfile.specs.Answers.{read_rows, reading_of, read_file, read_reply, Reads}
+use Rattle.jobfile.specs.Answers.{read_rows, reading_of, read_file, Reads}
 use Rattle.jobfile.proofs.Laid.{Laid, laid, standing}
 use Rattle.jobfile.proofs.DecodeLaws.{value_holds_decoded}
-
--- the answer to a file that is refused
-abbrev pub refused_with : Refusal → Reading
-refused_with why = record { verdict = Err why; job = zero_value }
 
 pub right_size : (file : List ℕ) → 4 * entries_in file ≤ length file → length file ≤ 4096 → wrong_size file ≡ false
 right_size file l h = rw (le-ltb (length file) (4 * entries_in file) l, le-ltb 4096 (length file) h)
@@ -54,17 +50,17 @@ unfolding read_file
 reading file v h = ap (λ (v : Verdict). reading_of v (decoded file)) h
 
 module _ (file : List ℕ) where
-  pub read_wrong_size : wrong_size file ≡ true → read_file file ≡ refused_with FileSize
+  pub read_wrong_size : wrong_size file ≡ true → read_file file ≡ Err FileSize
   unfolding read_rows file_rows
   read_wrong_size h = reading file (Err FileSize) (first_here FileSize _ _ h)
 
-  pub read_offsets : wrong_size file ≡ false → in_order file ≡ false → read_file file ≡ refused_with Offsets
+  pub read_offsets : wrong_size file ≡ false → in_order file ≡ false → read_file file ≡ Err Offsets
   unfolding read_rows file_rows
   read_offsets t1 h =
       reading file (Err Offsets) (first_next FileSize _ _ t1 ∙ first_here Offsets _ _ (ap not h))
 
   pub read_body_sizes : wrong_size file ≡ false → in_order file ≡ true → missized (layout_in file) ≡ true
-      → read_file file ≡ refused_with BodySizes
+      → read_file file ≡ Err BodySizes
   unfolding read_rows file_rows
   read_body_sizes t1 t2 h =
       reading file (Err BodySizes)
@@ -79,11 +75,11 @@ module _ (file : List ℕ) where
         (file_rows_pass file t1 t2 t3
         ∙ ap (λ (J : Job). first (job_rows J)) (sym (value_holds_decoded file (laid file t2 t3) j e)))
 
-    pub read_refused : (why : Refusal) → first (job_rows (job_in j)) ≡ Err why → read_file file ≡ refused_with why
+    pub read_refused : (why : Refusal) → first (job_rows (job_in j)) ≡ Err why → read_file file ≡ Err why
     read_refused why h = read_validated ∙ ap (λ (v : Verdict). reading_of v (decoded file)) h
 
-    pub read_passed : first (job_rows (job_in j)) ≡ pass → read_file file ≡ record { verdict = pass; job = j }
-    read_passed h = read_validated ∙ ap (λ (v : Verdict). reading_of v (decoded file)) h ∙ rw e
+    pub read_passed : first (job_rows (job_in j)) ≡ pass → read_file file ≡ Ok j
+    read_passed h = read_validated ∙ ap (λ (v : Verdict). reading_of v (decoded file)) h ∙ ap Ok (sym e)
 
 -- ── the slices that begin at a, b, c, d, e and g are the bodies ──
 
@@ -155,6 +151,6 @@ unfolding read_file
 reads_of_answer file r e =
     record { answers = e; replies = rw e (reply_of_reading (first (read_rows file)) (decoded file)) }
   where
-    reply_of_reading : (v : Verdict) (J : Job) → read_reply (reading_of v J) ≡ reply_by v (job_value J)
+    reply_of_reading : (v : Verdict) (J : Job) → reply_of (reading_of v J) ≡ reply_by v (job_value J)
     reply_of_reading (Ok _) J = refl
     reply_of_reading (Err why) J = refl

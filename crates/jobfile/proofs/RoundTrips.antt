@@ -21,7 +21,7 @@ use Rattle.std.specs.Prelude.{Ok, Err}
 use Rattle.job.specs.Refusal.{pass}
 use Rattle.job.proofs.Table.{first_next, first_append_pass, pass_of_append}
 use Rattle.job.proofs.Values.{Shape, job_in_shape}
-use Rattle.jobfile.specs.declared.Reading.{Reading}
+use Rattle.jobfile.specs.Answers.{Reading}
 use Rattle.std.specs.Prelude.{Ok, Err}
 use Rattle.jobfile.specs.File.{file_of, body_in, action_size, action_of, job_of, decoded}
 use Rattle.jobfile.specs.Answers.{read_rows, reading_of, read_file, write_rows, written_of, write_file, left_of}
@@ -37,24 +37,24 @@ ByteDurations j = (i : ℕ) → i < j.counts.actions → (get_or j.actions i bey
 
 -- "A job written and read is the same job": its value, with zeros in the unused places.
 pub file_reads_back : (J : Job) → Shape J → Each (λ a. a.duration < 256) J.actions → first (job_rows J) ≡ pass
-    → read_file (file_of J) ≡ record { verdict = pass; job = job_value J }
+    → read_file (file_of J) ≡ Ok (job_value J)
 unfolding read_file
 file_reads_back J shape durations passes =
     let r = write_read J shape durations passes in
     ap (λ (v : Verdict). reading_of v (decoded (file_of J))) r.0 ∙ ap (reading_of pass) r.1
 
 pub read_after_write : (j : held.Job) → ByteDurations j → first (job_rows (job_in j)) ≡ pass
-    → read_file (file_of (job_in j)) ≡ record { verdict = pass; job = job_value (job_in j) }
+    → read_file (file_of (job_in j)) ≡ Ok (job_value (job_in j))
 read_after_write j d =
     file_reads_back (job_in j) (job_in_shape j) (each_tabulate _ j.counts.actions (action_at j) d)
 
-passed_reading : (v : Verdict) (J : Job) (j : held.Job) → reading_of v J ≡ record { verdict = pass; job = j }
+passed_reading : (v : Verdict) (J : Job) (j : held.Job) → reading_of v J ≡ Ok j
     → (v ≡ pass) × (j ≡ job_value J)
-passed_reading (Ok _) J j h = (refl, sym (ap (λ (r : Reading). r.job) h))
-passed_reading (Err why) J j h = let e = ap (λ (r : Reading). r.verdict) h in (e, cc)
+passed_reading (Ok _) J j h = (refl, cc)
+passed_reading (Err why) J j h = (cc, cc)
 
 -- a file that is accepted passes its tests and those of its job, and has the job that is read
-accepted_file : (file : List ℕ) (j : held.Job) → read_file file ≡ record { verdict = pass; job = j }
+accepted_file : (file : List ℕ) (j : held.Job) → read_file file ≡ Ok j
     → (first (read_rows file) ≡ pass) × (job_in j ≡ decoded file)
 unfolding read_file
 accepted_file file j h =
@@ -62,7 +62,7 @@ accepted_file file j h =
     (r.0, value_holds_decoded file (passes_laid file r.0).0 j r.1)
 
 -- the job that is read passes its tests
-pub read_job_passes : (file : List ℕ) (j : held.Job) → read_file file ≡ record { verdict = pass; job = j }
+pub read_job_passes : (file : List ℕ) (j : held.Job) → read_file file ≡ Ok j
     → first (job_rows (job_in j)) ≡ pass
 read_job_passes file j h =
     let r = accepted_file file j h in
@@ -83,13 +83,13 @@ durations_in file b =
     each_tabulate (λ a. a.duration < 256) (length (body_in file 3) / n) (λ i. action_of p s (part (body_in file 3) (i * n) n))
     (λ i known. byte_duration p s _ (part_bytes (body_in file 3) (i * n) n (body_bytes file b 3)))
 
-pub read_durations : (file : List ℕ) (j : held.Job) → Bytes file → read_file file ≡ record { verdict = pass; job = j }
+pub read_durations : (file : List ℕ) (j : held.Job) → Bytes file → read_file file ≡ Ok j
     → Each (λ a. a.duration < 256) (job_in j).actions
 read_durations file j b h =
     subst (λ (J : Job). Each (λ a. a.duration < 256) J.actions) (sym (accepted_file file j h).1) (durations_in file b)
 
 -- "An accepted file read and written is the same file."
-pub write_after_read : (file : List ℕ) (j : held.Job) → Bytes file → read_file file ≡ record { verdict = pass; job = j }
+pub write_after_read : (file : List ℕ) (j : held.Job) → Bytes file → read_file file ≡ Ok j
     → (first (job_rows (job_in j)) ≡ pass) × (file_of (job_in j) ≡ file)
 write_after_read file j b h =
     let r = accepted_file file j h in
@@ -114,13 +114,13 @@ written_file J slice n h =
 
 pub read_after_write_slice : (j : held.Job) (slice : List ℕ) (n : ℕ) → ByteDurations j
     → write_file (job_in j) slice ≡ Ok n
-    → read_file (take n (left_by_write (job_in j) slice)) ≡ record { verdict = pass; job = job_value (job_in j) }
+    → read_file (take n (left_by_write (job_in j) slice)) ≡ Ok (job_value (job_in j))
 read_after_write_slice j slice n d h =
     let w = written_file (job_in j) slice n h in
     ap read_file w.1 ∙ read_after_write j d w.0
 
 pub write_after_read_slice : (file : List ℕ) (j : held.Job) (slice : List ℕ) → Bytes file
-    → read_file file ≡ record { verdict = pass; job = j } → length file ≤ length slice
+    → read_file file ≡ Ok j → length file ≤ length slice
     → (write_file (job_in j) slice ≡ Ok (length file))
     × (take (length file) (left_by_write (job_in j) slice) ≡ file)
 unfolding write_file write_rows first

@@ -1,10 +1,9 @@
-// The job file: its layout and the places of its bodies, and what reading and writing one answer. The reader and the writer are crates of their own.
+// The job file: its layout and the places of its bodies. The reader and the writer are crates of their own.
 #![tactic(auto)]
 
 ghost use Rattle.std.specs.Prelude.{◌≡◌, ◌<◌};
 ghost use Rattle.jobfile.specs.File.{action_size, places_of, missized, Small};
 
-use job::refusal::{Refusal, Verdict};
 use job::{Form, Job};
 
 // The form of a file and the lengths in bytes of its bodies, 0 for one beyond the form.
@@ -160,16 +159,3 @@ impl Layout {
     }
 }
 
-// What reading answers: a job that passes every test, or the refusal with a job of zeros.
-#[derive(Clone, Copy)]
-pub struct Reading {
-    pub verdict: Verdict,
-    pub job: Job,
-}
-
-// What writing answers: the length of the file, or the refusal.
-#[derive(Clone, Copy)]
-pub enum Written {
-    Length(usize),
-    Refused(Refusal),
-}

@@ -18,7 +18,7 @@ use Rattle.job.specs.Resumed.{resumed, resumed_value}
 use Rattle.job.specs.Valid.{limit_rows}
 use Rattle.job.proofs.Passed.{within_limits}
 use Rattle.job.proofs.Resuming.{job_in_resumed}
-use Rattle.jobfile.specs.declared.Reading.{Reading}
+use Rattle.jobfile.specs.Answers.{Reading}
 use Rattle.jobfile.specs.Answers.{read_file}
 use Rattle.timeline.specs.Step.{Step, steps_in, plan_bytes}
 use Rattle.timeline.specs.From.{From}

@@ -6,7 +6,7 @@ use Rattle.job.specs.declared.refusal.Refusal.{Refusal}
 use Rattle.job.specs.Refusal.{Verdict}
 use Rattle.std.specs.Prelude.{Ok, Err}
 use Rattle.job.specs.Refusal.{pass}
-use Rattle.jobfile.specs.declared.Written.{Written}
+use Rattle.jobfile.specs.Answers.{Written}
 use Rattle.std.specs.Prelude.{Ok, Err}
 use Rattle.timeline.specs.declared.Day.{Day}
 use Rattle.price.specs.declared.Priced.{Priced}

@@ -107,7 +107,7 @@ pool_rows A B = job_rows A ++ (job_rows B ++ (PoolTooLarge when too_large A B �
 
 -- the pooled job, or a refusal: "a job or number standing beside it is all zero"
 abbrev pub pooled_of : Verdict → Job → Pooled
-pooled_of (Ok _) J = record { verdict = pass; job = job_value J }
+pooled_of (Ok _) J = Ok (job_value J)
 pooled_of (Err why) J = record { verdict = Err why; job = zero_value }
 
 -- what pooling answers: the first refusal, or the pooled job

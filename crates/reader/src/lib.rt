@@ -13,10 +13,10 @@ ghost use Rattle.jobfile.specs.File.{decoded};
 ghost use Rattle.jobfile.specs.Answers.{Reads};
 ghost use Rattle.reader.specs.Placed.{Placed};
 
-use job::refusal::{Refusal, Verdict};
+use job::refusal::Refusal;
 use job::validate::validate;
 use job::{Form, Job};
-use jobfile::{Layout, Reading};
+use jobfile::Layout;
 
 // The number of 16 bits at a place of the contents.
 fn short(file: &[u8], at: usize) -> usize
@@ -130,36 +130,22 @@ fn job_in(file: &[u8], layout: Layout) -> Job
     )
 }
 
-// The answer to a file that is refused.
-fn refused(why: Refusal) -> Reading
-    ensures { result ≡ record { verdict = Verdict.Refused why; job = zero_value } }
-{
-    let none = Job::zero();
-    Reading {
-        verdict: Verdict::Refused(why),
-        job: none,
-    }
-}
-
-// The job in a file, or the first refusal of the file and of its job with a job of zeros.
-pub fn read(file: &[u8]) -> Reading
+// The job in a file, or the first refusal of the file and of its job.
+pub fn read(file: &[u8]) -> Result<Job, Refusal>
     ensures { Reads file.now result }
 {
     if wrong_size(file) {
-        return refused(Refusal::FileSize);
+        return Err(Refusal::FileSize);
     }
     let form = form_in(file);
     if !in_order(file, form) {
-        return refused(Refusal::Offsets);
+        return Err(Refusal::Offsets);
     }
     let layout = layout(file, form);
     if layout.missized() {
-        return refused(Refusal::BodySizes);
+        return Err(Refusal::BodySizes);
     }
     let job = job_in(file, layout);
-    let verdict = validate(job);
-    if let Verdict::Refused(why) = verdict {
-        return refused(why);
-    }
-    Reading { verdict, job }
+    validate(job)?;
+    Ok(job)
 }

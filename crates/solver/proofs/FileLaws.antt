@@ -21,7 +21,7 @@ use Rattle.job.specs.Valid.{limit_rows, job_rows}
 use Rattle.job.proofs.Passed.{passed}
 use Rattle.job.proofs.Table.{first_next, first_append_pass, first_none}
 use Rattle.job.proofs.Values.{job_in_shape, value_holds_job}
-use Rattle.jobfile.specs.declared.Written.{Written}
+use Rattle.jobfile.specs.Answers.{Written}
 use Rattle.std.specs.Prelude.{Ok, Err}
 use Rattle.jobfile.specs.File.{file_of}
 use Rattle.jobfile.specs.Answers.{read_file, write_rows, written_of, write_file, left_of, left_by_write}

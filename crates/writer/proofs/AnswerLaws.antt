@@ -12,22 +12,22 @@ use Rattle.job.specs.Refusal.{Verdict}
 use Rattle.std.specs.Prelude.{Ok, Err}
 use Rattle.job.specs.Refusal.{pass}
 use Rattle.job.specs.Job.{Job}
-use Rattle.job.specs.Refusal.{first, reply_by}
+use Rattle.job.specs.Refusal.{first, reply_of, reply_by}
 use Rattle.job.specs.Valid.{job_rows}
 use Rattle.job.proofs.Table.{first_here, first_next, first_append_pass, first_append_refused}
 use Rattle.std.specs.Prelude.{Ok, Err}
 use Rattle.jobfile.specs.File.{file_of}
 use Rattle.writer.specs.Wrote.{Wrote}
-use Rattle.jobfile.specs.Answers.{write_rows, written_of, written_reply, write_file, left_of, left_by_write}
+use Rattle.jobfile.specs.Answers.{write_rows, written_of, write_file, left_of, left_by_write}
 
 module _ (J : Job) (slice : List ℕ) where
   by_verdict : (v : Verdict) → first (write_rows J slice) ≡ v → Wrote J slice (written_of v J) (left_of v J slice)
   unfolding write_file left_by_write
-  by_verdict v e = record { answers = rw e; replies = rw e (reply_of v); leaves = rw e }
+  by_verdict v e = record { answers = rw e; replies = rw e (replies_of v); leaves = rw e }
     where
-      reply_of : (w : Verdict) → written_reply (written_of w J) ≡ reply_by w (length (file_of J))
-      reply_of (Ok _) = refl
-      reply_of (Err why) = refl
+      replies_of : (w : Verdict) → reply_of (written_of w J) ≡ reply_by w (length (file_of J))
+      replies_of (Ok _) = refl
+      replies_of (Err why) = refl
 
   pub wrote_refused : (why : Refusal) → first (job_rows J) ≡ Err why → Wrote J slice (Err why) slice
   unfolding write_rows

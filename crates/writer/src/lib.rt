@@ -8,23 +8,19 @@ ghost use Rattle.job.specs.Job.{job_in};
 ghost use Rattle.writer.specs.Wrote.{Wrote};
 
 use job::Job;
-use job::refusal::{Refusal, Verdict};
+use job::refusal::Refusal;
 use job::validate::validate;
-use jobfile::Written;
 
 // Writes the file of the job to the front of the slice and returns its length. A refusal changes no byte.
-pub fn write(job: Job, out: &mut [u8]) -> Written
+pub fn write(job: Job, out: &mut [u8]) -> Result<usize, Refusal>
     ensures { Wrote (job_in job) out.old result out.new }
 {
-    let verdict = validate(job);
-    if let Verdict::Refused(why) = verdict {
-        return Written::Refused(why);
-    }
+    validate(job)?;
     let layout = encode::layout(job);
     let places = layout.places();
     if out.len() < places.end {
-        return Written::Refused(Refusal::FileSlice);
+        return Err(Refusal::FileSlice);
     }
     encode::file(out, job, layout, places);
-    Written::Length(places.end)
+    Ok(places.end)
 }

@@ -1,7 +1,7 @@
 -- `ruhkevois_rewrite` meets its contract: the file is refused, or the writer has answered.
 use mathlib.Core.Path.{◌∙◌}
 use Rattle.job.specs.Job.{Job}
-use Rattle.jobfile.specs.declared.Written.{Written}
+use Rattle.jobfile.specs.Answers.{Written}
 use Rattle.jobfile.specs.Answers.{write_file}
 use Rattle.packing.specs.Answer.{written_number}
 use Rattle.calls.proofs.Fitting.{written_file_is_short}

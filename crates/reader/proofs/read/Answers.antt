@@ -1,5 +1,6 @@
 -- `read` meets its contract: a way out for each refusal of the file, one for those of the job, and the job.
-use mathlib.Core.Path.{sym, ◌∙◌}
+use Rattle.std.proofs.Common.{rules, ◌≡◌, Err, sym, ◌∙◌}
+use Rattle.jobfile.specs.Answers.{read_file}
 use Rattle.jobfile.proofs.ReadLaws.{read_wrong_size, read_offsets, read_body_sizes, read_refused, read_passed}
 use Rattle.jobfile.proofs.ReadLaws.{reads_of_answer}
 use Rattle.reader.proofs.ContentsLaws.{has_contents, has_offset, placed}
@@ -7,9 +8,7 @@ use Rattle.reader.proofs.read.Goals as goal
 
 pub returns-then-wrong_size : goal.returns-then-wrong_size
 returns-then-wrong_size c =
-    reads_of_answer _ _
-    (c.refused.ensures
-    ∙ sym (read_wrong_size c.args.file.now (sym c.wrong_size.ensures ∙ c.if-wrong_size.true)))
+    reads_of_answer _ _ (sym (read_wrong_size c.args.file.now (sym c.wrong_size.ensures ∙ c.if-wrong_size.true)))
 
 pub form_in-form-requires : goal.form_in-form-requires
 form_in-form-requires c =
@@ -24,9 +23,7 @@ pub returns-then-not-in_order : goal.returns-then-not-in_order
 returns-then-not-in_order c =
     let file = c.args.file.now in
     let t1 = sym c.wrong_size.ensures ∙ c.if-wrong_size.false in
-    reads_of_answer _ _
-    (c.refused-then-not-in_order.ensures
-    ∙ sym (read_offsets file t1 (sym c.in_order.ensures ∙ c.if-not-in_order.true)))
+    reads_of_answer _ _ (sym (read_offsets file t1 (sym c.in_order.ensures ∙ c.if-not-in_order.true)))
 
 pub layout-layout-requires : goal.layout-layout-requires
 layout-layout-requires c =
@@ -39,7 +36,7 @@ returns-then-missized c =
     let t1 = sym c.wrong_size.ensures ∙ c.if-wrong_size.false in
     let t2 = sym c.in_order.ensures ∙ c.if-not-in_order.false in
     let t3 = rw c.layout-layout.ensures.0 at (sym c.missized.ensures ∙ c.if-missized.true) in
-    reads_of_answer _ _ (c.refused-then-missized.ensures ∙ sym (read_body_sizes file t1 t2 t3))
+    reads_of_answer _ _ (sym (read_body_sizes file t1 t2 t3))
 
 pub job_in-job-requires : goal.job_in-job-requires
 job_in-job-requires c =
@@ -48,16 +45,16 @@ job_in-job-requires c =
     let layout = c.layout-layout.ensures in
     (placed file _ t2 layout.0 (sym c.missized.ensures ∙ c.if-missized.false), layout.1)
 
-pub returns-in-Refused : goal.returns-in-Refused
-returns-in-Refused c =
+pub returns-in_err-validate : goal.returns-in_err-validate
+returns-in_err-validate c =
     let file = c.args.file.now in
     let t1 = sym c.wrong_size.ensures ∙ c.if-wrong_size.false in
     let t2 = sym c.in_order.ensures ∙ c.if-not-in_order.false in
     let t3 = rw c.layout-layout.ensures.0 at (sym c.missized.ensures ∙ c.if-missized.false) in
-    let v = sym c.validate-verdict.ensures ∙ c.in-Refused.is in
-    let j = c.job_in-job.result in
-    reads_of_answer _ _
-    (c.refused-in-Refused.ensures ∙ sym (read_refused file t1 t2 t3 j c.job_in-job.ensures c.in-Refused.why v))
+    let why = c.in_err-validate.field-0.0 in
+    let read : read_file file ≡ Err why
+      = read_refused file t1 t2 t3 c.job_in-job.result c.job_in-job.ensures why (sym c.validate.ensures ∙ c.in_err-validate.was) in
+    reads_of_answer _ _ (search rules)
 
 pub returns : goal.returns
 returns c =
@@ -65,7 +62,5 @@ returns c =
     let t1 = sym c.wrong_size.ensures ∙ c.if-wrong_size.false in
     let t2 = sym c.in_order.ensures ∙ c.if-not-in_order.false in
     let t3 = rw c.layout-layout.ensures.0 at (sym c.missized.ensures ∙ c.if-missized.false) in
-    let v = sym c.validate-verdict.ensures ∙ c.in_default.is in
-    let j = c.job_in-job.result in
-    reads_of_answer _ _
-    (rw c.in_default.is (sym (read_passed file t1 t2 t3 j c.job_in-job.ensures v)))
+    let v = sym c.validate.ensures ∙ c.in_ok-validate.was in
+    reads_of_answer _ _ (sym (read_passed file t1 t2 t3 c.job_in-job.result c.job_in-job.ensures v))
