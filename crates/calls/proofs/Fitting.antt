@@ -1,5 +1,6 @@
 -- Every number that a call packs fits its bits: files are short, plans have few steps.
 -- Assumes nothing.
+use Rattle.std.specs.Prelude.{Result, Ok, Err}
 use Prim.Native.Nat.{ℕ, suc, ◌*◌, ◌≤◌}
 use mathlib.Core.Path.{◌≡◌, refl, sym, ap, ◌∙◌}
 use mathlib.Core.Bool.{Bool, true, false, cond}
@@ -10,7 +11,7 @@ use lib.Dec.{ltb}
 use borrow.Author.Tests.{ltb-false}
 use Rattle.lists.proofs.Bools.{or_right}
 use Rattle.job.specs.Job.{Job, job_in}
-use Rattle.job.specs.Refusal.{first}
+use Rattle.job.specs.Refusal.{verdict_of, first}
 use Rattle.job.specs.Valid.{over, job_rows}
 use Rattle.job.specs.declared.Job as held
 use Rattle.job.specs.declared.refusal.Refusal.{Refusal}
@@ -41,12 +42,12 @@ use Rattle.planner.specs.Plan.{plan_refusals, PlansFor, PlansBy, Plans}
 use Rattle.replanner.specs.Replan.{replan_rows, kept_steps, ReplansWith, ReplansBy, Replans}
 use Rattle.packing.specs.Answer.{ShortFile}
 
-verdict_read : (v : Verdict) (J : Job) → (reading_of v J).verdict ≡ v
+verdict_read : (v : Verdict) (J : Job) → verdict_of (reading_of v J) ≡ v
 verdict_read (Ok _) J = refl
 verdict_read (Err why) J = refl
 
 -- a file that is accepted passes test 1
-pub accepted_file_is_short : (file : List ℕ) → (read_file file).verdict ≡ pass → length file ≤ 4096
+pub accepted_file_is_short : (file : List ℕ) → verdict_of (read_file file) ≡ pass → length file ≤ 4096
 unfolding read_file read_rows file_rows
 accepted_file_is_short file h =
     let passes = sym (verdict_read (first (read_rows file)) (decoded file)) ∙ h in
@@ -74,7 +75,7 @@ same_count_lem (x ∷ P) [] = refl
 same_count_lem (x ∷ P) (n ∷ lengths) = ap suc (same_count_lem P lengths)
 
 -- a plan that is run with true lengths has as many steps as the plan
-pub true_steps_are_few : (J : Job) (bytes lengths : List ℕ) (answer : Day) → answer ≡ true_day J bytes lengths
+pub true_steps_are_few : (J : Job) (bytes lengths : List ℕ) (answer : Result Day Refusal) → answer ≡ true_day J bytes lengths
     → answer.steps ≤ 32
 unfolding true_day true_rows check_rows
 true_steps_are_few J bytes lengths answer told = by_verdict (first (true_rows J bytes lengths)) refl told
@@ -85,21 +86,21 @@ true_steps_are_few J bytes lengths answer told = by_verdict (first (true_rows J 
         let checks = pass_of_append (job_rows J ++ plan_rows J J.goal bytes) _ e in
         let accepted = (pass_of_append (job_rows J) (plan_rows J J.goal bytes) checks.0).1 in
         let few = few_steps_of_accepted J J.goal bytes accepted in
-        let count = ap (λ (d : Day). d.steps) h in
+        let count = ap (λ (d : Result Day Refusal). d.steps) h in
         let same = same_count_lem (steps_in J bytes) lengths in
         omega arith
     by_verdict (Err why) e h = few_without_day why answer h
 
 -- a shortest plan that is handed out has at most 32 steps
 few_when_planned : (m : Makespan) (none : Refusal) (J : Job) (goal minute : ℕ) (K : List Step) (slice : List ℕ)
-    (answer : Day) (after : List ℕ) → PlansFor m none J goal minute K slice answer after → answer.steps ≤ 32
+    (answer : Result Day Refusal) (after : List ℕ) → PlansFor m none J goal minute K slice answer after → answer.steps ≤ 32
 few_when_planned (ends_at e) none J goal minute K slice answer after p =
-    let count = ap (λ (d : Day). d.steps) p.answers in
+    let count = ap (λ (d : Result Day Refusal). d.steps) p.answers in
     let few = few_steps_of_accepted J goal p.bytes p.accepted in
     omega arith
 few_when_planned no_plan none J goal minute K slice answer after p = few_without_day none answer p.answers
 
-pub planned_steps_are_few : (J : Job) (slice : List ℕ) (answer : Day) (after : List ℕ) → Plans J slice answer after
+pub planned_steps_are_few : (J : Job) (slice : List ℕ) (answer : Result Day Refusal) (after : List ℕ) → Plans J slice answer after
     → answer.steps ≤ 32
 planned_steps_are_few J slice answer after plans = by_verdict (first (plan_refusals J slice)) plans
   where
@@ -132,13 +133,13 @@ module _ (J : Job) (current : List ℕ) (minute goal : ℕ) (slice : List ℕ) w
       omega arith
 
   -- a shortest plan with the kept steps, and these alone
-  pub replanned_steps_are_few : (answer : Day) (after : List ℕ) → Replans J current minute goal slice answer after
+  pub replanned_steps_are_few : (answer : Result Day Refusal) (after : List ℕ) → Replans J current minute goal slice answer after
       → answer.steps ≤ 32
   replanned_steps_are_few answer after replans = by_verdict (first (replan_rows J current goal slice)) refl replans
     where
       with_kept : (alone : Bool) → length K ≤ 32 → ReplansWith alone J goal minute K slice answer after
           → answer.steps ≤ 32
-      with_kept true few p = let count = ap (λ (d : Day). d.steps) p.answers in omega arith
+      with_kept true few p = let count = ap (λ (d : Result Day Refusal). d.steps) p.answers in omega arith
       with_kept false few p =
           few_when_planned (makespan_from J goal minute K) NoPlanWithKept J goal minute K slice answer after p
 

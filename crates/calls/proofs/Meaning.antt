@@ -5,7 +5,7 @@ use mathlib.Core.Path.{◌≡◌, ap, ◌∙◌}
 use mathlib.Core.List.{List}
 use lib.ListN.{length, take}
 use Rattle.encoding.proofs.Parts.{Bytes}
-use Rattle.job.specs.Refusal.{Verdict}
+use Rattle.job.specs.Refusal.{verdict_of, Verdict}
 use Rattle.job.specs.Refusal.{pass}
 use Rattle.jobfile.specs.Answers.{read_file, write_file, left_by_write}
 use Rattle.jobfile.proofs.RoundTrips.{write_after_read_slice}
@@ -13,7 +13,7 @@ use Rattle.packing.specs.Answer.{done, written_number}
 use Rattle.calls.specs.Calls.{job_of, unless_refused, kept_if_refused, rewrite_answer, left_by_rewrite}
 
 -- "An accepted file read and written is the same file."
-pub accepted_file_comes_out : (file slice : List ℕ) → Bytes file → (read_file file).verdict ≡ pass
+pub accepted_file_comes_out : (file slice : List ℕ) → Bytes file → verdict_of (read_file file) ≡ pass
     → length file ≤ length slice
     → (rewrite_answer file slice ≡ done (length file) 0) × (take (length file) (left_by_rewrite file slice) ≡ file)
 accepted_file_comes_out file slice bytes accepted room =

@@ -11,7 +11,7 @@ use Rattle.encoding.specs.Bytes.{overwrite}
 use Rattle.encoding.proofs.Parts.{Bytes}
 use Rattle.job.specs.declared.refusal.Refusal.{Refusal}
 use Rattle.job.specs.declared.refusal.Refusal.TheVariants.{PoolTooLarge, PoolUnlike}
-use Rattle.job.specs.Refusal.{Verdict}
+use Rattle.job.specs.Refusal.{verdict_of, Verdict}
 use Rattle.std.specs.Prelude.{Ok, Err}
 use Rattle.job.specs.Refusal.{pass}
 use Rattle.job.specs.Job.{Action, Job, job_value}
@@ -49,8 +49,8 @@ module _ (J : Job) (slice : List ℕ) (passes : first (job_rows J) ≡ pass) (fi
   unfolding left_by_write
   written_slice = ap (λ (v : Verdict). left_of v J slice) rows_pass
 
-module _ (first_file second_file : List ℕ) (mine : (read_file first_file).verdict ≡ pass)
-    (other : (read_file second_file).verdict ≡ pass) where
+module _ (first_file second_file : List ℕ) (mine : verdict_of (read_file first_file) ≡ pass)
+    (other : verdict_of (read_file second_file) ≡ pass) where
   abbrev A : Job
   A = job_of first_file
 
@@ -58,14 +58,14 @@ module _ (first_file second_file : List ℕ) (mine : (read_file first_file).verd
   B = job_of second_file
 
   -- of the refusals of pooling only 32 and 33 are left
-  pub files_refused_by_32_or_33 : (why : Refusal) → (pooled_of_files first_file second_file).verdict ≡ Err why
+  pub files_refused_by_32_or_33 : (why : Refusal) → verdict_of (pooled_of_files first_file second_file) ≡ Err why
       → (why ≡ PoolTooLarge) ⊎ (why ≡ PoolUnlike)
   files_refused_by_32_or_33 why h =
       only_32_or_33 A B (read_job_passes first_file (read_file first_file).job (rw mine))
       (read_job_passes second_file (read_file second_file).job (rw other)) why (sym (verdict_of_pooling A B) ∙ h)
 
   -- otherwise the file of the pooled job stands at the front of a slice of 4,096 bytes or more
-  pub pooled_file_is_written : (pooled_of_files first_file second_file).verdict ≡ pass → (slice : List ℕ)
+  pub pooled_file_is_written : verdict_of (pooled_of_files first_file second_file) ≡ pass → (slice : List ℕ)
       → 4096 ≤ length slice
       → (pool_answer first_file second_file slice ≡ done (length (file_of (pooled A B))) 0)
       × (left_by_pool first_file second_file slice ≡ overwrite slice 0 (file_of (pooled A B)))
@@ -87,7 +87,7 @@ module _ (first_file second_file : List ℕ) (mine : (read_file first_file).verd
 
   -- and it reads as the pooled job
   pub pooled_file_reads_back : Bytes first_file → Bytes second_file
-      → (pooled_of_files first_file second_file).verdict ≡ pass
+      → verdict_of (pooled_of_files first_file second_file) ≡ pass
       → read_file (file_of (pooled A B)) ≡ record { verdict = pass; job = job_value (pooled A B) }
   pooled_file_reads_back bytes bytes' pass =
       let one = (read_file first_file).job in

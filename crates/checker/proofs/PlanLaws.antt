@@ -1,5 +1,6 @@
 -- What is answered of a plan's bytes, from what each test says.
 -- Assumes nothing.
+use Rattle.std.specs.Prelude.{Result, Ok, Err}
 use Prim.Native.Nat.{ℕ}
 use mathlib.Core.Path.{◌≡◌, refl, sym, ap, ◌∙◌}
 use mathlib.Core.List.{List}
@@ -7,7 +8,7 @@ use lib.ListN.{length}
 use Rattle.lists.proofs.Tabulate.{length_tabulate}
 use Rattle.job.specs.declared.Job as held
 use Rattle.job.specs.declared.refusal.Refusal.{Refusal}
-use Rattle.job.specs.Refusal.{Verdict}
+use Rattle.job.specs.Refusal.{reply_of, verdict_of, Verdict}
 use Rattle.std.specs.Prelude.{Ok, Err}
 use Rattle.job.specs.Refusal.{pass}
 use Rattle.job.specs.Job.{Job, job_in}
@@ -19,7 +20,7 @@ use Rattle.timeline.specs.declared.Plan.{Plan}
 use Rattle.timeline.specs.Step.{Step, steps_in}
 use Rattle.timeline.specs.Accepted.{order_rows, shape_rows, step_rows, plan_rows}
 use Rattle.timeline.specs.Timeline.{peaks}
-use Rattle.timeline.specs.Day.{no_day, day_of}
+use Rattle.timeline.specs.Day.{day_of}
 use Rattle.timeline.specs.Value.{step_at, steps_of}
 use Rattle.timeline.proofs.DayLaws.{refused_not_passed, reply_of_day}
 use Rattle.checker.specs.declared.Checked.{Checked}
@@ -31,7 +32,7 @@ day_by_checked (Ok _) J P = refl
 day_by_checked (Err why) J P = refl
 
 module _ (job : held.Job) (goal : ℕ) (bytes : List ℕ) (r : CheckedPlan) where
-  pub checks_refused : (why : Refusal) → r.day ≡ no_day why → first (plan_rows (job_in job) goal bytes) ≡ Err why
+  pub checks_refused : (why : Refusal) → r.day ≡ Err why → first (plan_rows (job_in job) goal bytes) ≡ Err why
       → ChecksPlan job goal bytes r
   checks_refused why d h =
       record {
@@ -44,7 +45,7 @@ module _ (job : held.Job) (goal : ℕ) (bytes : List ℕ) (r : CheckedPlan) wher
       → first (plan_rows (job_in job) goal bytes) ≡ first (step_rows (job_in job) goal (steps_in (job_in job) bytes))
       → (c : Checked) → c ≡ checked_of (first (step_rows (job_in job) goal (steps_of plan))) (steps_of plan)
       → r.day ≡ day_by c plan.length (peaks (job_in job) (steps_of plan))
-      → (r.day.verdict ≡ pass → r.plan ≡ plan) → ChecksPlan job goal bytes r
+      → (verdict_of r.day ≡ pass → r.plan ≡ plan) → ChecksPlan job goal bytes r
   checks_decoded plan decodes rows c checked day same =
       let J = job_in job in
       let count = length_tabulate plan.length (step_at plan) in
@@ -61,8 +62,8 @@ module _ (job : held.Job) (goal : ℕ) (bytes : List ℕ) (r : CheckedPlan) wher
       }
 
 -- ---- tests 12 to 15 alone
-module _ (J : Job) (bytes : List ℕ) (r : Day) where
-  pub shape_refused : (why : Refusal) → r ≡ no_day why → first (shape_rows J bytes) ≡ Err why → r ≡ shape_day J bytes
+module _ (J : Job) (bytes : List ℕ) (r : Result Day Refusal) where
+  pub shape_refused : (why : Refusal) → r ≡ Err why → first (shape_rows J bytes) ≡ Err why → r ≡ shape_day J bytes
   unfolding shape_day
   shape_refused why d h = d ∙ sym (ap (λ (v : Verdict). day_of v J (steps_in J bytes)) h)
 
@@ -80,7 +81,7 @@ module _ (J : Job) (bytes : List ℕ) (r : Day) where
       ∙ ap (λ (P : List Step). day_of (first (order_rows J P)) J P) steps
       ∙ sym (ap (λ (v : Verdict). day_of v J (steps_in J bytes)) rows)
 
-module _ (J : Job) (bytes : List ℕ) (r : Day) where
+module _ (J : Job) (bytes : List ℕ) (r : Result Day Refusal) where
   checks_of_answer : r ≡ check_plan J bytes → Checks J bytes r
   unfolding check_plan
   checks_of_answer answers =
@@ -89,7 +90,7 @@ module _ (J : Job) (bytes : List ℕ) (r : Day) where
         replies = rw answers (reply_of_day (first (check_rows J bytes)) J (steps_in J bytes));
       }
 
-  pub checks_refused_job : (why : Refusal) → r ≡ no_day why → first (job_rows J) ≡ Err why → Checks J bytes r
+  pub checks_refused_job : (why : Refusal) → r ≡ Err why → first (job_rows J) ≡ Err why → Checks J bytes r
   unfolding check_plan check_rows
   checks_refused_job why d h =
       checks_of_answer

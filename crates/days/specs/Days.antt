@@ -3,13 +3,13 @@
 use Rattle.std.specs.Prelude.{ℕ, ◌≡◌, List, [], ◌∷◌, ◌++◌, replicate}
 use Rattle.encoding.specs.Bytes.{to_bytes}
 use Rattle.job.specs.Job.{Action, Job}
-use Rattle.job.specs.Refusal.{number, Reply, refused, returned}
+use Rattle.job.specs.Refusal.{reply_of, number, Reply, refused, returned}
 use Rattle.job.specs.declared.Form.{Form}
 use Rattle.job.specs.declared.Form.TheVariants.{Four, Five, Six}
 use Rattle.job.specs.declared.StoreRule.{StoreRule}
 use Rattle.job.specs.declared.StoreRule.TheVariants.{PerStep, PerHour}
 use Rattle.job.specs.declared.refusal.Refusal.TheVariants.{NoPlan}
-use Rattle.timeline.specs.Day.{Told, day_reply}
+use Rattle.timeline.specs.declared.Day.{Day}
 use Rattle.checker.specs.Check.{check_plan}
 use Rattle.times.specs.Time.{Time, at}
 use Rattle.times.specs.Earliest.{Table, time_of, Solves}
@@ -143,7 +143,7 @@ abbrev pub step : ℕ → ℕ → List ℕ
 step action start = to_bytes 1 action ++ to_bytes 2 start
 
 -- an accepted plan of a job without pools: its end and its number of steps, and no peaks
-abbrev pub accepted : ℕ → ℕ → Reply Told
+abbrev pub accepted : ℕ → ℕ → Reply Day
 accepted end steps = returned (record { end = end; steps = steps; peaks = replicate 4 0 })
 
 -- ── the list ──
@@ -155,7 +155,7 @@ pub data Day : Type 0 where
   -- the earliest time of a set of facts, by the one table that solves the equations
   earliest : Job → ℕ → Time → Day
   -- the checker's reply to a plan
-  checked : Job → List ℕ → Reply Told → Day
+  checked : Job → List ℕ → Reply Day → Day
 
 -- the least end, or the refusal for "no plan that passes 12 to 20"
 abbrev pub end_reply : Makespan → Reply ℕ
@@ -165,7 +165,7 @@ end_reply no_plan = refused (number NoPlan)
 abbrev pub Holds : Day → Type 0
 Holds (planned J reply) = end_reply (makespan J J.goal) ≡ reply
 Holds (earliest J set time) = (table : Table) × Solves J table × (time_of J table set ≡ time)
-Holds (checked J plan reply) = day_reply (check_plan J plan) ≡ reply
+Holds (checked J plan reply) = reply_of (check_plan J plan) ≡ reply
 
 abbrev pub days : List Day
 days =

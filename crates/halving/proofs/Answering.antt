@@ -1,11 +1,12 @@
 -- What `halves` answers: a refusal, or the day joined from the first plans of both lists.
 -- Assumes nothing.
+use Rattle.std.specs.Prelude.{Result, Ok, Err}
 use Prim.Native.Nat.{ℕ}
 use mathlib.Core.Path.{◌≡◌, refl}
 use mathlib.Core.Logic.{◌⊎◌, inl, inr}
 use mathlib.Core.List.{List, []}
 use Rattle.job.specs.Job.{Job}
-use Rattle.job.specs.Refusal.{first}
+use Rattle.job.specs.Refusal.{reply_of, first}
 use Rattle.job.specs.Valid.{job_rows}
 use Rattle.job.specs.declared.refusal.Refusal.{Refusal}
 use Rattle.job.specs.declared.refusal.Refusal.TheVariants.{NoPlan}
@@ -25,13 +26,13 @@ use Rattle.halving.specs.Halves.{halves_rows, Answered, JoinedHalves, FirstOf, W
 use Rattle.halving.specs.Halves.{SecondHalf, HalvesBy, Halves}
 
 -- the reply follows from the answer
-pub answered : (v : Verdict) (J : Job) (P : List Step) (slice : List ℕ) (answer : Day) (after : List ℕ)
+pub answered : (v : Verdict) (J : Job) (P : List Step) (slice : List ℕ) (answer : Result Day Refusal) (after : List ℕ)
     → answer ≡ day_of v J P → after ≡ left_by v P slice → Answered v J P slice answer after
 answered v J P slice answer after told left =
     record { answers = told; replies = rw told (reply_of_day v J P); leaves = left }
 
 -- the first plans A and B of both lists, and the day joined from them
-pub record DayOfHalves (First : FirstOf) (J : Job) (halfway : ℕ) (slice : List ℕ) (answer : Day) (after : List ℕ)
+pub record DayOfHalves (First : FirstOf) (J : Job) (halfway : ℕ) (slice : List ℕ) (answer : Result Day Refusal) (after : List ℕ)
     : Type 0 where
   pub valid : first (job_rows J) ≡ pass
   pub A : List Step
@@ -40,11 +41,11 @@ pub record DayOfHalves (First : FirstOf) (J : Job) (halfway : ℕ) (slice : List
   pub second_half : First (afternoon J A) J.goal B
   pub joined : JoinedHalves J (join_steps (largest_handover J) A B) slice answer after
 
-pub record RefusedHalves (J : Job) (slice : List ℕ) (answer : Day) (after : List ℕ) : Type 0 where
+pub record RefusedHalves (J : Job) (slice : List ℕ) (answer : Result Day Refusal) (after : List ℕ) : Type 0 where
   pub why : Refusal
   pub told : Answered (Err why) J [] slice answer after
 
-module _ (First : FirstOf) (J : Job) (halfway : ℕ) (slice : List ℕ) (answer : Day) (after : List ℕ) where
+module _ (First : FirstOf) (J : Job) (halfway : ℕ) (slice : List ℕ) (answer : Result Day Refusal) (after : List ℕ) where
   abbrev Either : Type 0
   Either = DayOfHalves First J halfway slice answer after ⊎ RefusedHalves J slice answer after
 

@@ -1,5 +1,7 @@
 -- A day joined from two halves has at most 32 steps.
 -- Assumes nothing.
+use Rattle.job.specs.declared.refusal.Refusal.{Refusal}
+use Rattle.std.specs.Prelude.{Result, Ok, Err}
 use Prim.Native.Nat.{ℕ, ◌≤◌}
 use mathlib.Core.Path.{◌≡◌, refl, ap}
 use mathlib.Core.Logic.{⊎_elim}
@@ -21,7 +23,7 @@ use Rattle.joining.proofs.JoinedShape.{few_unless_too_long}
 use Rattle.halving.specs.Halves.{JoinedHalves, FirstListed, Halves}
 use Rattle.halving.proofs.Answering.{day_or_refused}
 
-module _ (J : Job) (halfway : ℕ) (slice : List ℕ) (answer : Day) (after : List ℕ) where
+module _ (J : Job) (halfway : ℕ) (slice : List ℕ) (answer : Result Day Refusal) (after : List ℕ) where
   few_when_joined : (P : List Step) → JoinedHalves J P slice answer after → answer.steps ≤ 32
   few_when_joined P joined = by_verdict (first (JoinedTooLong when too_long J P ∷ [])) refl joined.answers
     where
@@ -29,7 +31,7 @@ module _ (J : Job) (halfway : ℕ) (slice : List ℕ) (answer : Day) (after : Li
           → answer.steps ≤ 32
       by_verdict (Ok _) e h =
           let few = few_unless_too_long J P (first_pass _ _ _ e).0 in
-          let count = ap (λ (d : Day). d.steps) h in
+          let count = ap (λ (d : Result Day Refusal). d.steps) h in
           omega arith
       by_verdict (Err why) e h = few_without_day why answer h
 

@@ -1,5 +1,7 @@
 -- The call `join`, made with two accepted halves and a slice of 96 bytes or more, joins them as `halves` must.
 -- Assumes nothing.
+use Rattle.job.specs.declared.refusal.Refusal.{Refusal}
+use Rattle.std.specs.Prelude.{Result, Ok, Err}
 use Prim.Native.Nat.{ℕ, ◌≤◌}
 use mathlib.Core.Path.{◌≡◌, refl, sym, ap, ◌∙◌}
 use mathlib.Core.List.{List, [], ◌∷◌}
@@ -39,7 +41,7 @@ shape_in_afternoon J A bytes = refl
 pub halves_joined : (J : Job) → first (job_rows J) ≡ pass → (halfway : ℕ) (A B : List Step)
     → Accepted J halfway (plan_bytes A) → steps_in J (plan_bytes A) ≡ A
     → Accepted (afternoon J A) J.goal (plan_bytes B) → steps_in (afternoon J A) (plan_bytes B) ≡ B
-    → (slice : List ℕ) (answer : Day) (after : List ℕ) → 96 ≤ length slice
+    → (slice : List ℕ) (answer : Result Day Refusal) (after : List ℕ) → 96 ≤ length slice
     → Joins J (plan_bytes A) (plan_bytes B) slice answer after
     → JoinedHalves J (join_steps (largest_handover J) A B) slice answer after
 unfolding join_answer left_by_join

@@ -1,19 +1,21 @@
 -- What follows for a caller of `halves`: request j's sentences, of the answer itself.
 -- Assumes nothing.
+use Rattle.job.specs.declared.refusal.Refusal.{Refusal}
+use Rattle.std.specs.Prelude.{Result, Ok, Err}
 use Prim.Native.Nat.{ℕ, ◌≤◌}
 use mathlib.Core.Path.{◌≡◌, sym, ap, subst, ◌∙◌}
 use mathlib.Core.Logic.{⊎_elim}
 use mathlib.Core.List.{List, [], ◌∷◌}
 use Rattle.encoding.specs.Bytes.{overwrite}
 use Rattle.job.specs.Job.{Job}
-use Rattle.job.specs.Refusal.{◌when◌, first, refused}
+use Rattle.job.specs.Refusal.{reply_of, verdict_of, ◌when◌, first, refused}
 use Rattle.job.specs.declared.refusal.Refusal.TheVariants.{JoinedTooLong}
 use Rattle.job.specs.Refusal.{Verdict}
 use Rattle.std.specs.Prelude.{Ok, Err}
 use Rattle.job.specs.Refusal.{pass}
 use Rattle.timeline.specs.Step.{Step, plan_bytes}
 use Rattle.timeline.specs.Accepted.{Accepted}
-use Rattle.timeline.specs.Day.{told_of, tells, day_of, day_reply}
+use Rattle.timeline.specs.Day.{told_of, day_of}
 use Rattle.timeline.specs.declared.Day.{Day}
 use Rattle.timeline.proofs.DayLaws.{verdict_of_day, refused_not_passed}
 use Rattle.checker.specs.Check.{check_plan}
@@ -30,38 +32,38 @@ use Rattle.halving.proofs.FirstPlans.{first_listed_accepted}
 use Rattle.halving.proofs.PlannedHalves.{GoodDay, halves_are_good}
 
 -- two answers to one question: the same refusal, or the same steps
-same_answers : (v : Verdict) (J : Job) (P : List Step) (slice : List ℕ) (r s : Day) (after then : List ℕ)
+same_answers : (v : Verdict) (J : Job) (P : List Step) (slice : List ℕ) (r s : Result Day Refusal) (after then : List ℕ)
     → Answered v J P slice r after → Answered v J P slice s then → (r ≡ s) × (after ≡ then)
 same_answers v J P slice r s after then a b = (a.answers ∙ sym b.answers, a.leaves ∙ sym b.leaves)
 
-module _ (J : Job) (halfway : ℕ) (slice : List ℕ) (answer : Day) (after : List ℕ)
+module _ (J : Job) (halfway : ℕ) (slice : List ℕ) (answer : Result Day Refusal) (after : List ℕ)
     (h : Halves FirstListed J halfway slice answer after) where
-  good : answer.verdict ≡ pass → GoodDay J slice answer after
+  good : verdict_of answer ≡ pass → GoodDay J slice answer after
   good pass = halves_are_good FirstListed first_listed_accepted J halfway slice answer after pass h
 
   -- "A day joined from two halves so planned must pass the checker": its bytes are accepted for the job's goal, and the
   -- checker tells the same of them
-  pub halves_pass_the_checker : answer.verdict ≡ pass
+  pub halves_pass_the_checker : verdict_of answer ≡ pass
       → (bytes : List ℕ) × (after ≡ overwrite slice 0 bytes) × Accepted J J.goal bytes ×
       (check_plan J bytes ≡ answer)
   halves_pass_the_checker pass =
       let day = good pass in (day.bytes, day.leaves, day.accepted, day.checked)
 
   -- "it never ends before the shortest whole day": there is one
-  pub halves_not_before_shortest : answer.verdict ≡ pass
+  pub halves_not_before_shortest : verdict_of answer ≡ pass
       → (e : ℕ) × (makespan J J.goal ≡ ends_at e) × (e ≤ answer.end)
   halves_not_before_shortest pass = (good pass).shortest
 
   -- the halves of a day that is handed out
-  halves_of : answer.verdict ≡ pass → DayOfHalves FirstListed J halfway slice answer after
+  halves_of : verdict_of answer ≡ pass → DayOfHalves FirstListed J halfway slice answer after
   halves_of pass =
       ⊎_elim (λ day. day)
       (λ none. absurd (refused_not_passed answer none.why none.told.answers pass))
       (day_or_refused FirstListed J halfway slice answer after h)
 
   -- the joined steps are told of, and stand at the front of the slice
-  joined_handed_out : answer.verdict ≡ pass → (P : List Step) → JoinedHalves J P slice answer after
-      → (answer ≡ tells (told_of J P)) × (after ≡ overwrite slice 0 (plan_bytes P))
+  joined_handed_out : verdict_of answer ≡ pass → (P : List Step) → JoinedHalves J P slice answer after
+      → (answer ≡ Ok (told_of J P)) × (after ≡ overwrite slice 0 (plan_bytes P))
   joined_handed_out pass P joined =
       let v = first (JoinedTooLong when too_long J P ∷ []) in
       let passes : v ≡ pass = sym (verdict_of_day v J P answer joined.answers) ∙ pass in (
@@ -70,8 +72,8 @@ module _ (J : Job) (halfway : ℕ) (slice : List ℕ) (answer : Day) (after : Li
       )
 
   -- "an empty half gives the other half": where the morning is empty, the afternoon's first plan
-  pub empty_morning : FirstListed J halfway [] → answer.verdict ≡ pass
-      → (B : List Step) × FirstListed (afternoon J []) J.goal B × (answer ≡ tells (told_of J B))
+  pub empty_morning : FirstListed J halfway [] → verdict_of answer ≡ pass
+      → (B : List Step) × FirstListed (afternoon J []) J.goal B × (answer ≡ Ok (told_of J B))
       × (after ≡ overwrite slice 0 (plan_bytes B))
   unfolding join_steps
   empty_morning nothing pass =
@@ -88,7 +90,7 @@ module _ (J : Job) (halfway : ℕ) (slice : List ℕ) (answer : Day) (after : Li
 
   -- and where the afternoon behind the morning's first plan is empty, that plan
   pub empty_afternoon : (A : List Step) → FirstListed J halfway A → FirstListed (afternoon J A) J.goal []
-      → answer.verdict ≡ pass → (answer ≡ tells (told_of J A)) × (after ≡ overwrite slice 0 (plan_bytes A))
+      → verdict_of answer ≡ pass → (answer ≡ Ok (told_of J A)) × (after ≡ overwrite slice 0 (plan_bytes A))
   empty_afternoon A first_A nothing pass =
       let day = halves_of pass in
       let same : day.A ≡ A = one_plan_at_place J halfway 0 day.A A day.first_half first_A in
@@ -107,10 +109,10 @@ module _ (J : Job) (halfway : ℕ) (slice : List ℕ) (answer : Day) (after : Li
     both = subst (λ (v : Verdict). HalvesBy v FirstListed J halfway slice answer after) tested h
 
     -- "Either half without a plan is 22", the slice as it was
-    is_22 : NoHalf J slice answer after → (day_reply answer ≡ refused 22) × (after ≡ slice)
+    is_22 : NoHalf J slice answer after → (reply_of answer ≡ refused 22) × (after ≡ slice)
     is_22 none = (none.replies, none.leaves)
 
-    pub no_morning_is_22 : makespan J halfway ≡ no_plan → (day_reply answer ≡ refused 22) × (after ≡ slice)
+    pub no_morning_is_22 : makespan J halfway ≡ no_plan → (reply_of answer ≡ refused 22) × (after ≡ slice)
     no_morning_is_22 none =
         is_22
         (subst (λ (m : Makespan).
@@ -118,12 +120,12 @@ module _ (J : Job) (halfway : ℕ) (slice : List ℕ) (answer : Day) (after : Li
         (NoHalf J slice answer after)) none both)
 
     pub no_afternoon_is_22 : (A : List Step) → FirstListed J halfway A → makespan (afternoon J A) J.goal ≡ no_plan
-        → (day_reply answer ≡ refused 22) × (after ≡ slice)
+        → (reply_of answer ≡ refused 22) × (after ≡ slice)
     no_afternoon_is_22 A first_A none = by_first (makespan J halfway) both
       where
         by_first : (m : Makespan) → WithFirst FirstListed m J halfway
             (λ P. SecondHalf FirstListed J P slice answer after) (NoHalf J slice answer after)
-            → (day_reply answer ≡ refused 22) × (after ≡ slice)
+            → (reply_of answer ≡ refused 22) × (after ≡ slice)
         by_first (ends_at e) (P, first_P, rest) =
             let second : SecondHalf FirstListed J A slice answer after
             = subst (λ (R : List Step). SecondHalf FirstListed J R slice answer after)
@@ -136,7 +138,7 @@ module _ (J : Job) (halfway : ℕ) (slice : List ℕ) (answer : Day) (after : Li
         by_first no_plan p = is_22 p
 
 -- what `halves` promises leaves nothing open: of two answers to one question both are the same, and so are the slices
-module _ (J : Job) (halfway : ℕ) (slice : List ℕ) (r s : Day) (after then : List ℕ) where
+module _ (J : Job) (halfway : ℕ) (slice : List ℕ) (r s : Result Day Refusal) (after then : List ℕ) where
   abbrev Same : Type 0
   Same = (r ≡ s) × (after ≡ then)
 

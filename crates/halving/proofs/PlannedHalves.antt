@@ -1,6 +1,8 @@
 -- Whatever list of accepted plans the halves are taken from: a day handed out passes the checker, which tells the same
 -- of it, and never ends before the shortest whole day.
 -- Assumes nothing.
+use Rattle.job.specs.declared.refusal.Refusal.{Refusal}
+use Rattle.std.specs.Prelude.{Result, Ok, Err}
 use Prim.Native.Nat.{ℕ, ◌≤◌}
 use mathlib.Core.Path.{◌≡◌, sym, ap, subst, ◌∙◌}
 use mathlib.Core.Bool.{false}
@@ -10,7 +12,7 @@ use native.Mathlib.Omega.{arith}
 use Rattle.encoding.specs.Bytes.{overwrite}
 use Rattle.job.specs.Job.{Job}
 use Rattle.job.specs.Passed.{Passed}
-use Rattle.job.specs.Refusal.{◌when◌, first}
+use Rattle.job.specs.Refusal.{verdict_of, ◌when◌, first}
 use Rattle.job.specs.Valid.{job_rows}
 use Rattle.job.specs.declared.refusal.Refusal.TheVariants.{JoinedTooLong}
 use Rattle.job.specs.Refusal.{Verdict}
@@ -20,7 +22,7 @@ use Rattle.job.proofs.Table.{first_pass, first_append_pass}
 use Rattle.timeline.specs.Step.{Step, steps_in, plan_bytes}
 use Rattle.timeline.specs.Timeline.{end}
 use Rattle.timeline.specs.Accepted.{Accepted}
-use Rattle.timeline.specs.Day.{told_of, tells, day_of}
+use Rattle.timeline.specs.Day.{told_of, day_of}
 use Rattle.timeline.specs.declared.Day.{Day}
 use Rattle.timeline.proofs.DayLaws.{verdict_of_day, refused_not_passed}
 use Rattle.checker.specs.Check.{check_rows, check_plan}
@@ -40,21 +42,21 @@ FirstAccepted First =
     → Accepted J goal (plan_bytes P) × (steps_in J (plan_bytes P) ≡ P)
 
 -- "A day joined from two halves so planned must pass the checker; it never ends before the shortest whole day."
-pub record GoodDay (J : Job) (slice : List ℕ) (answer : Day) (after : List ℕ) : Type 0 where
+pub record GoodDay (J : Job) (slice : List ℕ) (answer : Result Day Refusal) (after : List ℕ) : Type 0 where
   pub bytes : List ℕ
   pub leaves : after ≡ overwrite slice 0 bytes
   pub accepted : Accepted J J.goal bytes
   pub checked : check_plan J bytes ≡ answer
   pub shortest : (e : ℕ) × (makespan J J.goal ≡ ends_at e) × (e ≤ answer.end)
 
-module _ (First : FirstOf) (good : FirstAccepted First) (J : Job) (halfway : ℕ) (slice : List ℕ) (answer : Day)
-    (after : List ℕ) (pass : answer.verdict ≡ pass) where
+module _ (First : FirstOf) (good : FirstAccepted First) (J : Job) (halfway : ℕ) (slice : List ℕ) (answer : Result Day Refusal)
+    (after : List ℕ) (pass : verdict_of answer ≡ pass) where
   verdict_passes : (v : Verdict) (P : List Step) → Answered v J P slice answer after → v ≡ pass
   verdict_passes v P h = sym (verdict_of_day v J P answer h.answers) ∙ pass
 
   module _ (valid : first (job_rows J) ≡ pass) where
     accepted_checked : (bytes : List ℕ) → Accepted J J.goal bytes
-        → check_plan J bytes ≡ tells (told_of J (steps_in J bytes))
+        → check_plan J bytes ≡ Ok (told_of J (steps_in J bytes))
     unfolding check_plan check_rows
     accepted_checked bytes accepted =
         ap (λ (v : Verdict). day_of v J (steps_in J bytes)) (first_append_pass (job_rows J) _ valid ∙ accepted)
@@ -83,16 +85,16 @@ module _ (First : FirstOf) (good : FirstAccepted First) (J : Job) (halfway : ℕ
         = subst (λ (R : List Step). Accepted J J.goal (plan_bytes R)) steps plan.0 in
         let back : steps_in J (plan_bytes P) ≡ P
         = subst (λ (R : List Step). steps_in J (plan_bytes R) ≡ R) steps plan.1 in
-        let told : answer ≡ tells (told_of J P)
+        let told : answer ≡ Ok (told_of J P)
         = joined.answers ∙ ap (λ (w : Verdict). day_of w J P) (verdict_passes v P joined) in
-        let ends : answer.end ≡ end P = ap (λ (d : Day). d.end) told in
+        let ends : answer.end ≡ end P = ap (λ (d : Result Day Refusal). d.end) told in
         let by = least.2 in
         let last = ap end steps in
         record {
           bytes = plan_bytes P;
           leaves = joined.leaves ∙ ap (λ (w : Verdict). left_by w P slice) (verdict_passes v P joined);
           accepted = ok;
-          checked = accepted_checked (plan_bytes P) ok ∙ ap (λ (R : List Step). tells (told_of J R)) back ∙ sym told;
+          checked = accepted_checked (plan_bytes P) ok ∙ ap (λ (R : List Step). Ok (told_of J R)) back ∙ sym told;
           shortest = (least.0, least.1, omega arith);
         }
 

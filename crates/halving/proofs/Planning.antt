@@ -1,5 +1,7 @@
 -- A day planned in two halves, from the first plans of both lists and the call `join`.
 -- Assumes nothing.
+use Rattle.job.specs.declared.refusal.Refusal.{Refusal}
+use Rattle.std.specs.Prelude.{Result, Ok, Err}
 use Prim.Native.Nat.{ℕ, zero, suc, ◌*◌, ◌≤◌}
 use mathlib.Core.Path.{◌≡◌, subst}
 use mathlib.Core.Bool.{true, false}
@@ -16,7 +18,6 @@ use Rattle.job.specs.Refusal.{pass}
 use Rattle.job.proofs.Passed.{passed}
 use Rattle.timeline.specs.Step.{Step, steps_in, plan_bytes}
 use Rattle.timeline.specs.Accepted.{Accepted}
-use Rattle.timeline.specs.Day.{no_day}
 use Rattle.timeline.specs.declared.Day.{Day}
 use Rattle.leaf.specs.Answer.{bytes_in}
 use Rattle.joining.specs.Answer.{Joins}
@@ -43,7 +44,7 @@ taken_inside (suc n) (x ∷ l) h =
 
 module _ (J : Job) (halfway : ℕ) (slice : List ℕ) (valid : first (job_rows J) ≡ pass)
     (own : foreign J.facts halfway ≡ false) (morning : Page) (of : PageOf J halfway 0 morning) where
-  pub no_first : 96 ≤ length slice → morning.any ≡ false → (r : Day) → r ≡ no_day NoPlan
+  pub no_first : 96 ≤ length slice → morning.any ≡ false → (r : Result Day Refusal) → r ≡ Err NoPlan
       → Halves FirstListed J halfway slice r slice
   no_first room none r d = halves_without_first FirstListed J halfway slice r valid own room d (of.none none)
 
@@ -75,7 +76,7 @@ module _ (J : Job) (halfway : ℕ) (slice : List ℕ) (valid : first (job_rows J
       of_second : PageOf (afternoon J A) J.goal 0 later
       of_second = subst (λ (P : List Step). PageOf (afternoon J P) J.goal 0 later) first_plan.2.steps of_later
 
-      pub no_second : later.any ≡ false → (r : Day) → r ≡ no_day NoPlan → Halves FirstListed J halfway slice r slice
+      pub no_second : later.any ≡ false → (r : Result Day Refusal) → r ≡ Err NoPlan → Halves FirstListed J halfway slice r slice
       no_second none r d =
           halves_without_second FirstListed J halfway slice r valid own room (of.some any).0 (of.some any).1 A
           first_plan.1 d (of_second.none none)
@@ -94,7 +95,7 @@ module _ (J : Job) (halfway : ℕ) (slice : List ℕ) (valid : first (job_rows J
         pub second_whole : length (bytes_in later.answer) ≡ 3 * later.answer.count
         second_whole = second_plan.2.found.whole
 
-        pub both_joined : (r : Day) (after : List ℕ)
+        pub both_joined : (r : Result Day Refusal) (after : List ℕ)
             → Joins J (bytes_in morning.answer) (bytes_in later.answer) slice r after
             → Halves FirstListed J halfway slice r after
         both_joined r after joins =

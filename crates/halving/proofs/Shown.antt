@@ -1,5 +1,7 @@
 -- Small days in two halves, computed from the definitions.
 -- Assumes nothing.
+use Rattle.job.specs.declared.refusal.Refusal.{Refusal}
+use Rattle.std.specs.Prelude.{Result, Ok, Err}
 use Prim.Native.Nat.{ℕ, ◌<◌, ◌≤◌}
 use mathlib.Core.Path.{◌≡◌, refl, ap, ◌∙◌}
 use mathlib.Core.Bool.{Bool, true, false}
@@ -14,7 +16,7 @@ use Rattle.facts.specs.FactSet.{has, union, difference, subset, meets, foreign}
 use Rattle.encoding.specs.Bytes.{from_bytes, to_bytes, overwrite}
 use Rattle.job.specs.Job.{Job}
 use Rattle.job.specs.Lengths.{shortest_of}
-use Rattle.job.specs.Refusal.{first, refused}
+use Rattle.job.specs.Refusal.{reply_of, first, refused}
 use Rattle.job.specs.Resources.{handover, store_amount, store_cap}
 use Rattle.job.specs.Valid.{action_rows, limit_rows, uses_beyond, job_rows}
 use Rattle.job.specs.declared.Form.TheVariants.{Four, Five}
@@ -27,7 +29,6 @@ use Rattle.timeline.specs.Places.{Place}
 use Rattle.timeline.specs.Step.{Step, step_of, steps_in, plan_bytes, before}
 use Rattle.timeline.specs.Timeline.{free, peak}
 use Rattle.timeline.specs.Accepted.{Accepted, shape_rows, step_rows, plan_rows}
-use Rattle.timeline.specs.Day.{tells, no_day, day_reply}
 use Rattle.timeline.specs.declared.Day.{Day}
 use Rattle.timeline.proofs.Tests.{not_both, or_cases}
 use Rattle.timeline.proofs.Rising.{before_reads}
@@ -82,7 +83,7 @@ halves_accepted = (refl, refl)
 -- the second starts at the end of the first, two, plus the handover, five
 pub joined_small : join_call (small 10) morning later (replicate 96 7)
     ≡ record {
-      answer = tells (record { end = 10; steps = 2; peaks = 1 ∷ 0 ∷ 0 ∷ 0 ∷ [] });
+      answer = Ok (record { end = 10; steps = 2; peaks = 1 ∷ 0 ∷ 0 ∷ 0 ∷ [] });
       after = 0 ∷ 0 ∷ 0 ∷ 1 ∷ 7 ∷ 0 ∷ replicate 90 7;
     }
 unfolding tabulate any has union difference subset meets foreign from_bytes to_bytes overwrite first handover store_amount
@@ -92,7 +93,7 @@ joined_small = refl
 
 -- a minute less until the deadline: 34, and the slice as it was
 pub too_long_small : join_call (small 9) morning later (replicate 96 7)
-    ≡ record { answer = no_day JoinedTooLong; after = replicate 96 7 }
+    ≡ record { answer = Err JoinedTooLong; after = replicate 96 7 }
 unfolding tabulate any has union difference subset meets foreign from_bytes to_bytes overwrite first handover store_amount
     store_cap shortest_of action_rows limit_rows uses_beyond job_rows steps_in plan_bytes free peak shape_rows join_steps
     join_answer left_by_join
@@ -186,9 +187,9 @@ tested slice room =
 
 -- "Either half without a plan is 22, even where the whole day has one": the first plan for fact 0 uses up the battery,
 -- while the whole day has a plan of two minutes
-pub no_afternoon_though_a_day : (slice : List ℕ) → 96 ≤ length slice → (answer : Day) (after : List ℕ)
+pub no_afternoon_though_a_day : (slice : List ℕ) → 96 ≤ length slice → (answer : Result Day Refusal) (after : List ℕ)
     → Halves FirstListed one_battery 1 slice answer after
-    → (makespan one_battery 3 ≡ ends_at 2) × (day_reply answer ≡ refused 22) × (after ≡ slice)
+    → (makespan one_battery 3 ≡ ends_at 2) × (reply_of answer ≡ refused 22) × (after ≡ slice)
 unfolding tabulate any has union difference subset meets first free handover store_amount store_cap step_rows makespan_from
 no_afternoon_though_a_day slice room answer after h =
     let none = no_afternoon_is_22 one_battery 1 slice answer after h (tested slice room) quick quick_is_first refl in

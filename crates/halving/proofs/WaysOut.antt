@@ -1,6 +1,7 @@
 -- The ways out of `halves`: a refusal of the job, of the halfway set or of the slice, a half without a plan, or the day
 -- joined from both.
 -- Assumes nothing.
+use Rattle.std.specs.Prelude.{Result, Ok, Err}
 use Prim.Native.Nat.{ℕ, ◌<◌, ◌≤◌}
 use mathlib.Core.Path.{◌≡◌, refl, sym, subst, ◌∙◌}
 use mathlib.Core.Bool.{true, false}
@@ -18,7 +19,6 @@ use Rattle.std.specs.Prelude.{Ok, Err}
 use Rattle.job.specs.Refusal.{pass}
 use Rattle.job.proofs.Table.{first_here, first_next, first_append_pass, first_append_refused, first_none}
 use Rattle.timeline.specs.Step.{Step}
-use Rattle.timeline.specs.Day.{no_day}
 use Rattle.timeline.specs.declared.Day.{Day}
 use Rattle.makespan.specs.Makespan.{Makespan, ends_at, no_plan, makespan}
 use Rattle.joining.specs.Join.{largest_handover, join_steps}
@@ -27,28 +27,28 @@ use Rattle.halving.specs.Halves.{halves_rows, Answered, JoinedHalves, FirstOf, W
 use Rattle.halving.specs.Halves.{SecondHalf, HalvesBy, Halves}
 use Rattle.halving.proofs.Answering.{answered}
 
-module _ (First : FirstOf) (J : Job) (halfway : ℕ) (slice : List ℕ) (r : Day) where
+module _ (First : FirstOf) (J : Job) (halfway : ℕ) (slice : List ℕ) (r : Result Day Refusal) where
   by_verdict : (v : Verdict) (after : List ℕ) → first (halves_rows J halfway slice) ≡ v
       → HalvesBy v First J halfway slice r after → Halves First J halfway slice r after
   by_verdict v after e h = subst (λ (w : Verdict). HalvesBy w First J halfway slice r after) (sym e) h
 
   -- the refusal, and the slice as it was
-  refusal : (why : Refusal) → r ≡ no_day why → Answered (Err why) J [] slice r slice
+  refusal : (why : Refusal) → r ≡ Err why → Answered (Err why) J [] slice r slice
   refusal why d = answered (Err why) J [] slice r slice d refl
 
-  pub halves_refused : (why : Refusal) → r ≡ no_day why → first (job_rows J) ≡ Err why
+  pub halves_refused : (why : Refusal) → r ≡ Err why → first (job_rows J) ≡ Err why
       → Halves First J halfway slice r slice
   halves_refused why d h = by_verdict (Err why) slice (first_append_refused (job_rows J) _ why h) (refusal why d)
 
   module _ (valid : first (job_rows J) ≡ pass) where
-    pub halves_foreign : r ≡ no_day ForeignAskedFact → foreign J.facts halfway ≡ true
+    pub halves_foreign : r ≡ Err ForeignAskedFact → foreign J.facts halfway ≡ true
         → Halves First J halfway slice r slice
     halves_foreign d h =
         by_verdict (Err ForeignAskedFact) slice
         (first_append_pass (job_rows J) _ valid ∙ first_here ForeignAskedFact _ _ h) (refusal ForeignAskedFact d)
 
     module _ (own : foreign J.facts halfway ≡ false) where
-      pub halves_short_slice : r ≡ no_day PlanSlice → length slice < 96 → Halves First J halfway slice r slice
+      pub halves_short_slice : r ≡ Err PlanSlice → length slice < 96 → Halves First J halfway slice r slice
       halves_short_slice d short =
           by_verdict (Err PlanSlice) slice
           (first_append_pass (job_rows J) _ valid
@@ -67,7 +67,7 @@ module _ (First : FirstOf) (J : Job) (halfway : ℕ) (slice : List ℕ) (r : Day
             (subst (λ (k : Makespan).
             WithFirst First k J halfway (λ A. SecondHalf First J A slice r after) (NoHalf J slice r after)) (sym e) h)
 
-        pub halves_without_first : r ≡ no_day NoPlan → makespan J halfway ≡ no_plan → Halves First J halfway slice r slice
+        pub halves_without_first : r ≡ Err NoPlan → makespan J halfway ≡ no_plan → Halves First J halfway slice r slice
         halves_without_first d e = both slice no_plan e (refusal NoPlan d)
 
         module _ (T : ℕ) (e : makespan J halfway ≡ ends_at T) (A : List Step) (first_A : First J halfway A) where
@@ -85,7 +85,7 @@ module _ (First : FirstOf) (J : Job) (halfway : ℕ) (slice : List ℕ) (r : Day
                     (sym same) h,
               )
 
-          pub halves_without_second : r ≡ no_day NoPlan → makespan (afternoon J A) J.goal ≡ no_plan
+          pub halves_without_second : r ≡ Err NoPlan → makespan (afternoon J A) J.goal ≡ no_plan
               → Halves First J halfway slice r slice
           halves_without_second d same = with_second slice no_plan same (refusal NoPlan d)
 

@@ -1,16 +1,18 @@
 -- What a call that plans a day in two halves promises, by the list of plans that it takes them from.
 -- Assumes nothing.
+use Rattle.job.specs.declared.refusal.Refusal.{Refusal}
+use Rattle.std.specs.Prelude.{Result, Ok, Err}
 use Rattle.std.specs.Prelude.{ℕ, ◌≡◌, List, [], ◌∷◌, ◌++◌, ltb, length}
 use Rattle.facts.specs.FactSet.{foreign}
 use Rattle.job.specs.Job.{Job}
-use Rattle.job.specs.Refusal.{Row, ◌when◌, first, reply_by}
+use Rattle.job.specs.Refusal.{reply_of, Row, ◌when◌, first, reply_by}
 use Rattle.job.specs.Valid.{job_rows}
 use Rattle.job.specs.declared.refusal.Refusal.TheVariants.{ForeignAskedFact, PlanSlice, NoPlan, JoinedTooLong}
 use Rattle.job.specs.Refusal.{Verdict}
 use Rattle.std.specs.Prelude.{Ok, Err}
 use Rattle.job.specs.Refusal.{pass}
 use Rattle.timeline.specs.Step.{Step}
-use Rattle.timeline.specs.Day.{told_of, day_of, day_reply}
+use Rattle.timeline.specs.Day.{told_of, day_of}
 use Rattle.timeline.specs.declared.Day.{Day}
 use Rattle.makespan.specs.Makespan.{Makespan, ends_at, no_plan, makespan}
 use Rattle.joining.specs.Join.{largest_handover, join_steps, too_long}
@@ -25,14 +27,14 @@ halves_rows J halfway slice =
 
 -- the answer is the refusal, or tells of the steps P; so does the papers' reply; and the slice is as it was, or begins
 -- with those steps
-pub record Answered (v : Verdict) (J : Job) (P : List Step) (slice : List ℕ) (answer : Day) (after : List ℕ)
+pub record Answered (v : Verdict) (J : Job) (P : List Step) (slice : List ℕ) (answer : Result Day Refusal) (after : List ℕ)
     : Type 0 where
   pub answers : answer ≡ day_of v J P
-  pub replies : day_reply answer ≡ reply_by v (told_of J P)
+  pub replies : reply_of answer ≡ reply_by v (told_of J P)
   pub leaves : after ≡ left_by v P slice
 
 -- "joins them"; 34 where the joined plan is too long
-abbrev pub JoinedHalves : Job → List Step → List ℕ → Day → List ℕ → Type 0
+abbrev pub JoinedHalves : Job → List Step → List ℕ → Result Day Refusal → List ℕ → Type 0
 JoinedHalves J P slice answer after = Answered (first (JoinedTooLong when too_long J P ∷ [])) J P slice answer after
 
 -- which plan is the first of a list, for a goal of a job
@@ -49,12 +51,12 @@ WithFirst First (ends_at e) J goal next none = (P : List Step) × First J goal P
 WithFirst First no_plan J goal next none = none
 
 -- "Either half without a plan is 22, even where the whole day has one"
-abbrev pub NoHalf : Job → List ℕ → Day → List ℕ → Type 0
+abbrev pub NoHalf : Job → List ℕ → Result Day Refusal → List ℕ → Type 0
 NoHalf J slice answer after = Answered (Err NoPlan) J [] slice answer after
 
 -- behind the steps A: "It then takes, likewise, the first for the real goal, from the facts and stores left, and joins
 -- them."
-abbrev pub SecondHalf : FirstOf → Job → List Step → List ℕ → Day → List ℕ → Type 0
+abbrev pub SecondHalf : FirstOf → Job → List Step → List ℕ → Result Day Refusal → List ℕ → Type 0
 SecondHalf First J A slice answer after =
     WithFirst First (makespan (afternoon J A) J.goal) (afternoon J A) J.goal
     (λ B. JoinedHalves J (join_steps (largest_handover J) A B) slice answer after)
@@ -62,17 +64,17 @@ SecondHalf First J A slice answer after =
 
 -- "The planner takes the first plan of the list in e) for that set as the goal." "Each half is planned from minute 0
 -- with the job's whole deadline": both lists are of whole days, and what the first half leaves has the job's deadline
-abbrev pub BothHalves : FirstOf → Job → ℕ → List ℕ → Day → List ℕ → Type 0
+abbrev pub BothHalves : FirstOf → Job → ℕ → List ℕ → Result Day Refusal → List ℕ → Type 0
 BothHalves First J halfway slice answer after =
     WithFirst First (makespan J halfway) J halfway (λ A. SecondHalf First J A slice answer after)
     (NoHalf J slice answer after)
 
 -- "Of the refusals that hold, the one standing first in the table is returned"; otherwise both halves
-abbrev pub HalvesBy : Verdict → FirstOf → Job → ℕ → List ℕ → Day → List ℕ → Type 0
+abbrev pub HalvesBy : Verdict → FirstOf → Job → ℕ → List ℕ → Result Day Refusal → List ℕ → Type 0
 HalvesBy (Ok _) First J halfway slice answer after = BothHalves First J halfway slice answer after
 HalvesBy (Err why) First J halfway slice answer after = Answered (Err why) J [] slice answer after
 
 -- the answer to a job, a halfway set and a slice, the papers' reply, and every byte that the slice then holds
-abbrev pub Halves : FirstOf → Job → ℕ → List ℕ → Day → List ℕ → Type 0
+abbrev pub Halves : FirstOf → Job → ℕ → List ℕ → Result Day Refusal → List ℕ → Type 0
 Halves First J halfway slice answer after =
     HalvesBy (first (halves_rows J halfway slice)) First J halfway slice answer after

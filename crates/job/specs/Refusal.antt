@@ -60,6 +60,11 @@ first [] = pass
 first (why when true ∷ rows) = Err why
 first (why when false ∷ rows) = first rows
 
+-- what an answer says of the tests: that it passes, or its refusal
+abbrev pub verdict_of : {A : Type 0} → Result A Refusal → Verdict
+verdict_of (Ok value) = pass
+verdict_of (Err why) = Err why
+
 -- a reply as the papers name it: a refusal by its number, or what the call returns
 pub data Reply (A : Type 0) : Type 0 where
   refused : ℕ → Reply A

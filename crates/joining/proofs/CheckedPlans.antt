@@ -1,5 +1,7 @@
 -- Two plans that pass 12 to 15, by what the checker tells of them: numbers that fit, and the joined plan.
 -- Assumes nothing.
+use Rattle.job.specs.declared.refusal.Refusal.{Refusal}
+use Rattle.std.specs.Prelude.{Result, Ok, Err}
 use Prim.Native.Nat.{ℕ, zero, suc, ◌+◌, ◌/◌, ◌≤◌}
 use mathlib.Core.Path.{◌≡◌, sym, ap, ◌∙◌}
 use mathlib.Core.Bool.{Bool, ◌||◌}
@@ -11,7 +13,7 @@ use Rattle.lists.proofs.Tabulate.{length_tabulate, each_at}
 use Rattle.encoding.specs.Bytes.{overwrite}
 use Rattle.job.specs.Job.{Job}
 use Rattle.job.specs.Passed.{Passed}
-use Rattle.job.specs.Refusal.{first}
+use Rattle.job.specs.Refusal.{verdict_of, first}
 use Rattle.job.specs.Resources.{handover}
 use Rattle.job.specs.Valid.{over}
 use Rattle.job.specs.Refusal.{Verdict}
@@ -19,7 +21,7 @@ use Rattle.job.specs.Refusal.{pass}
 use Rattle.timeline.specs.Step.{steps_in, plan_bytes}
 use Rattle.timeline.specs.Timeline.{end, largest_below}
 use Rattle.timeline.specs.Accepted.{shape_rows}
-use Rattle.timeline.specs.Day.{told_of, tells, day_of}
+use Rattle.timeline.specs.Day.{told_of, day_of}
 use Rattle.timeline.specs.declared.Day.{Day}
 use Rattle.timeline.proofs.DayLaws.{verdict_of_day}
 use Rattle.timeline.proofs.Tests.{le_or_lt}
@@ -51,22 +53,22 @@ offset_small wait zero last l m = omega arith
 offset_small wait (suc n) last l m = omega arith
 
 -- ---- one plan
-module _ (J : Job) (bytes : List ℕ) (x : Day) (checked : x ≡ shape_day J bytes) where
-  pub shape_verdict : x.verdict ≡ first (shape_rows J bytes)
+module _ (J : Job) (bytes : List ℕ) (x : Result Day Refusal) (checked : x ≡ shape_day J bytes) where
+  pub shape_verdict : verdict_of x ≡ first (shape_rows J bytes)
   unfolding shape_day
   shape_verdict = verdict_of_day (first (shape_rows J bytes)) J (steps_in J bytes) x checked
 
-  module _ (passes : x.verdict ≡ pass) where
+  module _ (passes : verdict_of x ≡ pass) where
     pub shape_passes : first (shape_rows J bytes) ≡ pass
     shape_passes = sym shape_verdict ∙ passes
 
-    shape_told : x ≡ tells (told_of J (steps_in J bytes))
+    shape_told : x ≡ Ok (told_of J (steps_in J bytes))
     unfolding shape_day
     shape_told = checked ∙ ap (λ (v : Verdict). day_of v J (steps_in J bytes)) shape_passes
 
     pub shape_ends : Passed J → x.end ≤ 1440
     shape_ends passed =
-        let same = ap (λ (d : Day). d.end) shape_told in
+        let same = ap (λ (d : Result Day Refusal). d.end) shape_told in
         let late = ends_of_shape J bytes shape_passes in
         let deadline = passed.deadline in
         omega arith
@@ -75,23 +77,23 @@ module _ (J : Job) (bytes : List ℕ) (x : Day) (checked : x ≡ shape_day J byt
     unfolding steps_in
     shape_steps =
         let count : length (steps_in J bytes) ≡ length bytes / 3 = length_tabulate _ _ in
-        ap (λ (d : Day). d.steps) shape_told ∙ count
+        ap (λ (d : Result Day Refusal). d.steps) shape_told ∙ count
 
     pub shape_few : x.steps ≤ 32
     shape_few =
-        let same = ap (λ (d : Day). d.steps) shape_told in
+        let same = ap (λ (d : Result Day Refusal). d.steps) shape_told in
         let few = few_of_shape J bytes shape_passes in
         omega arith
 
 -- ---- both
-module _ (J : Job) (a b : List ℕ) (x y d : Day) (minutes : ℕ) (passed : Passed J)
-    (first_told : x ≡ shape_day J a) (IsFirst-passes : x.verdict ≡ pass)
-    (second_told : y ≡ shape_day J b) (second_passes : y.verdict ≡ pass)
+module _ (J : Job) (a b : List ℕ) (x y d : Result Day Refusal) (minutes : ℕ) (passed : Passed J)
+    (first_told : x ≡ shape_day J a) (IsFirst-passes : verdict_of x ≡ pass)
+    (second_told : y ≡ shape_day J b) (second_passes : verdict_of y ≡ pass)
     (starts : minutes ≡ offset (largest_handover J) x.steps x.end) where
   starts_after : minutes ≡ offset (largest_handover J) (length (steps_in J a)) (end (steps_in J a))
   starts_after =
       starts
-      ∙ ap (λ (z : Day). offset (largest_handover J) z.steps z.end) (shape_told J a x first_told IsFirst-passes)
+      ∙ ap (λ (z : Result Day Refusal). offset (largest_handover J) z.steps z.end) (shape_told J a x first_told IsFirst-passes)
 
   pub minutes_small : minutes ≤ 2000
   minutes_small =
@@ -110,24 +112,24 @@ module _ (J : Job) (a b : List ℕ) (x y d : Day) (minutes : ℕ) (passed : Pass
 
   module _ (told : d ≡ both_days x y minutes) where
     -- what is told is told of the joined plan
-    pub joined_told : d ≡ tells (told_of J (joined_steps J a b))
+    pub joined_told : d ≡ Ok (told_of J (joined_steps J a b))
     joined_told =
         told
-        ∙ ap (λ (z : Day). both_days z y minutes) (shape_told J a x first_told IsFirst-passes)
-        ∙ ap (λ (z : Day). both_days (tells (told_of J (steps_in J a))) z minutes)
+        ∙ ap (λ (z : Result Day Refusal). both_days z y minutes) (shape_told J a x first_told IsFirst-passes)
+        ∙ ap (λ (z : Result Day Refusal). both_days (Ok (told_of J (steps_in J a))) z minutes)
         (shape_told J b y second_told second_passes)
-        ∙ ap (both_days (tells (told_of J (steps_in J a))) (tells (told_of J (steps_in J b)))) starts_after
+        ∙ ap (both_days (Ok (told_of J (steps_in J a))) (Ok (told_of J (steps_in J b)))) starts_after
         ∙ told_joined J passed.few_pools (steps_in J a) (steps_in J b)
 
     pub long_told : (t r : Bool) → t ≡ (over 32 d.steps || over J.deadline d.end) → t ≡ r
         → too_long J (joined_steps J a b) ≡ r
     long_told t r test is =
-        sym (ap (λ (z : Day). over 32 z.steps || over J.deadline z.end) joined_told) ∙ sym test ∙ is
+        sym (ap (λ (z : Result Day Refusal). over 32 z.steps || over J.deadline z.end) joined_told) ∙ sym test ∙ is
 
     -- a joined plan that is not too long has room in a slice of 96 bytes
     pub room_for_both : (d.steps ≤ 32) → length a + length b ≤ 96
     room_for_both few =
-        let steps = ap (λ (z : Day). z.steps) told in
+        let steps = ap (λ (z : Result Day Refusal). z.steps) told in
         let n = shape_steps J a x first_told IsFirst-passes in
         let m = shape_steps J b y second_told second_passes in
         let p = whole_steps J a (shape_passes J a x first_told IsFirst-passes) in

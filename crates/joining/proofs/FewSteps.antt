@@ -1,5 +1,7 @@
 -- A joined plan has at most 32 steps.
 -- Assumes nothing.
+use Rattle.job.specs.declared.refusal.Refusal.{Refusal}
+use Rattle.std.specs.Prelude.{Result, Ok, Err}
 use Prim.Native.Nat.{ℕ, ◌≤◌}
 use mathlib.Core.Path.{◌≡◌, refl, ap}
 use mathlib.Core.List.{List}
@@ -19,7 +21,7 @@ use Rattle.joining.specs.Join.{joined_steps}
 use Rattle.joining.specs.Answer.{join_rows, join_answer}
 use Rattle.joining.proofs.JoinedShape.{few_unless_too_long}
 
-pub joined_steps_are_few : (J : Job) (a b slice : List ℕ) (answer : Day) → answer ≡ join_answer J a b slice
+pub joined_steps_are_few : (J : Job) (a b slice : List ℕ) (answer : Result Day Refusal) → answer ≡ join_answer J a b slice
     → answer.steps ≤ 32
 unfolding join_answer
 joined_steps_are_few J a b slice answer told = by_verdict (first (join_rows J a b slice)) refl told
@@ -30,6 +32,6 @@ joined_steps_are_few J a b slice answer told = by_verdict (first (join_rows J a 
         let plans = (pass_of_append (job_rows J) _ e).1 in
         let rest = (pass_of_append (shape_rows J b) _ (pass_of_append (shape_rows J a) _ plans).1).1 in
         let few = few_unless_too_long J (joined_steps J a b) (first_pass _ _ _ (first_pass _ _ _ rest).1).0 in
-        let count = ap (λ (d : Day). d.steps) h in
+        let count = ap (λ (d : Result Day Refusal). d.steps) h in
         omega arith
     by_verdict (Err why) e h = few_without_day why answer h

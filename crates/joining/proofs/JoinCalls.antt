@@ -1,5 +1,7 @@
 -- Calls that join associate: the same bytes and answer, or the same 34. An empty plan on either side changes nothing.
 -- Assumes nothing.
+use Rattle.job.specs.declared.refusal.Refusal.{Refusal}
+use Rattle.std.specs.Prelude.{Result, Ok, Err}
 use Prim.Native.Nat.{ℕ, ◌+◌, ◌*◌, ◌≤◌}
 use mathlib.Core.Path.{◌≡◌, refl, sym, ap, ap₂, ◌∙◌}
 use mathlib.Core.Bool.{Bool, true, false}
@@ -20,7 +22,7 @@ use Rattle.job.proofs.Table.{first_next, first_append_pass}
 use Rattle.job.proofs.Passed.{passed}
 use Rattle.timeline.specs.Step.{Step, steps_in, plan_bytes}
 use Rattle.timeline.specs.Accepted.{shape_rows}
-use Rattle.timeline.specs.Day.{told_of, no_day, tells, day_of}
+use Rattle.timeline.specs.Day.{told_of, day_of}
 use Rattle.timeline.specs.declared.Day.{Day}
 use Rattle.timeline.proofs.PlanBytes.{length_plan_bytes}
 use Rattle.joining.specs.Join.{largest_handover, join_steps, joined_steps, too_long}
@@ -30,10 +32,10 @@ use Rattle.joining.proofs.Associates.{days_associate}
 use Rattle.joining.proofs.JoinedShape.{joined_passes_shape, not_too_long, written_again}
 
 -- what the call promises, as an answer with its slice
-pub called : (J : Job) (a b slice : List ℕ) (r : Day) (after : List ℕ) → Joins J a b slice r after
+pub called : (J : Job) (a b slice : List ℕ) (r : Result Day Refusal) (after : List ℕ) → Joins J a b slice r after
     → record { answer = r; after = after } ≡ join_call J a b slice
 called J a b slice r after h =
-    ap₂ {C = Called} (λ (x : Day) (s : List ℕ). record { answer = x; after = s }) h.answers h.leaves
+    ap₂ {C = Called} (λ (x : Result Day Refusal) (s : List ℕ). record { answer = x; after = s }) h.answers h.leaves
 
 -- the plan that a call has put at the front of its slice
 put_by_call : (slice : List ℕ) (P : List Step)
@@ -65,8 +67,8 @@ nothing_behind wait (x ∷ A) = refl
 
 -- what a call answers and leaves, by the day joined
 abbrev pub answer_by : Job → Joined → List ℕ → Called
-answer_by J (day P) slice = record { answer = tells (told_of J P); after = overwrite slice 0 (plan_bytes P) }
-answer_by J day_too_long slice = record { answer = no_day JoinedTooLong; after = slice }
+answer_by J (day P) slice = record { answer = Ok (told_of J P); after = overwrite slice 0 (plan_bytes P) }
+answer_by J day_too_long slice = record { answer = Err JoinedTooLong; after = slice }
 
 module _ (J : Job) (valid : first (job_rows J) ≡ pass) where
   -- where all tests before 34 pass, it decides
@@ -139,7 +141,7 @@ module _ (J : Job) (valid : first (job_rows J) ≡ pass) where
   -- ---- an empty plan
   -- the plan itself, told and written
   abbrev pub hands_out : List ℕ → List ℕ → Called
-  hands_out a slice = record { answer = tells (told_of J (steps_in J a)); after = overwrite slice 0 a }
+  hands_out a slice = record { answer = Ok (told_of J (steps_in J a)); after = overwrite slice 0 a }
 
   empty_passes : first (shape_rows J []) ≡ pass
   unfolding shape_rows first steps_in any tabulate
@@ -168,7 +170,7 @@ module _ (J : Job) (valid : first (job_rows J) ≡ pass) where
       ∙ ap {B = Called} answers (written_again J a pa small)
     where
       answers : List ℕ → Called
-      answers bytes = record { answer = tells (told_of J (steps_in J a)); after = overwrite slice 0 bytes }
+      answers bytes = record { answer = Ok (told_of J (steps_in J a)); after = overwrite slice 0 bytes }
 
   -- "The empty plan on either side changes nothing."
   pub empty_changes_nothing : (a slice : List ℕ) → first (shape_rows J a) ≡ pass → Bytes a → 96 ≤ length slice

@@ -1,12 +1,13 @@
 -- Three parts of a day joined two at a time: the steps, and the calls.
 -- Assumes nothing.
+use Rattle.job.specs.declared.refusal.Refusal.{Refusal}
+use Rattle.std.specs.Prelude.{Result, Ok, Err}
 use Rattle.std.specs.Prelude.{ℕ, ◌*◌, true, false, List, take}
 use Rattle.job.specs.Job.{Job}
-use Rattle.job.specs.Refusal.{Verdict}
+use Rattle.job.specs.Refusal.{verdict_of, Verdict}
 use Rattle.std.specs.Prelude.{Ok, Err}
 use Rattle.job.specs.Refusal.{pass}
 use Rattle.timeline.specs.Step.{Step}
-use Rattle.timeline.specs.Day.{no_day}
 use Rattle.timeline.specs.declared.Day.{Day}
 use Rattle.joining.specs.Join.{join_steps, too_long}
 use Rattle.joining.specs.Answer.{join_answer, left_by_join}
@@ -29,7 +30,7 @@ and_then day_too_long f = day_too_long
 
 -- ---- calls: the answer of one, and what its slice holds after it
 pub record Called : Type 0 where
-  pub answer : Day
+  pub answer : Result Day Refusal
   pub after : List ℕ
 
 abbrev pub join_call : Job → List ℕ → List ℕ → List ℕ → Called
@@ -43,7 +44,7 @@ plan_in call = take (3 * call.answer.steps) call.after
 -- as it was
 abbrev pub go_on : Verdict → Called → (List ℕ → Called) → List ℕ → Called
 go_on (Ok _) call next slice = next (plan_in call)
-go_on (Err why) call next slice = record { answer = no_day why; after = slice }
+go_on (Err why) call next slice = record { answer = Err why; after = slice }
 
 abbrev pub then_call : Called → (List ℕ → Called) → List ℕ → Called
-then_call call next slice = go_on call.answer.verdict call next slice
+then_call call next slice = go_on (verdict_of call.answer) call next slice

@@ -1,5 +1,6 @@
 -- The checker over the bytes of the steps: what its answer says of the plan, and the answer that is made of it.
 -- Assumes nothing.
+use Rattle.std.specs.Prelude.{Result, Ok, Err}
 use Prim.Native.Nat.{ℕ, ◌+◌, ◌*◌, ◌≤◌, ◌<◌}
 use mathlib.Core.Path.{◌≡◌, refl, sym, ap, subst, ◌∙◌}
 use mathlib.Core.Bool.{Bool, true, false, cond}
@@ -14,7 +15,7 @@ use Rattle.encoding.specs.Bytes.{overwrite}
 use Rattle.facts.specs.FactSet.{foreign}
 use Rattle.job.specs.declared.refusal.Refusal.{Refusal}
 use Rattle.job.specs.declared.refusal.Refusal.TheVariants.{ForeignAskedFact}
-use Rattle.job.specs.Refusal.{Verdict}
+use Rattle.job.specs.Refusal.{verdict_of, Verdict}
 use Rattle.std.specs.Prelude.{Ok, Err}
 use Rattle.job.specs.Refusal.{pass}
 use Rattle.job.specs.Job.{Job}
@@ -27,7 +28,7 @@ use Rattle.timeline.specs.Accepted.{Accepted}
 use Rattle.timeline.proofs.Tests.{not_both}
 use Rattle.timeline.proofs.PlanBytes.{length_plan_bytes}
 use Rattle.timeline.specs.declared.Day.{Day}
-use Rattle.timeline.specs.Day.{told_of, tells, day_of}
+use Rattle.timeline.specs.Day.{told_of, day_of}
 use Rattle.checker.specs.Check.{check_within}
 use Rattle.tables.specs.declared.Steps.{Steps}
 use Rattle.leaf.specs.declared.Answer.{Answer}
@@ -58,12 +59,12 @@ front_whole J steps o w =
     omega arith
 
 -- ---- what the checker answers
-day_passed : (v : Verdict) (J : Job) (P : List Step) → (day_of v J P).verdict ≡ pass
+day_passed : (v : Verdict) (J : Job) (P : List Step) → verdict_of (day_of v J P) ≡ pass
     → (v ≡ pass) × (end P ≡ (day_of v J P).end) × (peaks J P ≡ (day_of v J P).peaks)
 day_passed (Ok _) J P h = (refl, refl, refl)
 day_passed (Err why) J P h = (h, cc, cc)
 
-pub passed_accepted : (J : Job) (goal : ℕ) (bytes : List ℕ) → (check_within J goal bytes).verdict ≡ pass
+pub passed_accepted : (J : Job) (goal : ℕ) (bytes : List ℕ) → verdict_of (check_within J goal bytes) ≡ pass
     → Accepted J goal bytes × (end (steps_in J bytes) ≡ (check_within J goal bytes).end)
     × (peaks J (steps_in J bytes) ≡ (check_within J goal bytes).peaks)
 unfolding check_within
@@ -72,7 +73,7 @@ passed_accepted J goal bytes h =
     ((first_pass _ _ _ (pass_of_append (limit_rows J) _ r.0).1).1, r.1, r.2)
 
 pub accepted_passes : (J : Job) (goal : ℕ) (bytes : List ℕ) → first (limit_rows J) ≡ pass → foreign J.facts goal ≡ false
-    → Accepted J goal bytes → check_within J goal bytes ≡ tells (told_of J (steps_in J bytes))
+    → Accepted J goal bytes → check_within J goal bytes ≡ Ok (told_of J (steps_in J bytes))
 unfolding check_within
 accepted_passes J goal bytes job own accepted =
     ap (λ (v : Verdict). day_of v J (steps_in J bytes))
@@ -80,49 +81,49 @@ accepted_passes J goal bytes job own accepted =
 
 -- ---- the answer that is made of it
 module _ (J : Job) (goal T : ℕ) (steps : Steps) where
-  abbrev checks : Day
+  abbrev checks : Result Day Refusal
   checks = check_within J goal (plan_bytes (in_order J steps))
 
-  same_checked : (o : List ℕ) (day : Day) → WritesPlan steps (replicate 96 0) o
+  same_checked : (o : List ℕ) (day : Result Day Refusal) → WritesPlan steps (replicate 96 0) o
       → day ≡ check_within J goal (take (steps.count * 3) o) → checks ≡ day
   same_checked o day w e =
       sym (e ∙ ap (λ (bytes : List ℕ). check_within J goal (take (steps.count * 3) bytes)) (w J)
       ∙ ap (check_within J goal) (plan_in_front J steps (steps.count * 3) (omega arith)))
 
   -- the answer by a verdict to what the checker says, and the steps as a plan of that day
-  abbrev answer_to : Verdict → Day → Answer
+  abbrev answer_to : Verdict → Result Day Refusal → Answer
   answer_to v d = answer_by v d.end d.peaks T steps.count (plan_of J steps)
 
-  abbrev as_plan : Day → List ℕ → Answer
+  abbrev as_plan : Result Day Refusal → List ℕ → Answer
   as_plan d plan = record { found = true; end = d.end; count = steps.count; peaks = d.peaks; plan = plan }
 
-  plan_answered : (d : Day) → d.end ≤ T → answer_to pass d ≡ as_plan d (plan_of J steps)
+  plan_answered : (d : Result Day Refusal) → d.end ≤ T → answer_to pass d ≡ as_plan d (plan_of J steps)
   plan_answered d l = ap (λ (b : Bool). cond b no_answer (as_plan d (plan_of J steps))) (le-ltb T d.end l)
 
-  nothing_answered : (d : Day) → T < d.end → answer_to pass d ≡ no_answer
+  nothing_answered : (d : Result Day Refusal) → T < d.end → answer_to pass d ≡ no_answer
   nothing_answered d l = ap (λ (b : Bool). cond b no_answer (as_plan d (plan_of J steps))) (lt-ltb T d.end l)
 
   -- o is the bytes that were written, and day what the checker says of them
-  module _ (o : List ℕ) (day : Day) (w : WritesPlan steps (replicate 96 0) o)
+  module _ (o : List ℕ) (day : Result Day Refusal) (w : WritesPlan steps (replicate 96 0) o)
       (e : day ≡ check_within J goal (take (steps.count * 3) o)) where
-    by_verdict : (v : Verdict) → day.verdict ≡ v → answer_to checks.verdict checks ≡ answer_to v day
+    by_verdict : (v : Verdict) → verdict_of day ≡ v → answer_to (verdict_of checks) checks ≡ answer_to v day
     by_verdict v h =
-        ap (λ (d : Day). answer_to d.verdict d) (same_checked o day w e) ∙ ap (λ (x : Verdict). answer_to x day) h
+        ap (λ (d : Result Day Refusal). answer_to (verdict_of d) d) (same_checked o day w e) ∙ ap (λ (x : Verdict). answer_to x day) h
 
-    pub answers_refused : (why : Refusal) → day.verdict ≡ Err why → Answers J goal T steps no_answer
+    pub answers_refused : (why : Refusal) → verdict_of day ≡ Err why → Answers J goal T steps no_answer
     answers_refused why h = sym (by_verdict (Err why) h)
 
-    pub answers_late : day.verdict ≡ pass → T < day.end → Answers J goal T steps no_answer
+    pub answers_late : verdict_of day ≡ pass → T < day.end → Answers J goal T steps no_answer
     answers_late h l = sym (by_verdict pass h ∙ nothing_answered day l)
 
-    pub answers_plan : day.verdict ≡ pass → day.end ≤ T → Answers J goal T steps (as_plan day o)
+    pub answers_plan : verdict_of day ≡ pass → day.end ≤ T → Answers J goal T steps (as_plan day o)
     answers_plan h l = ap (as_plan day) (w J) ∙ sym (by_verdict pass h ∙ plan_answered day l)
 
   -- a plan that is found is accepted
   pub answer_found : steps.count ≤ 32 → (r : Answer) → Answers J goal T steps r → r.found ≡ true → Found J goal T r
-  answer_found few r a h = by_verdict checks.verdict refl a
+  answer_found few r a h = by_verdict (verdict_of checks) refl a
     where
-      by_end : (b : Bool) → ltb T checks.end ≡ b → checks.verdict ≡ pass
+      by_end : (b : Bool) → ltb T checks.end ≡ b → verdict_of checks ≡ pass
           → r ≡ cond b no_answer (as_plan checks (plan_of J steps)) → Found J goal T r
       by_end true l c q = not_both h (ap (λ (x : Answer). x.found) q)
       by_end false l c q =
@@ -138,13 +139,13 @@ module _ (J : Job) (goal T : ℕ) (steps : Steps) where
             in_time = ltb-false T checks.end l;
           })
 
-      by_verdict : (v : Verdict) → checks.verdict ≡ v → r ≡ answer_to v checks → Found J goal T r
+      by_verdict : (v : Verdict) → verdict_of checks ≡ v → r ≡ answer_to v checks → Found J goal T r
       by_verdict (Ok _) c q = by_end (ltb T checks.end) refl c q
       by_verdict (Err why) c q = not_both h (ap (λ (x : Answer). x.found) q)
 
   -- its bytes are those of the steps
   pub answer_bytes : (r : Answer) → Answers J goal T steps r → r.found ≡ true → bytes_in r ≡ plan_bytes (in_order J steps)
-  answer_bytes r a h = by_verdict checks.verdict a
+  answer_bytes r a h = by_verdict (verdict_of checks) a
     where
       by_end : (b : Bool) → r ≡ cond b no_answer (as_plan checks (plan_of J steps))
           → bytes_in r ≡ plan_bytes (in_order J steps)
@@ -156,10 +157,10 @@ module _ (J : Job) (goal T : ℕ) (steps : Steps) where
       by_verdict (Err why) q = not_both h (ap (λ (x : Answer). x.found) q)
 
   -- where nothing is found, the steps as they stand are no accepted plan that ends by T
-  pub answer_not_found : (r : Answer) → Answers J goal T steps r → r.found ≡ false → (day : Day) → checks ≡ day
-      → day.verdict ≡ pass → day.end ≤ T → ⊥
+  pub answer_not_found : (r : Answer) → Answers J goal T steps r → r.found ≡ false → (day : Result Day Refusal) → checks ≡ day
+      → verdict_of day ≡ pass → day.end ≤ T → ⊥
   answer_not_found r a h day c p l =
       not_both
       (ap (λ (x : Answer). x.found)
-      (a ∙ ap (λ (d : Day). answer_to d.verdict d) c ∙ ap (λ (v : Verdict). answer_to v day) p
+      (a ∙ ap (λ (d : Result Day Refusal). answer_to (verdict_of d) d) c ∙ ap (λ (v : Verdict). answer_to v day) p
       ∙ plan_answered day l)) h

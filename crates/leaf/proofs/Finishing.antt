@@ -9,7 +9,7 @@ use lib.ListN.{length, get_or}
 use Rattle.lists.proofs.Tabulate.{length_tabulate}
 use Rattle.job.specs.declared.Job as held
 use Rattle.job.specs.declared.refusal.Refusal.{Refusal}
-use Rattle.job.specs.Refusal.{Verdict}
+use Rattle.job.specs.Refusal.{verdict_of, Verdict}
 use Rattle.std.specs.Prelude.{Ok, Err}
 use Rattle.job.specs.Refusal.{pass}
 use Rattle.job.specs.Job.{Job, job_in}
@@ -24,7 +24,7 @@ use Rattle.timeline.specs.Step.{Step, steps_in, plan_bytes}
 use Rattle.timeline.specs.From.{From}
 use Rattle.timeline.specs.Timeline.{end}
 use Rattle.timeline.specs.Accepted.{step_rows}
-use Rattle.timeline.specs.Day.{told_of, tells}
+use Rattle.timeline.specs.Day.{told_of}
 use Rattle.timeline.specs.Places.{EachStep, Permutation}
 use Rattle.timeline.proofs.Tests.{not_both}
 use Rattle.timeline.proofs.Permutations.{permutation_trans, permutation_each}
@@ -46,16 +46,16 @@ passes (Err why) = false
 
 -- the file has no job
 pub finishes_unread : (file : List ℕ) (frame : Frame) (steps : Steps) (reading : Reading) (why : Refusal) (r : Answer)
-    → reading ≡ read_file file → reading.verdict ≡ Err why → Finishes file frame steps r
+    → reading ≡ read_file file → verdict_of reading ≡ Err why → Finishes file frame steps r
 finishes_unread file frame steps reading why r e h =
     record {
-      found = λ f J have. unread (ap (λ (x : Reading). x.verdict) (e ∙ have.read));
-      same = λ f J have known starts. unread (ap (λ (x : Reading). x.verdict) (e ∙ have.read));
-      bytes = λ f J have known starts. unread (ap (λ (x : Reading). x.verdict) (e ∙ have.read));
-      dead = λ f J have asked b t l. unread (ap (λ (x : Reading). x.verdict) (e ∙ have.read));
+      found = λ f J have. unread (ap (λ (x : Reading). (verdict_of x)) (e ∙ have.read));
+      same = λ f J have known starts. unread (ap (λ (x : Reading). (verdict_of x)) (e ∙ have.read));
+      bytes = λ f J have known starts. unread (ap (λ (x : Reading). (verdict_of x)) (e ∙ have.read));
+      dead = λ f J have asked b t l. unread (ap (λ (x : Reading). (verdict_of x)) (e ∙ have.read));
     }
   where
-    unread : {A : Type 0} → reading.verdict ≡ pass → A
+    unread : {A : Type 0} → verdict_of reading ≡ pass → A
     unread p = not_both (ap passes p) (ap passes h)
 
 -- s is the chosen steps in order
@@ -113,7 +113,7 @@ module _ (J : Job) (frame : Frame) (steps s : Steps) (same : Reordered steps s) 
           let bytes = plan_bytes (in_order J s) in
           let passes = accepted_passes J frame.goal bytes pass asked.goal plan.0 in
           let same_end = ap end plan.1 in
-          answer_not_found J frame.goal frame.horizon s r a h (tells (told_of J (steps_in J bytes))) passes refl
+          answer_not_found J frame.goal frame.horizon s r a h (Ok (told_of J (steps_in J bytes))) passes refl
           (omega arith)
 
 -- the file has a job

@@ -1,10 +1,12 @@
 -- What the search answers at the first minute: a plan that is accepted, or nothing, and then a dead end.
 -- Assumes nothing.
+use Rattle.job.specs.declared.refusal.Refusal.{Refusal}
+use Rattle.std.specs.Prelude.{Result, Ok, Err}
 use Rattle.std.specs.Prelude.{ℕ, ◌*◌, ◌≤◌, ◌<◌, ◌≡◌, true, false, cond, List, ltb, length, get_or, take, replicate}
 use Rattle.encoding.specs.Bytes.{overwrite}
 use Rattle.facts.specs.FactSet.{foreign}
 use Rattle.job.specs.declared.Job as held
-use Rattle.job.specs.Refusal.{Verdict}
+use Rattle.job.specs.Refusal.{verdict_of, Verdict}
 use Rattle.std.specs.Prelude.{Ok, Err}
 use Rattle.job.specs.Refusal.{pass}
 use Rattle.job.specs.Job.{Job, job_in}
@@ -36,8 +38,8 @@ answer_by (Ok _) e peaks T count plan =
     cond (ltb T e) no_answer (record { found = true; end = e; count = count; peaks = peaks; plan = plan })
 answer_by (Err why) e peaks T count plan = no_answer
 
-abbrev pub answer_of : Day → ℕ → ℕ → List ℕ → Answer
-answer_of day T count plan = answer_by day.verdict day.end day.peaks T count plan
+abbrev pub answer_of : Result Day Refusal → ℕ → ℕ → List ℕ → Answer
+answer_of day T count plan = answer_by (verdict_of day) day.end day.peaks T count plan
 
 -- the bytes of the steps, zeros behind them
 abbrev pub plan_of : Job → Steps → List ℕ

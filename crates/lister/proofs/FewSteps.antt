@@ -1,5 +1,7 @@
 -- Each plan of the list has at most 32 steps.
 -- Assumes nothing.
+use Rattle.job.specs.declared.refusal.Refusal.{Refusal}
+use Rattle.std.specs.Prelude.{Result, Ok, Err}
 use Prim.Native.Nat.{ℕ, ◌≤◌}
 use mathlib.Core.Path.{ap, subst}
 use mathlib.Core.Logic.{⊎_elim}
@@ -21,7 +23,7 @@ use Rattle.planner.specs.Plan.{plan_refusals}
 use Rattle.listing.specs.Listed.{Listed}
 use Rattle.lister.specs.List.{ListsFor, ListsBy, Lists}
 
-pub listed_steps_are_few : (J : Job) (place : ℕ) (slice : List ℕ) (answer : Day) (after : List ℕ)
+pub listed_steps_are_few : (J : Job) (place : ℕ) (slice : List ℕ) (answer : Result Day Refusal) (after : List ℕ)
     → Lists J place slice answer after → answer.steps ≤ 32
 listed_steps_are_few J place slice answer after lists = by_verdict (first (plan_refusals J slice)) lists
   where
@@ -35,7 +37,7 @@ listed_steps_are_few J place slice answer after lists = by_verdict (first (plan_
         ⊎_elim
         (λ out.
         let few = few_in_list out.plan out.at.listed in
-        let count = ap (λ (d : Day). d.steps) out.answers in
+        let count = ap (λ (d : Result Day Refusal). d.steps) out.answers in
         omega arith)
         (λ ended. few_without_day ListEnded answer ended.1.answers)
         p

@@ -1,5 +1,6 @@
 -- The ways out of `list`: a job or a slice that is refused, no plan, and the plan at the place handed out.
 -- Assumes nothing.
+use Rattle.std.specs.Prelude.{Result, Ok, Err}
 use Prim.Native.Nat.{ℕ, ◌≤◌, ◌<◌}
 use mathlib.Core.Path.{◌≡◌, sym, ap, ◌∙◌, subst}
 use mathlib.Core.Bool.{true, false}
@@ -10,7 +11,7 @@ use borrow.Author.Tests.{lt-ltb, le-ltb}
 use Rattle.encoding.specs.Bytes.{overwrite}
 use Rattle.job.specs.declared.refusal.Refusal.{Refusal}
 use Rattle.job.specs.declared.refusal.Refusal.TheVariants.{PlanSlice, NoPlan, ListEnded}
-use Rattle.job.specs.Refusal.{Verdict}
+use Rattle.job.specs.Refusal.{reply_of, Verdict}
 use Rattle.std.specs.Prelude.{Ok, Err}
 use Rattle.job.specs.Refusal.{pass}
 use Rattle.job.specs.Job.{Job}
@@ -19,7 +20,7 @@ use Rattle.job.specs.Valid.{job_rows}
 use Rattle.job.proofs.Table.{first_here, first_next, first_append_pass, first_append_refused, first_none}
 use Rattle.timeline.specs.Step.{Step, steps_in}
 use Rattle.timeline.specs.declared.Day.{Day}
-use Rattle.timeline.specs.Day.{told_of, no_day, tells, day_reply}
+use Rattle.timeline.specs.Day.{told_of}
 use Rattle.timeline.proofs.Tests.{decided}
 use Rattle.timeline.proofs.DayLaws.{told_of_bytes}
 use Rattle.makespan.specs.Makespan.{Makespan, makespan}
@@ -31,18 +32,18 @@ use Rattle.walker.specs.Page.{PageOf}
 use Rattle.lister.specs.List.{HandsOutPlace, ListsFor, ListsBy, Lists}
 
 module _ (J : Job) (place : ℕ) (slice : List ℕ) where
-  by_verdict : (v : Verdict) (answer : Day) (after : List ℕ) → first (plan_refusals J slice) ≡ v
+  by_verdict : (v : Verdict) (answer : Result Day Refusal) (after : List ℕ) → first (plan_refusals J slice) ≡ v
       → ListsBy v J place slice answer after → Lists J place slice answer after
   by_verdict v answer after e h = subst (λ (w : Verdict). ListsBy w J place slice answer after) (sym e) h
 
   -- a job that fails its tests
-  pub lists_refused : (why : Refusal) (r : Day) → r ≡ no_day why → first (job_rows J) ≡ Err why
+  pub lists_refused : (why : Refusal) (r : Result Day Refusal) → r ≡ Err why → first (job_rows J) ≡ Err why
       → Lists J place slice r slice
   lists_refused why r told e =
       by_verdict (Err why) r slice (first_append_refused (job_rows J) _ why e) (refused_with_lem slice why r told)
 
   -- a slice that is too short
-  pub lists_short : (r : Day) → r ≡ no_day PlanSlice → first (job_rows J) ≡ pass → length slice < 96
+  pub lists_short : (r : Result Day Refusal) → r ≡ Err PlanSlice → first (job_rows J) ≡ pass → length slice < 96
       → Lists J place slice r slice
   lists_short r told passes short =
       by_verdict (Err PlanSlice) r slice
@@ -50,7 +51,7 @@ module _ (J : Job) (place : ℕ) (slice : List ℕ) where
       (refused_with_lem slice PlanSlice r told)
 
   module _ (passes : first (job_rows J) ≡ pass) (room : 96 ≤ length slice) where
-    answered : (m : Makespan) → makespan J J.goal ≡ m → (r : Day) (after : List ℕ)
+    answered : (m : Makespan) → makespan J J.goal ≡ m → (r : Result Day Refusal) (after : List ℕ)
         → ListsFor m J J.goal place slice r after → Lists J place slice r after
     answered m e r after h =
         by_verdict pass r after
@@ -61,13 +62,13 @@ module _ (J : Job) (place : ℕ) (slice : List ℕ) where
 
     module _ (page : Page) (of : PageOf J J.goal place page) where
       -- no plan at all
-      pub lists_none : page.any ≡ false → (r : Day) → r ≡ no_day NoPlan → Lists J place slice r slice
+      pub lists_none : page.any ≡ false → (r : Result Day Refusal) → r ≡ Err NoPlan → Lists J place slice r slice
       lists_none e r told = answered _ (of.none e) r slice (refused_with_lem slice NoPlan r told)
 
       pub whole_page : page.any ≡ true → Whole page.answer
       whole_page e f = let found = (of.found e f).2.found in (found.few, found.whole)
 
-      module _ (e : page.any ≡ true) (r : Day) (after : List ℕ)
+      module _ (e : page.any ≡ true) (r : Result Day Refusal) (after : List ℕ)
           (handed : HandedOut page.answer ListEnded slice r after) where
         hands_out : page.answer.found ≡ true → HandsOutPlace J J.goal place slice r after
         hands_out f =
@@ -79,12 +80,12 @@ module _ (J : Job) (place : ℕ) (slice : List ℕ) where
             let told = told_of_bytes J (bytes_in a) a.end a.count a.peaks plan.whole plan.end
             plan.peaks in
             let same : steps_in J (bytes_in a) ≡ P = tells_of.steps in
-            let answers = (handed.found f).0 ∙ ap tells (sym told) ∙ ap (λ (Q : List Step). tells (told_of J Q)) same in
+            let answers = (handed.found f).0 ∙ ap Ok (sym told) ∙ ap (λ (Q : List Step). Ok (told_of J Q)) same in
             record {
               plan = P;
               at = h.1;
               answers = answers;
-              replies = ap day_reply answers;
+              replies = ap reply_of answers;
               leaves = (handed.found f).1 ∙ ap (overwrite slice 0) tells_of.bytes;
             }
 

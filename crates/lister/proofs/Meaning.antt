@@ -1,6 +1,7 @@
 -- What follows from the promise of `list`: nothing is left open; a plan handed out ends where the planner's ends; 22 comes
 -- exactly where the planner says 22, and 28 exactly where the list is not longer than the place.
 -- Assumes nothing.
+use Rattle.std.specs.Prelude.{Result, Ok, Err}
 use Prim.Native.Nat.{ℕ}
 use mathlib.Core.Path.{◌≡◌, refl, sym, ap, ◌∙◌}
 use mathlib.Core.Bool.{false}
@@ -9,7 +10,7 @@ use mathlib.Core.List.{List, []}
 use native.Mathlib.Omega.{arith}
 use Rattle.encoding.specs.Bytes.{overwrite}
 use Rattle.job.specs.Job.{Job}
-use Rattle.job.specs.Refusal.{number, first}
+use Rattle.job.specs.Refusal.{verdict_of, number, first}
 use Rattle.job.specs.Passed.{Passed}
 use Rattle.job.specs.Valid.{job_rows, limit_rows, action_rows}
 use Rattle.job.proofs.Passed.{passed}
@@ -21,7 +22,7 @@ use Rattle.std.specs.Prelude.{Ok, Err}
 use Rattle.job.specs.Refusal.{pass}
 use Rattle.timeline.specs.Step.{Step, steps_in, plan_bytes}
 use Rattle.timeline.specs.Timeline.{end}
-use Rattle.timeline.specs.Day.{told_of, tells}
+use Rattle.timeline.specs.Day.{told_of}
 use Rattle.timeline.specs.declared.Day.{Day}
 use Rattle.makespan.specs.Makespan.{Makespan, ends_at, no_plan, LeastEnd, makespan}
 use Rattle.makespan.proofs.LeastEnds.{least_end_of_makespan, every_plan_counts, nothing_begun}
@@ -32,7 +33,7 @@ use Rattle.listing.specs.Place.{EndsBefore}
 use Rattle.listing.proofs.Places.{one_plan_at_place, not_at_place_and_ended}
 use Rattle.lister.specs.List.{HandsOutPlace, ListsFor, ListsBy, Lists}
 
-module _ (J : Job) (place : ℕ) (slice : List ℕ) (r s : Day) (after then : List ℕ) where
+module _ (J : Job) (place : ℕ) (slice : List ℕ) (r s : Result Day Refusal) (after then : List ℕ) where
   abbrev Same : Type 0
   Same = (r ≡ s) × (after ≡ then)
 
@@ -42,7 +43,7 @@ module _ (J : Job) (place : ℕ) (slice : List ℕ) (r s : Day) (after then : Li
   same_plan : HandsOutPlace J J.goal place slice r after → HandsOutPlace J J.goal place slice s then → Same
   same_plan a b =
       let e = one_plan_at_place J J.goal place a.plan b.plan a.at b.at in (
-        a.answers ∙ ap (λ (P : List Step). tells (told_of J P)) e ∙ sym b.answers,
+        a.answers ∙ ap (λ (P : List Step). Ok (told_of J P)) e ∙ sym b.answers,
         a.leaves ∙ ap (λ (P : List Step). overwrite slice 0 (plan_bytes P)) e ∙ sym b.leaves,
       )
 
@@ -86,18 +87,18 @@ unfolding job_rows limit_rows action_rows
 tests_before_28 J slice = refl
 
 -- ---- beside the planner's answer s to the same job and slice
-module _ (J : Job) (place : ℕ) (slice : List ℕ) (r s : Day) (after then : List ℕ) where
+module _ (J : Job) (place : ℕ) (slice : List ℕ) (r s : Result Day Refusal) (after then : List ℕ) where
   -- both are refused by the same number, which is not 28; or both hand out plans with the same end; or the planner alone
   -- does, and the list ends before the place
   pub data BesidePlanner : Type 0 where
-    refused_alike : (why : Refusal) → (why ≡ ListEnded → ⊥) → r.verdict ≡ Err why → s.verdict ≡ Err why
+    refused_alike : (why : Refusal) → (why ≡ ListEnded → ⊥) → verdict_of r ≡ Err why → verdict_of s ≡ Err why
         → BesidePlanner
-    handed_out : r.verdict ≡ pass → s.verdict ≡ pass → r.end ≡ s.end → (EndsBefore J J.goal place → ⊥)
+    handed_out : verdict_of r ≡ pass → verdict_of s ≡ pass → r.end ≡ s.end → (EndsBefore J J.goal place → ⊥)
         → BesidePlanner
-    ended : r.verdict ≡ Err ListEnded → s.verdict ≡ pass → EndsBefore J J.goal place → BesidePlanner
+    ended : verdict_of r ≡ Err ListEnded → verdict_of s ≡ pass → EndsBefore J J.goal place → BesidePlanner
 
-  told_by : {a b : Day} → a ≡ b → a.verdict ≡ b.verdict
-  told_by e = ap (λ (d : Day). d.verdict) e
+  told_by : {a b : Result Day Refusal} → a ≡ b → verdict_of a ≡ (verdict_of b)
+  told_by e = ap (λ (d : Result Day Refusal). (verdict_of d)) e
 
   pub beside_planner : Lists J place slice r after → Plans J slice s then → BesidePlanner
   beside_planner = by_verdict (first (plan_refusals J slice)) refl
@@ -106,9 +107,9 @@ module _ (J : Job) (place : ℕ) (slice : List ℕ) (r s : Day) (after then : Li
           → PlansFor m NoPlan J J.goal 0 [] slice s then → BesidePlanner
       by_makespan within (ends_at e) q (inl a) b =
           handed_out (told_by a.answers) (told_by b.answers)
-          (ap (λ (d : Day). d.end) a.answers
+          (ap (λ (d : Result Day Refusal). d.end) a.answers
           ∙ listed_ends_at_makespan J J.goal e within q a.plan a.at.listed
-          ∙ sym (ap (λ (d : Day). d.end) b.answers ∙ b.end))
+          ∙ sym (ap (λ (d : Result Day Refusal). d.end) b.answers ∙ b.end))
           (not_at_place_and_ended J J.goal place a.plan a.at)
       by_makespan within (ends_at e) q (inr a) b = ended (told_by a.1.answers) (told_by b.answers) a.0
       by_makespan within no_plan q a b =
@@ -126,21 +127,21 @@ module _ (J : Job) (place : ℕ) (slice : List ℕ) (r s : Day) (after then : Li
 
   module _ (lists : Lists J place slice r after) (plans : Plans J slice s then) where
     -- a plan handed out ends where the planner's ends
-    pub same_end_as_planned : r.verdict ≡ pass → (s.verdict ≡ pass) × (r.end ≡ s.end)
+    pub same_end_as_planned : verdict_of r ≡ pass → (verdict_of s ≡ pass) × (r.end ≡ s.end)
     same_end_as_planned pass = go (beside_planner lists plans)
       where
-        go : BesidePlanner → (s.verdict ≡ pass) × (r.end ≡ s.end)
+        go : BesidePlanner → (verdict_of s ≡ pass) × (r.end ≡ s.end)
         go (refused_alike why other a b) = absurd (pass_not_refused pass a)
         go (handed_out a b same more) = (b, same)
         go (ended a b short) = absurd (pass_not_refused pass a)
 
     -- 22 exactly where the planner says 22
-    pub no_plan_as_planned : (r.verdict ≡ Err NoPlan → s.verdict ≡ Err NoPlan)
-        × (s.verdict ≡ Err NoPlan → r.verdict ≡ Err NoPlan)
+    pub no_plan_as_planned : (verdict_of r ≡ Err NoPlan → verdict_of s ≡ Err NoPlan)
+        × (verdict_of s ≡ Err NoPlan → verdict_of r ≡ Err NoPlan)
     no_plan_as_planned = go (beside_planner lists plans)
       where
-        go : BesidePlanner → (r.verdict ≡ Err NoPlan → s.verdict ≡ Err NoPlan)
-            × (s.verdict ≡ Err NoPlan → r.verdict ≡ Err NoPlan)
+        go : BesidePlanner → (verdict_of r ≡ Err NoPlan → verdict_of s ≡ Err NoPlan)
+            × (verdict_of s ≡ Err NoPlan → verdict_of r ≡ Err NoPlan)
         go (refused_alike why other a b) = (λ h. b ∙ sym a ∙ h, λ h. a ∙ sym b ∙ h)
         go (handed_out a b same more) = (λ h. absurd (pass_not_refused a h), λ h. absurd (pass_not_refused b h))
         go (ended a b short) = (
@@ -149,12 +150,12 @@ module _ (J : Job) (place : ℕ) (slice : List ℕ) (r s : Day) (after then : Li
         )
 
     -- 28 exactly where there is a shortest day and the list is not longer than the place
-    pub ended_exactly : (r.verdict ≡ Err ListEnded → (s.verdict ≡ pass) × EndsBefore J J.goal place)
-        × (s.verdict ≡ pass → EndsBefore J J.goal place → r.verdict ≡ Err ListEnded)
+    pub ended_exactly : (verdict_of r ≡ Err ListEnded → (verdict_of s ≡ pass) × EndsBefore J J.goal place)
+        × (verdict_of s ≡ pass → EndsBefore J J.goal place → verdict_of r ≡ Err ListEnded)
     ended_exactly = go (beside_planner lists plans)
       where
-        go : BesidePlanner → (r.verdict ≡ Err ListEnded → (s.verdict ≡ pass) × EndsBefore J J.goal place)
-            × (s.verdict ≡ pass → EndsBefore J J.goal place → r.verdict ≡ Err ListEnded)
+        go : BesidePlanner → (verdict_of r ≡ Err ListEnded → (verdict_of s ≡ pass) × EndsBefore J J.goal place)
+            × (verdict_of s ≡ pass → EndsBefore J J.goal place → verdict_of r ≡ Err ListEnded)
         go (refused_alike why other a b) =
             (λ h. absurd (other (refused_once a h)), λ pass short. absurd (pass_not_refused pass b))
         go (handed_out a b same more) = (λ h. absurd (pass_not_refused a h), λ pass short. absurd (more short))

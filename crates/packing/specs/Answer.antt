@@ -1,7 +1,8 @@
 -- An answer as one number, packed the same way for every call but a price, which needs more bits.
 -- Assumes nothing.
+use Rattle.std.specs.Prelude.{Result, Ok, Err}
 use Rattle.std.specs.Prelude.{ℕ, ◌+◌, ◌*◌, ◌≤◌, ◌<◌, ◌≡◌, List}
-use Rattle.job.specs.Refusal.{number}
+use Rattle.job.specs.Refusal.{verdict_of, number}
 use Rattle.job.specs.declared.refusal.Refusal.{Refusal}
 use Rattle.job.specs.Refusal.{Verdict}
 use Rattle.std.specs.Prelude.{Ok, Err}
@@ -41,12 +42,12 @@ day_number (Ok _) end steps = done end steps
 day_number (Err why) end steps = refusal why
 
 -- "the checker returns the end"
-abbrev pub checked_number : Day → ℕ
-checked_number day = day_number day.verdict day.end 0
+abbrev pub checked_number : Result Day Refusal → ℕ
+checked_number day = day_number (verdict_of day) day.end 0
 
 -- "the planner returns the end and number of steps"
-abbrev pub planned_number : Day → ℕ
-planned_number day = day_number day.verdict day.end day.steps
+abbrev pub planned_number : Result Day Refusal → ℕ
+planned_number day = day_number (verdict_of day) day.end day.steps
 
 -- the peaks of a day in a lent array; beside a refusal it is as it was
 abbrev pub peaks_by : Verdict → List ℕ → List ℕ → List ℕ

@@ -1,5 +1,7 @@
 -- The answer of the search, handed out: a plan with the least end of those that count, or that there is none.
 -- Assumes nothing.
+use Rattle.job.specs.Refusal.{reply_of}
+use Rattle.std.specs.Prelude.{Result, Ok, Err}
 use Prim.Native.Nat.{ℕ}
 use mathlib.Core.Path.{◌≡◌, refl, sym, ap, ◌∙◌, subst}
 use mathlib.Core.Bool.{true, false}
@@ -10,7 +12,6 @@ use Rattle.job.specs.declared.refusal.Refusal.{Refusal}
 use Rattle.job.specs.Job.{Job}
 use Rattle.timeline.specs.Step.{Step}
 use Rattle.timeline.specs.declared.Day.{Day}
-use Rattle.timeline.specs.Day.{no_day, tells, day_reply}
 use Rattle.timeline.proofs.Tests.{decided, not_both}
 use Rattle.timeline.proofs.DayLaws.{told_of_bytes}
 use Rattle.makespan.specs.Makespan.{Makespan, makespan_from}
@@ -20,17 +21,17 @@ use Rattle.solver.specs.Task.{Solved}
 use Rattle.planner.specs.Plan.{RefusedWith, HandsOut, PlansFor, Whole, HandedOut}
 
 -- r is no day, and the slice is as it was
-pub refused_with_lem : (slice : List ℕ) (why : Refusal) (r : Day) → r ≡ no_day why → RefusedWith why slice r slice
-refused_with_lem slice why r told = record { answers = told; replies = ap day_reply told; keeps = refl }
+pub refused_with_lem : (slice : List ℕ) (why : Refusal) (r : Result Day Refusal) → r ≡ Err why → RefusedWith why slice r slice
+refused_with_lem slice why r told = record { answers = told; replies = ap reply_of told; keeps = refl }
 
 -- ---- the ways out of `hand_out`
-pub handed_none : (a : Answer) (none : Refusal) (slice : List ℕ) (r : Day) → a.found ≡ false → r ≡ no_day none
+pub handed_none : (a : Answer) (none : Refusal) (slice : List ℕ) (r : Result Day Refusal) → a.found ≡ false → r ≡ Err none
     → HandedOut a none slice r slice
 handed_none a none slice r e told = record { found = λ h. not_both h e; none = λ h. (told, refl) }
 
 pub handed_plan : (a : Answer) (none : Refusal) (slice after : List ℕ) → a.found ≡ true
     → after ≡ overwrite slice 0 (bytes_in a)
-    → HandedOut a none slice (tells (record { end = a.end; steps = a.count; peaks = a.peaks })) after
+    → HandedOut a none slice (Ok (record { end = a.end; steps = a.count; peaks = a.peaks })) after
 handed_plan a none slice after e copied = record { found = λ h. (refl, copied); none = λ h. not_both e h }
 
 -- ---- an answer of which the search's promise holds
@@ -38,20 +39,20 @@ module _ (J : Job) (goal minute : ℕ) (K : List Step) (a : Answer) (solved : So
   pub whole_when_solved : Whole a
   whole_when_solved e = let found = (solved.found e).0 in (found.few, found.whole)
 
-  module _ (none : Refusal) (slice : List ℕ) (r : Day) (after : List ℕ) (handed : HandedOut a none slice r after) where
+  module _ (none : Refusal) (slice : List ℕ) (r : Result Day Refusal) (after : List ℕ) (handed : HandedOut a none slice r after) where
     hands_out : a.found ≡ true → HandsOut J goal minute K slice a.end r after
     hands_out e =
         let found = solved.found e in
         let plan = found.0 in
         let told = told_of_bytes J (bytes_in a) a.end a.count a.peaks plan.whole plan.end plan.peaks in
-        let answers = (handed.found e).0 ∙ ap tells (sym told) in
+        let answers = (handed.found e).0 ∙ ap Ok (sym told) in
         record {
           bytes = bytes_in a;
           accepted = plan.accepted;
           counts = found.1;
           end = plan.end;
           answers = answers;
-          replies = ap day_reply answers;
+          replies = ap reply_of answers;
           leaves = (handed.found e).1;
         }
 

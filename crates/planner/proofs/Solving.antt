@@ -1,5 +1,6 @@
 -- The ways out of the planner: a job or a slice that is refused, and the answer of the search handed out.
 -- Assumes nothing.
+use Rattle.std.specs.Prelude.{Result, Ok, Err}
 use Prim.Native.Nat.{ℕ, ◌≤◌, ◌<◌}
 use mathlib.Core.Path.{◌≡◌, sym, ◌∙◌, subst}
 use mathlib.Core.List.{List, []}
@@ -15,25 +16,24 @@ use Rattle.job.specs.Refusal.{first}
 use Rattle.job.specs.Valid.{job_rows}
 use Rattle.job.proofs.Table.{first_here, first_next, first_append_pass, first_append_refused, first_none}
 use Rattle.timeline.specs.declared.Day.{Day}
-use Rattle.timeline.specs.Day.{no_day}
 use Rattle.leaf.specs.declared.Answer.{Answer}
 use Rattle.solver.specs.Task.{Solved}
 use Rattle.planner.specs.Plan.{plan_refusals, PlansBy, Plans, HandedOut}
 use Rattle.planner.proofs.HandingOut.{refused_with_lem, plans_when_solved}
 
 module _ (J : Job) (slice : List ℕ) where
-  by_verdict : (v : Verdict) (answer : Day) (after : List ℕ) → first (plan_refusals J slice) ≡ v
+  by_verdict : (v : Verdict) (answer : Result Day Refusal) (after : List ℕ) → first (plan_refusals J slice) ≡ v
       → PlansBy v J slice answer after → Plans J slice answer after
   by_verdict v answer after e h = subst (λ (w : Verdict). PlansBy w J slice answer after) (sym e) h
 
   -- a job that fails its tests
-  pub plans_refused : (why : Refusal) (r : Day) → r ≡ no_day why → first (job_rows J) ≡ Err why
+  pub plans_refused : (why : Refusal) (r : Result Day Refusal) → r ≡ Err why → first (job_rows J) ≡ Err why
       → Plans J slice r slice
   plans_refused why r told e =
       by_verdict (Err why) r slice (first_append_refused (job_rows J) _ why e) (refused_with_lem slice why r told)
 
   -- a slice that is too short
-  pub plans_short : (r : Day) → r ≡ no_day PlanSlice → first (job_rows J) ≡ pass → length slice < 96
+  pub plans_short : (r : Result Day Refusal) → r ≡ Err PlanSlice → first (job_rows J) ≡ pass → length slice < 96
       → Plans J slice r slice
   plans_short r told passes short =
       by_verdict (Err PlanSlice) r slice
@@ -42,7 +42,7 @@ module _ (J : Job) (slice : List ℕ) where
 
   -- what the search found, or that it found nothing
   pub plans_answered : first (job_rows J) ≡ pass → 96 ≤ length slice → (a : Answer) → Solved J J.goal 0 [] a
-      → (r : Day) (after : List ℕ) → HandedOut a NoPlan slice r after → Plans J slice r after
+      → (r : Result Day Refusal) (after : List ℕ) → HandedOut a NoPlan slice r after → Plans J slice r after
   plans_answered passes room a solved r after handed =
       by_verdict pass r after
       (first_append_pass (job_rows J) _ passes

@@ -5,7 +5,7 @@ use mathlib.Core.Path.{◌≡◌, sym, ap, ◌∙◌}
 use mathlib.Core.List.{List}
 use lib.ListN.{length}
 use Rattle.job.specs.declared.Job as held
-use Rattle.job.specs.Refusal.{pass}
+use Rattle.job.specs.Refusal.{verdict_of, pass}
 use Rattle.job.specs.Job.{Job, job_in}
 use Rattle.job.specs.Refusal.{first}
 use Rattle.job.specs.Valid.{job_rows}
@@ -22,8 +22,8 @@ use Rattle.pooling.proofs.OtherOrder.{pooled_other_order}
 use Rattle.pooling.proofs.PoolAnswers.{verdict_of_pooling, refusals_other_order, answer_holds_pooled}
 use Rattle.pooling.proofs.PoolAnswers.{answer_passes}
 
-verdict_is : (A B : Job) (r : Pooled) → Pools A B r → r.verdict ≡ first (pool_rows A B)
-verdict_is A B r h = ap (λ (x : Pooled). x.verdict) h.answers ∙ verdict_of_pooling A B
+verdict_is : (A B : Job) (r : Pooled) → Pools A B r → verdict_of r ≡ first (pool_rows A B)
+verdict_is A B r h = ap (λ (x : Pooled). (verdict_of x)) h.answers ∙ verdict_of_pooling A B
 
 module _ (one other : held.Job) (r : Pooled) (h : Pools (job_in one) (job_in other) r) where
   abbrev A : Job
@@ -34,11 +34,11 @@ module _ (one other : held.Job) (r : Pooled) (h : Pools (job_in one) (job_in oth
 
   -- for two jobs that pass, the other order is answered by the same refusal, or by none
   pub same_refusal_in_other_order : (s : Pooled) → Pools B A s → first (job_rows A) ≡ pass → first (job_rows B) ≡ pass
-      → r.verdict ≡ s.verdict
+      → verdict_of r ≡ (verdict_of s)
   same_refusal_in_other_order s k a b =
       verdict_is A B r h ∙ refusals_other_order A B a b ∙ sym (verdict_is B A s k)
 
-  module _ (pass : r.verdict ≡ pass) where
+  module _ (pass : verdict_of r ≡ pass) where
     rows : first (pool_rows A B) ≡ pass
     rows = sym (verdict_is A B r h) ∙ pass
 
@@ -65,12 +65,12 @@ module _ (one other : held.Job) (r : Pooled) (h : Pools (job_in one) (job_in oth
         (day.0, ap (λ (J : Job). makespan J J.goal) answer_is_pooled ∙ day.1, day.2)
 
   -- "Pooling in the other order gives the same end, or the same 22."
-  pub same_day_in_other_order : (s : Pooled) → Pools B A s → r.verdict ≡ pass
-      → (s.verdict ≡ pass)
+  pub same_day_in_other_order : (s : Pooled) → Pools B A s → verdict_of r ≡ pass
+      → (verdict_of s ≡ pass)
       × (makespan (job_in r.job) (job_in r.job).goal ≡ makespan (job_in s.job) (job_in s.job).goal)
   same_day_in_other_order s k pass =
       let both = pooling pass in
-      let too : s.verdict ≡ pass
+      let too : verdict_of s ≡ pass
       = sym (same_refusal_in_other_order s k both.valid_a both.valid_b) ∙ pass in
       let back : first (pool_rows B A) ≡ pass = sym (verdict_is B A s k) ∙ too in
       let other_job : job_in s.job ≡ pooled B A

@@ -7,7 +7,7 @@ use mathlib.Core.List.{[], ◌∷◌}
 use Rattle.job.specs.declared.Job as held
 use Rattle.job.specs.declared.refusal.Refusal.{Refusal}
 use Rattle.job.specs.declared.refusal.Refusal.TheVariants.{PoolTooLarge, PoolUnlike}
-use Rattle.job.specs.Refusal.{Verdict}
+use Rattle.job.specs.Refusal.{verdict_of, Verdict}
 use Rattle.std.specs.Prelude.{Ok, Err}
 use Rattle.job.specs.Refusal.{pass}
 use Rattle.job.specs.Job.{Job, job_in, job_value}
@@ -76,12 +76,12 @@ only_32_or_33 A B a b why h = left (too_large A B) (unlike A B) why (sym (own_ro
         ))
 
 -- ---- the answer
-verdict_of_rows : (v : Verdict) (J : Job) → (pooled_of v J).verdict ≡ v
+verdict_of_rows : (v : Verdict) (J : Job) → verdict_of (pooled_of v J) ≡ v
 verdict_of_rows (Ok _) J = refl
 verdict_of_rows (Err why) J = refl
 
 -- its verdict is that of the rows
-pub verdict_of_pooling : (A B : Job) → (pool_jobs A B).verdict ≡ first (pool_rows A B)
+pub verdict_of_pooling : (A B : Job) → verdict_of (pool_jobs A B) ≡ first (pool_rows A B)
 unfolding pool_jobs
 verdict_of_pooling A B = verdict_of_rows (first (pool_rows A B)) (pooled A B)
 
@@ -90,14 +90,14 @@ reply_of_rows (Ok _) J = refl
 reply_of_rows (Err why) J = refl
 
 module _ (A B : Job) (r : Pooled) where
-  answer_when : (v : Verdict) → r.verdict ≡ v → r.job ≡ (pooled_of v (pooled A B)).job → r ≡ pooled_of v (pooled A B)
+  answer_when : (v : Verdict) → verdict_of r ≡ v → r.job ≡ (pooled_of v (pooled A B)).job → r ≡ pooled_of v (pooled A B)
   answer_when (Ok _) verdict job =
       ap₂ {C = Pooled} (λ (v : Verdict) (j : held.Job). record { verdict = v; job = j }) verdict job
   answer_when (Err why) verdict job =
       ap₂ {C = Pooled} (λ (v : Verdict) (j : held.Job). record { verdict = v; job = j }) verdict job
 
   -- what is promised, for a verdict that the rows have
-  pub pools_when : (v : Verdict) → first (pool_rows A B) ≡ v → r.verdict ≡ v → r.job ≡ (pooled_of v (pooled A B)).job
+  pub pools_when : (v : Verdict) → first (pool_rows A B) ≡ v → verdict_of r ≡ v → r.job ≡ (pooled_of v (pooled A B)).job
       → Pools A B r
   unfolding pool_jobs
   pools_when v rows verdict job =

@@ -7,7 +7,7 @@ use Rattle.job.specs.declared.Form.{Form}
 use Rattle.job.specs.declared.Form.TheVariants.{Four, Five, Six}
 use Rattle.job.specs.declared.Job as held
 use Rattle.job.specs.declared.refusal.Refusal.TheVariants.{PoolTooLarge, PoolUnlike}
-use Rattle.job.specs.Refusal.{Verdict}
+use Rattle.job.specs.Refusal.{verdict_of, Verdict}
 use Rattle.std.specs.Prelude.{Ok, Err}
 use Rattle.job.specs.Refusal.{pass}
 use Rattle.job.specs.Job.{Action, Job, entries, handover_count, head_size, job_value, zero_value}
@@ -116,7 +116,7 @@ pool_jobs A B = pooled_of (first (pool_rows A B)) (pooled A B)
 
 -- the papers' reply: the number of the refusal, or the job
 abbrev pub pooled_reply : Pooled → Reply held.Job
-pooled_reply r = reply_by r.verdict r.job
+pooled_reply r = reply_by (verdict_of r) r.job
 
 -- what pooling promises of two jobs
 pub record Pools (A B : Job) (r : Pooled) : Type 0 where

@@ -1,6 +1,7 @@
 -- The kept steps alone: whether they are accepted for the goal is what the checker says of them, and from the deadline
 -- on no other plan counts.
 -- Assumes nothing.
+use Rattle.std.specs.Prelude.{Result, Ok, Err}
 use Prim.Native.Nat.{ℕ, ◌≤◌, ◌<◌}
 use mathlib.Core.Path.{◌≡◌, refl, sym, ap, ◌∙◌, subst}
 use mathlib.Core.Bool.{true, false}
@@ -19,7 +20,7 @@ use Rattle.job.proofs.Passed.{passed}
 use Rattle.job.proofs.Rows.{limits_of_pass}
 use Rattle.timeline.specs.Step.{Step, steps_in, plan_bytes}
 use Rattle.timeline.specs.Accepted.{Accepted}
-use Rattle.timeline.specs.Day.{told_of, tells}
+use Rattle.timeline.specs.Day.{told_of}
 use Rattle.timeline.proofs.Tests.{decided, not_both}
 use Rattle.timeline.specs.Places.{EachStep}
 use Rattle.timeline.proofs.Places.{each_step}
@@ -82,7 +83,7 @@ module _ (J : Job) (goal minute : ℕ) (kept : Steps) (valid : first (job_rows J
         nothing : passes J goal K ≡ true → ⊥
         nothing h =
             let accepted = (accepted_alone J goal minute K within begun_steps h).0 in
-            let day = tells (told_of J (steps_in J (plan_bytes K))) in
+            let day = Ok (told_of J (steps_in J (plan_bytes K))) in
             answer_not_found J goal J.deadline kept r checked e day
             (accepted_passes J goal (plan_bytes K) (limits_of_pass J valid) own accepted) refl
             (ends_by_deadline J goal (plan_bytes K) accepted)

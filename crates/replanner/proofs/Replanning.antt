@@ -1,5 +1,6 @@
 -- The ways out of the replanner: each refusal in its turn, and the answer handed out.
 -- Assumes nothing.
+use Rattle.std.specs.Prelude.{Result, Ok, Err}
 use Prim.Native.Nat.{ℕ, ◌≤◌, ◌<◌}
 use mathlib.Core.Path.{◌≡◌, sym, ap, ◌∙◌, subst}
 use mathlib.Core.Bool.{Bool, true, false}
@@ -12,7 +13,7 @@ use Rattle.encoding.specs.Bytes.{overwrite}
 use Rattle.facts.specs.FactSet.{foreign}
 use Rattle.job.specs.declared.refusal.Refusal.{Refusal}
 use Rattle.job.specs.declared.refusal.Refusal.TheVariants.{ForeignAskedFact, PlanSlice, NoPlanWithKept}
-use Rattle.job.specs.Refusal.{Verdict}
+use Rattle.job.specs.Refusal.{reply_of, Verdict}
 use Rattle.std.specs.Prelude.{Ok, Err}
 use Rattle.job.specs.Refusal.{pass}
 use Rattle.job.specs.Job.{Job}
@@ -22,7 +23,7 @@ use Rattle.job.proofs.Table.{first_here, first_next, first_append_pass, first_ap
 use Rattle.timeline.specs.declared.Day.{Day}
 use Rattle.timeline.specs.Step.{Step}
 use Rattle.timeline.specs.Accepted.{plan_rows, run_rows}
-use Rattle.timeline.specs.Day.{no_day, tells, told_of, day_reply}
+use Rattle.timeline.specs.Day.{told_of}
 use Rattle.timeline.proofs.Tests.{decided}
 use Rattle.timeline.proofs.DayLaws.{told_of_bytes}
 use Rattle.timeline.proofs.RunRows.{run_rows_lem}
@@ -41,22 +42,22 @@ module _ (J : Job) (current : List ℕ) (minute goal : ℕ) (slice : List ℕ) w
   abbrev slice_row : Row
   slice_row = PlanSlice when ltb (length slice) 96
 
-  by_verdict : (v : Verdict) (r : Day) (after : List ℕ) → first (replan_rows J current goal slice) ≡ v
+  by_verdict : (v : Verdict) (r : Result Day Refusal) (after : List ℕ) → first (replan_rows J current goal slice) ≡ v
       → ReplansBy v J goal minute K slice r after → Replans J current minute goal slice r after
   by_verdict v r after e h = subst (λ (w : Verdict). ReplansBy w J goal minute K slice r after) (sym e) h
 
-  refused_by : (why : Refusal) (r : Day) → r ≡ no_day why → first (replan_rows J current goal slice) ≡ Err why
+  refused_by : (why : Refusal) (r : Result Day Refusal) → r ≡ Err why → first (replan_rows J current goal slice) ≡ Err why
       → Replans J current minute goal slice r slice
   refused_by why r told e = by_verdict (Err why) r slice e (refused_with_lem slice why r told)
 
   -- a job that fails its tests
-  pub replans_refused : (why : Refusal) (r : Day) → r ≡ no_day why → first (job_rows J) ≡ Err why
+  pub replans_refused : (why : Refusal) (r : Result Day Refusal) → r ≡ Err why → first (job_rows J) ≡ Err why
       → Replans J current minute goal slice r slice
   replans_refused why r told e = refused_by why r told (first_append_refused (job_rows J) _ why e)
 
   module _ (valid : first (job_rows J) ≡ pass) where
     -- a goal with a foreign fact
-    pub replans_foreign : (r : Day) → r ≡ no_day ForeignAskedFact → foreign J.facts goal ≡ true
+    pub replans_foreign : (r : Result Day Refusal) → r ≡ Err ForeignAskedFact → foreign J.facts goal ≡ true
         → Replans J current minute goal slice r slice
     replans_foreign r told e =
         refused_by ForeignAskedFact r told (first_append_pass (job_rows J) _ valid ∙ first_here ForeignAskedFact _ _ e)
@@ -67,7 +68,7 @@ module _ (J : Job) (current : List ℕ) (minute goal : ℕ) (slice : List ℕ) w
       plan_rows_lem = first_append_pass (job_rows J) _ valid ∙ first_next ForeignAskedFact _ _ own
 
       -- a current plan that fails one of 12 to 19
-      pub replans_plan_refused : (why : Refusal) (r : Day) → r ≡ no_day why → first (plan_rows J 0 current) ≡ Err why
+      pub replans_plan_refused : (why : Refusal) (r : Result Day Refusal) → r ≡ Err why → first (plan_rows J 0 current) ≡ Err why
           → Replans J current minute goal slice r slice
       replans_plan_refused why r told e =
           refused_by why r told
@@ -78,13 +79,13 @@ module _ (J : Job) (current : List ℕ) (minute goal : ℕ) (slice : List ℕ) w
         slice_rows = plan_rows_lem ∙ first_append_pass (run_rows J current) _ (sym (run_rows_lem J current) ∙ runs)
 
         -- a slice that is too short
-        pub replans_short : (r : Day) → r ≡ no_day PlanSlice → length slice < 96
+        pub replans_short : (r : Result Day Refusal) → r ≡ Err PlanSlice → length slice < 96
             → Replans J current minute goal slice r slice
         replans_short r told short =
             refused_by PlanSlice r told
             (slice_rows ∙ first_here PlanSlice _ [] (lt-ltb (length slice) 96 short))
 
-        module _ (room : 96 ≤ length slice) (a : Answer) (replanned : Replanned J goal minute K a) (r : Day)
+        module _ (room : 96 ≤ length slice) (a : Answer) (replanned : Replanned J goal minute K a) (r : Result Day Refusal)
             (after : List ℕ) (handed : HandedOut a NoPlanWithKept slice r after) where
           kept_handed_out : passes J goal K ≡ true → HandsOutKept J K slice r after
           kept_handed_out e =
@@ -93,10 +94,10 @@ module _ (J : Job) (current : List ℕ) (minute goal : ℕ) (slice : List ℕ) w
               let told = told_of_bytes J (bytes_in a) a.end a.count a.peaks plan.whole plan.end
               plan.peaks in
               let out = handed.found alone.found in
-              let answers = out.0 ∙ ap tells (sym told ∙ ap (told_of J) alone.steps) in
+              let answers = out.0 ∙ ap Ok (sym told ∙ ap (told_of J) alone.steps) in
               record {
                 answers = answers;
-                replies = ap day_reply answers;
+                replies = ap reply_of answers;
                 leaves = out.1 ∙ ap (overwrite slice 0) alone.bytes;
               }
 

@@ -1,12 +1,14 @@
 -- What follows from the replanner's promise: the plan handed out is a shortest one with the kept steps, 35 means that
 -- there is none, and where there is one a plan is handed out.
 -- Assumes nothing.
+use Rattle.job.specs.declared.refusal.Refusal.{Refusal}
+use Rattle.std.specs.Prelude.{Result, Ok, Err}
 use Prim.Native.Nat.{ℕ, ◌≤◌}
 use mathlib.Core.Path.{◌≡◌, refl, sym, ap, ◌∙◌, subst}
 use mathlib.Core.Bool.{Bool, true, false}
 use mathlib.Core.List.{List, []}
 use Rattle.job.specs.declared.refusal.Refusal.TheVariants.{NoPlanWithKept}
-use Rattle.job.specs.Refusal.{Verdict}
+use Rattle.job.specs.Refusal.{verdict_of, Verdict}
 use Rattle.std.specs.Prelude.{Ok, Err}
 use Rattle.job.specs.Refusal.{pass}
 use Rattle.job.specs.Job.{Job}
@@ -19,7 +21,7 @@ use Rattle.timeline.specs.Step.{Step, steps_in, plan_bytes}
 use Rattle.timeline.specs.Timeline.{end}
 use Rattle.timeline.specs.Accepted.{Accepted, run_rows}
 use Rattle.timeline.specs.declared.Day.{Day}
-use Rattle.timeline.specs.Day.{told_of, tells}
+use Rattle.timeline.specs.Day.{told_of}
 use Rattle.timeline.proofs.DayLaws.{refused_not_passed}
 use Rattle.timeline.proofs.RunRows.{run_rows_lem}
 use Rattle.makespan.specs.Makespan.{Makespan, passes, Counts, makespan, makespan_from}
@@ -36,7 +38,7 @@ tests_before_35 : (J : Job) (current : List ℕ) (goal : ℕ) (slice : List ℕ)
 unfolding job_rows limit_rows action_rows run_rows
 tests_before_35 J current goal slice = refl
 
-module _ (J : Job) (current : List ℕ) (minute goal : ℕ) (slice : List ℕ) (answer : Day) (after : List ℕ) where
+module _ (J : Job) (current : List ℕ) (minute goal : ℕ) (slice : List ℕ) (answer : Result Day Refusal) (after : List ℕ) where
   abbrev K : List Step
   K = kept_steps J minute current
 
@@ -65,7 +67,7 @@ module _ (J : Job) (current : List ℕ) (minute goal : ℕ) (slice : List ℕ) (
           accepted = both.0;
           counts = counts_alone J goal minute K within begun_steps alone;
           end = ap end both.1;
-          answers = p.answers ∙ ap (λ (P : List Step). tells (told_of J P)) (sym both.1);
+          answers = p.answers ∙ ap (λ (P : List Step). Ok (told_of J P)) (sym both.1);
           replies = p.replies ∙ ap (λ (P : List Step). returned (told_of J P)) (sym both.1);
           leaves = p.leaves;
         }
@@ -89,7 +91,7 @@ module _ (J : Job) (current : List ℕ) (minute goal : ℕ) (slice : List ℕ) (
   plans_when_tests_pass h rows =
       plans_with_kept rows (subst (λ (v : Verdict). ReplansBy v J goal minute K slice answer after) rows h)
 
-  shortest_by_verdict : answer.verdict ≡ pass → (v : Verdict) → first (replan_rows J current goal slice) ≡ v
+  shortest_by_verdict : verdict_of answer ≡ pass → (v : Verdict) → first (replan_rows J current goal slice) ≡ v
       → ReplansBy v J goal minute K slice answer after → Shortest J goal minute K slice answer after
   shortest_by_verdict pass (Ok _) rows p =
       shortest_by_makespan J goal minute K slice answer after (within rows) NoPlanWithKept (begun_steps rows) pass
@@ -97,12 +99,12 @@ module _ (J : Job) (current : List ℕ) (minute goal : ℕ) (slice : List ℕ) (
   shortest_by_verdict pass (Err why) rows p = absurd (refused_not_passed answer why p.answers pass)
 
   -- a plan that is handed out is a shortest one of those with the kept steps
-  pub replan_is_shortest : Replans J current minute goal slice answer after → answer.verdict ≡ pass
+  pub replan_is_shortest : Replans J current minute goal slice answer after → verdict_of answer ≡ pass
       → Shortest J goal minute K slice answer after
   replan_is_shortest h pass = shortest_by_verdict pass (first (replan_rows J current goal slice)) refl h
 
   none_by_verdict : (v : Verdict) → first (replan_rows J current goal slice) ≡ v
-      → ReplansBy v J goal minute K slice answer after → answer.verdict ≡ Err NoPlanWithKept
+      → ReplansBy v J goal minute K slice answer after → verdict_of answer ≡ Err NoPlanWithKept
       → (bytes : List ℕ) → Accepted J goal bytes → Counts J minute K bytes → ⊥
   none_by_verdict (Ok _) rows p refused =
       none_by_makespan J goal minute K slice answer after (within rows) NoPlanWithKept
@@ -112,7 +114,7 @@ module _ (J : Job) (current : List ℕ) (minute goal : ℕ) (slice : List ℕ) (
       (rows ∙ ap Err (refusals_same answer why NoPlanWithKept p.answers refused))
 
   -- 35 means that no plan with the kept steps is accepted for the goal
-  pub no_plan_when_35 : Replans J current minute goal slice answer after → answer.verdict ≡ Err NoPlanWithKept
+  pub no_plan_when_35 : Replans J current minute goal slice answer after → verdict_of answer ≡ Err NoPlanWithKept
       → (bytes : List ℕ) → Accepted J goal bytes → Counts J minute K bytes → ⊥
   no_plan_when_35 h = none_by_verdict (first (replan_rows J current goal slice)) refl h
 
@@ -121,20 +123,20 @@ module _ (J : Job) (current : List ℕ) (minute goal : ℕ) (slice : List ℕ) (
     -- where none of the tests before the search holds and some plan with the kept steps is accepted, a shortest one is
     -- handed out
     pub plan_when_counts : (bytes : List ℕ) → Accepted J goal bytes → Counts J minute K bytes
-        → (answer.verdict ≡ pass) × Shortest J goal minute K slice answer after
+        → (verdict_of answer ≡ pass) × Shortest J goal minute K slice answer after
     plan_when_counts =
         shortest_when_accepted J goal minute K slice answer after (within rows) NoPlanWithKept (begun_steps rows)
         (makespan_from J goal minute K) refl (plans_when_tests_pass h rows)
 
     -- the current plan counts: where it meets the goal, the day ends no later than it does
     pub no_later_than_current : Accepted J goal current
-        → (answer.verdict ≡ pass) × (answer.end ≤ end (steps_in J current))
+        → (verdict_of answer ≡ pass) × (answer.end ≤ end (steps_in J current))
     no_later_than_current accepted =
         let shortest = plan_when_counts current accepted refl in
         (shortest.0, shortest.1.least.least current accepted refl)
 
 -- at minute 0 nothing is kept: an ordinary planning call for the goal, with 35 where that gives 22
-pub replan_at_0 : (J : Job) (current : List ℕ) (goal : ℕ) (slice : List ℕ) (answer : Day) (after : List ℕ)
+pub replan_at_0 : (J : Job) (current : List ℕ) (goal : ℕ) (slice : List ℕ) (answer : Result Day Refusal) (after : List ℕ)
     → Replans J current 0 goal slice answer after → first (replan_rows J current goal slice) ≡ pass
     → PlansFor (makespan J goal) NoPlanWithKept J goal 0 [] slice answer after
 replan_at_0 J current goal slice answer after h rows =

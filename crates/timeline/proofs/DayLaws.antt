@@ -1,5 +1,6 @@
 -- What is answered of a day, and the reply that it makes.
 -- Assumes nothing.
+use Rattle.std.specs.Prelude.{Result, Ok, Err}
 use Prim.Native.Nat.{ℕ, ◌*◌, ◌/◌, ◌≤◌}
 use mathlib.Core.Path.{◌≡◌, refl, ap}
 use mathlib.Core.List.{List}
@@ -7,7 +8,7 @@ use native.Mathlib.Omega.{arith}
 use lib.ListN.{length}
 use Rattle.lists.proofs.Tabulate.{length_tabulate}
 use Rattle.job.specs.declared.refusal.Refusal.{Refusal}
-use Rattle.job.specs.Refusal.{Verdict}
+use Rattle.job.specs.Refusal.{reply_of, verdict_of, Verdict}
 use Rattle.std.specs.Prelude.{Ok, Err}
 use Rattle.job.specs.Refusal.{pass}
 use Rattle.job.specs.Job.{Job}
@@ -15,22 +16,22 @@ use Rattle.job.specs.Refusal.{reply_by}
 use Rattle.timeline.specs.Step.{Step, steps_in}
 use Rattle.timeline.specs.Timeline.{end, peaks}
 use Rattle.timeline.specs.declared.Day.{Day}
-use Rattle.timeline.specs.Day.{told_of, no_day, day_of, day_reply}
+use Rattle.timeline.specs.Day.{told_of, day_of, told}
 
 -- the verdict of a day is that of the tests that it was made by
-pub verdict_of_day : (v : Verdict) (J : Job) (P : List Step) (day : Day) → day ≡ day_of v J P → day.verdict ≡ v
-verdict_of_day (Ok _) J P day h = ap (λ (d : Day). d.verdict) h
-verdict_of_day (Err why) J P day h = ap (λ (d : Day). d.verdict) h
+pub verdict_of_day : (v : Verdict) (J : Job) (P : List Step) (day : Result Day Refusal) → day ≡ day_of v J P → verdict_of day ≡ v
+verdict_of_day (Ok _) J P day h = ap (λ (d : Result Day Refusal). verdict_of d) h
+verdict_of_day (Err why) J P day h = ap (λ (d : Result Day Refusal). verdict_of d) h
 
 -- an answer that refuses tells of no plan
-pub refused_not_passed : (answer : Day) (why : Refusal) → answer ≡ no_day why → answer.verdict ≡ pass → ⊥
-refused_not_passed answer why told h = let z : ◌≡◌ {A = ℕ} 0 1 = cc in omega arith
+pub refused_not_passed : (answer : Result Day Refusal) (why : Refusal) → answer ≡ Err why → verdict_of answer ≡ pass → ⊥
+refused_not_passed answer why told h = let e = rw told at h in cc
 
 -- where there is no day there are no steps
-pub few_without_day : (why : Refusal) (answer : Day) → answer ≡ no_day why → answer.steps ≤ 32
-few_without_day why answer told = let zero = ap (λ (d : Day). d.steps) told in omega arith
+pub few_without_day : (why : Refusal) (answer : Result Day Refusal) → answer ≡ Err why → (told answer).steps ≤ 32
+few_without_day why answer e = rw e (omega arith)
 
-pub reply_of_day : (v : Verdict) (J : Job) (P : List Step) → day_reply (day_of v J P) ≡ reply_by v (told_of J P)
+pub reply_of_day : (v : Verdict) (J : Job) (P : List Step) → reply_of (day_of v J P) ≡ reply_by v (told_of J P)
 reply_of_day (Ok _) J P = refl
 reply_of_day (Err why) J P = refl
 

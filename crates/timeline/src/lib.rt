@@ -5,9 +5,8 @@ ghost use Rattle.std.specs.Prelude.{◌≡◌, max};
 ghost use Rattle.job.specs.Job.{action_in};
 ghost use Rattle.job.specs.declared.Counts.{Counts};
 ghost use Rattle.timeline.specs.Timeline.{hinders};
-ghost use Rattle.timeline.specs.Day.{no_day};
 
-use job::refusal::{Refusal, Verdict};
+
 use job::{Action, Counts, Job};
 
 // A step of a plan, with its action: it runs from `start` up to, and without, `stop`.
@@ -62,28 +61,13 @@ impl Plan {
     }
 }
 
-// What a call answers that checks a day or hands one out: its end, its number of steps, and for each pool the most that
-// is in use together. Beside a refusal all is zero.
+// What is told of a day that is checked or handed out: its end, its number of steps, and for each pool the most that is
+// in use together.
 #[derive(Clone, Copy)]
 pub struct Day {
-    pub verdict: Verdict,
     pub end: u32,
     pub steps: usize,
     pub peaks: [u32; Job::POOLS],
-}
-
-impl Day {
-    // No day, and why there is none.
-    pub fn refused(why: Refusal) -> Day
-        ensures { result ≡ no_day why }
-    {
-        Day {
-            verdict: Verdict::Refused(why),
-            end: 0,
-            steps: 0,
-            peaks: [0u32; Job::POOLS],
-        }
-    }
 }
 
 // Whether a deletes a fact that b needs or adds.

@@ -1,4 +1,6 @@
 -- `ruhkevois_check` meets its contract: the file is refused, or the checker has answered.
+use Rattle.job.specs.declared.refusal.Refusal.{Refusal}
+use Rattle.std.specs.Prelude.{Result, Ok, Err}
 use mathlib.Core.Path.{◌∙◌}
 use Rattle.job.specs.Job.{Job}
 use Rattle.timeline.specs.declared.Day.{Day}
@@ -18,4 +20,4 @@ returns c =
     let read = c.read-reading.ensures.answers in
     let pass = c.in_default.is in
     let told = c.check-day.ensures.answers in
-    let said : Job → Day = λ J. check_plan J c.args.plan.now in record { value = c.day_told.ensures ∙ number_accepted _ _ read pass said checked_number _ told; peaks_after = peaks_told _ _ read pass said _ _ _ told c.put_peaks.ensures }
+    let said : Job → Result Day Refusal = λ J. check_plan J c.args.plan.now in record { value = c.day_told.ensures ∙ number_accepted _ _ read pass said checked_number _ told; peaks_after = peaks_told _ _ read pass said _ _ _ told c.put_peaks.ensures }

@@ -1,4 +1,6 @@
 -- `ruhkevois_join` meets its contract: the file is refused, or the joined plan is told.
+use Rattle.job.specs.declared.refusal.Refusal.{Refusal}
+use Rattle.std.specs.Prelude.{Result, Ok, Err}
 use Prim.Native.Nat.{ℕ}
 use mathlib.Core.Path.{◌∙◌}
 use mathlib.Core.List.{List}
@@ -30,5 +32,5 @@ returns c =
     let a = c.args.first.now in
     let b = c.args.second.now in
     let slice = c.args.out.now in
-    let said : Job → Day = λ J. join_answer J a b slice in
+    let said : Job → Result Day Refusal = λ J. join_answer J a b slice in
     let left : Job → List ℕ = λ J. left_by_join J a b slice in record { value = c.day_told.ensures ∙ number_accepted _ _ read pass said planned_number _ joins.answers; out_after = bytes_accepted _ _ read pass left _ _ joins.leaves; peaks_after = peaks_told _ _ read pass said _ _ _ joins.answers c.put_peaks.ensures }

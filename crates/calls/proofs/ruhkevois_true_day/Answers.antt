@@ -1,4 +1,6 @@
 -- `ruhkevois_true_day` meets its contract: the file is refused, or the true day is told.
+use Rattle.job.specs.declared.refusal.Refusal.{Refusal}
+use Rattle.std.specs.Prelude.{Result, Ok, Err}
 use mathlib.Core.Path.{◌∙◌}
 use Rattle.job.specs.Job.{Job, job_in}
 use Rattle.timeline.specs.declared.Day.{Day}
@@ -26,4 +28,4 @@ returns c =
     let read = c.read-reading.ensures.answers in
     let pass = c.in_default.is in
     let told = c.true_day-day.ensures.answers in
-    let said : Job → Day = λ J. true_day J c.args.plan.now c.args.lengths.now in record { value = c.day_told.ensures ∙ number_accepted _ _ read pass said planned_number _ told; peaks_after = peaks_told _ _ read pass said _ _ _ told c.put_peaks.ensures }
+    let said : Job → Result Day Refusal = λ J. true_day J c.args.plan.now c.args.lengths.now in record { value = c.day_told.ensures ∙ number_accepted _ _ read pass said planned_number _ told; peaks_after = peaks_told _ _ read pass said _ _ _ told c.put_peaks.ensures }
