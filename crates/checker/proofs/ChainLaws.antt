@@ -6,10 +6,7 @@ use mathlib.Core.List.{List, [], ◌∷◌}
 use Rattle.job.specs.declared.refusal.Refusal.{Refusal}
 use Rattle.std.specs.Prelude.{Ok, Err}
 use Rattle.job.specs.Refusal.{pass}
-use Rattle.job.specs.Refusal.{Row, ◌when◌, first}
-use Rattle.checker.specs.declared.clock.Clock.{Clock}
-use Rattle.std.specs.Prelude.{Ok, Err}
-use Rattle.checker.specs.Watch.{watched_of}
+use Rattle.job.specs.Refusal.{Verdict, Row, ◌when◌, first, answer_by}
 
 pub check_passes : (why : Refusal) (test : Bool) (rows : List Row) → first (why when test ∷ []) ≡ pass
     → first (why when test ∷ rows) ≡ first rows
@@ -18,9 +15,9 @@ check_passes why true rows h = cc
 check_passes why false rows h = refl
 
 pub check_fails : (why : Refusal) (test : Bool) (rows : List Row) (w : Refusal) → first (why when test ∷ []) ≡ Err w
-    → first (why when test ∷ rows) ≡ Err why
+    → first (why when test ∷ rows) ≡ Err w
 unfolding first
-check_fails why true rows w h = refl
+check_fails why true rows w h = h
 check_fails why false rows w h = cc
 
 pub passed_test : (why : Refusal) (test : Bool) → first (why when test ∷ []) ≡ pass → test ≡ false
@@ -28,10 +25,15 @@ unfolding first
 passed_test why true h = cc
 passed_test why false h = refl
 
-pub watched_missing : (test : Bool) (clock : Clock) → watched_of test clock ≡ NeedMissing → test ≡ true
-watched_missing true clock h = refl
-watched_missing false clock h = cc
+-- what an answer says of the tests that it was made by
+pub refused_by : {A : Type 0} (v : Verdict) (value : A) (why : Refusal) → answer_by v value ≡ Err why → v ≡ Err why
+refused_by (Ok _) value why h = cc
+refused_by (Err w) value why h = cc
 
-pub watched_done : (test : Bool) (clock k : Clock) → watched_of test clock ≡ Done k → (test ≡ false) × (clock ≡ k)
-watched_done true clock k h = (cc, cc)
-watched_done false clock k h = (refl, cc)
+pub passed_by : {A : Type 0} (v : Verdict) (value told : A) → answer_by v value ≡ Ok told → v ≡ pass
+passed_by (Ok _) value told h = refl
+passed_by (Err w) value told h = cc
+
+pub value_by : {A : Type 0} (v : Verdict) (value told : A) → answer_by v value ≡ Ok told → value ≡ told
+value_by (Ok _) value told h = cc
+value_by (Err w) value told h = cc

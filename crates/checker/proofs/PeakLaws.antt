@@ -30,13 +30,8 @@ use Rattle.timeline.proofs.Peaks.{peak_at_most}
 use Rattle.timeline.proofs.Places.{each_here, each_rest, none_of_any}
 use Rattle.timeline.proofs.Shares.{use_at, use_at_most}
 use Rattle.timeline.proofs.Tests.{le_or_lt}
-use Rattle.checker.specs.declared.Checked.{Checked}
 use Rattle.std.specs.Prelude.{Ok, Err}
-use Rattle.checker.specs.Check.{checked_of, SmallPeaks}
-
-passed_when_ends : (v : Verdict) (P : List Step) (e : ℕ) → checked_of v P ≡ Ok e → v ≡ pass
-passed_when_ends (Ok _) P e h = refl
-passed_when_ends (Err why) P e h = cc
+use Rattle.checker.specs.Check.{SmallPeaks}
 
 pub small_peaks_of_pass : (job : held.Job) (plan : Plan) (goal : ℕ) → Passed (job_in job)
     → first (step_rows (job_in job) goal (steps_of plan)) ≡ pass → SmallPeaks job plan
@@ -47,13 +42,6 @@ small_peaks_of_pass job plan goal within pass pool inside =
     let available = each_at (λ x. x ≤ 1000000) J.pools 0 within.pools pool (omega arith) in
     let most = peak_at_most J pool (steps_of plan) (get_or J.pools pool 0) (λ t. keeps.pools pool t (omega arith)) in
     omega arith
-
-pub small_peaks : (job : held.Job) (plan : Plan) (goal : ℕ) → Passed (job_in job) → (c : Checked)
-    → c ≡ checked_of (first (step_rows (job_in job) goal (steps_of plan))) (steps_of plan) → (e : ℕ) → c ≡ Ok e
-    → SmallPeaks job plan
-small_peaks job plan goal within c checked e ends =
-    small_peaks_of_pass job plan goal within
-    (passed_when_ends (first (step_rows (job_in job) goal (steps_of plan))) (steps_of plan) e (sym checked ∙ ends))
 
 -- ---- steps that may exceed a pool: at most 32 of them, each with a use of at most 1,000,000
 total_at_most : (f : Step → ℕ) (P : List Step) → EachStep (λ x. f x ≤ 1000000) P → total f P ≤ 1000000 * length P

@@ -19,7 +19,6 @@ use Rattle.timeline.specs.Timeline.{end, peak}
 use Rattle.timeline.specs.Accepted.{shape_rows, plan_rows}
 use Rattle.timeline.specs.Day.{told_of, day_of}
 use Rattle.timeline.specs.Value.{steps_of}
-use Rattle.checker.specs.declared.Checked.{Checked}
 use Rattle.std.specs.Prelude.{Ok, Err}
 use Rattle.checker.specs.declared.CheckedPlan.{CheckedPlan}
 
@@ -62,16 +61,6 @@ Valid job = first (job_rows (job_in job)) ≡ pass
 abbrev pub Limited : held.Job → Type 0
 Limited job = first (limit_rows (job_in job)) ≡ pass
 
--- tests 13 to 20 of a plan by value
-abbrev pub checked_of : Verdict → List Step → Checked
-checked_of (Ok _) P = Ok (end P)
-checked_of (Err why) P = Err why
-
--- the day of a plan with so many steps and these peaks
-abbrev pub day_by : Checked → ℕ → List ℕ → Result Day Refusal
-day_by (Ok e) steps peaks = Ok (record { end = e; steps = steps; peaks = peaks })
-day_by (Err why) steps peaks = Err why
-
 -- no peak of the plan is more than 32 steps can use together
 abbrev pub SmallPeaks : held.Job → Plan → Type 0
 SmallPeaks job plan =
@@ -83,7 +72,12 @@ pub record Decodes (job : held.Job) (bytes : List ℕ) (plan : Plan) : Type 0 wh
   pub counts : plan.counts ≡ job.counts
   pub steps : steps_of plan ≡ steps_in (job_in job) bytes
 
+-- what is told of a plan by value that is checked
+abbrev pub day_in : Result CheckedPlan Refusal → Result Day Refusal
+day_in (Ok checked) = Ok checked.day
+day_in (Err why) = Err why
+
 -- tests 12 to 20 of the bytes; the plan of those that pass
-pub record ChecksPlan (job : held.Job) (goal : ℕ) (bytes : List ℕ) (r : CheckedPlan) : Type 0 where
-  pub day : r.day ≡ day_of (first (plan_rows (job_in job) goal bytes)) (job_in job) (steps_in (job_in job) bytes)
-  pub plan : verdict_of r.day ≡ pass → Decodes job bytes r.plan
+pub record ChecksPlan (job : held.Job) (goal : ℕ) (bytes : List ℕ) (r : Result CheckedPlan Refusal) : Type 0 where
+  pub day : day_in r ≡ day_of (first (plan_rows (job_in job) goal bytes)) (job_in job) (steps_in (job_in job) bytes)
+  pub plan : (checked : CheckedPlan) → r ≡ Ok checked → Decodes job bytes checked.plan

@@ -10,21 +10,21 @@ ghost use Rattle.timeline.specs.Value.{step_of_value, steps_of};
 
 use encoding::read_number;
 use job::Job;
-use job::refusal::{Refusal, Verdict};
+use job::refusal::Refusal;
 use timeline::{Plan, Step};
 
 // Test 12: whole steps, and at most 32 of them.
-pub fn size(bytes: &[u8]) -> Verdict
+pub fn size(bytes: &[u8]) -> Result<(), Refusal>
     ensures { result ≡ first (PlanSize when wrong_size bytes.now ∷ []) }
 {
     if (bytes.len() % Plan::STEP != 0) | (Plan::BYTES < bytes.len()) {
-        return Verdict::Refused(Refusal::PlanSize);
+        return Err(Refusal::PlanSize);
     }
-    Verdict::Pass
+    Ok(())
 }
 
 // Test 13: every action is one of the job's.
-pub fn known_actions(job: Job, bytes: &[u8]) -> Verdict
+pub fn known_actions(job: Job, bytes: &[u8]) -> Result<(), Refusal>
     ensures { result ≡
         first (UnknownAction when any (unknown (job_in job)) (steps_in (job_in job) bytes.now) ∷ []) }
 {
@@ -32,11 +32,11 @@ pub fn known_actions(job: Job, bytes: &[u8]) -> Verdict
     let mut i = 0;
     while i < bytes.len() / Plan::STEP {
         if counts.actions <= bytes[i * Plan::STEP] as usize {
-            return Verdict::Refused(Refusal::UnknownAction);
+            return Err(Refusal::UnknownAction);
         }
         i += 1;
     }
-    Verdict::Pass
+    Ok(())
 }
 
 // One step: action `number` from minute `start` on.

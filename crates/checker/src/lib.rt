@@ -11,181 +11,127 @@ mod watch; // the clock over a whole plan
 ghost use Rattle.std.specs.Prelude.{◌≡◌, false, ℕ, ◌≤◌, ◌<◌};
 ghost use Rattle.lists.specs.Lists.{any, Each};
 ghost use Rattle.job.specs.Job.{job_in, Fits};
-ghost use Rattle.job.specs.Refusal.{first};
-ghost use Rattle.job.specs.declared.refusal.Verdict.TheVariants as verdict;
-ghost use Rattle.timeline.specs.Accepted.{unknown, order_rows, step_rows};
-ghost use Rattle.timeline.specs.Timeline.{peaks};
-ghost use Rattle.timeline.specs.Day.{no_day};
+ghost use Rattle.job.specs.Refusal.{first, answer_by};
+ghost use Rattle.timeline.specs.Accepted.{unknown, order_rows, rule_rows, step_rows};
+ghost use Rattle.timeline.specs.Timeline.{end, held};
+ghost use Rattle.timeline.specs.Day.{told_of};
 ghost use Rattle.timeline.specs.Value.{steps_of};
-ghost use Rattle.checker.specs.declared.Checked.TheVariants as answer;
-ghost use Rattle.checker.specs.Check.{Checks, check_for, check_within, shape_day, Valid, Limited, checked_of, day_by};
+ghost use Rattle.checker.specs.Check.{Checks, check_for, check_within, shape_day, Valid, Limited};
 ghost use Rattle.checker.specs.Check.{SmallPeaks, ChecksPlan};
+ghost use Rattle.checker.specs.Watch.{clock_at_end};
 
+use clock::Clock;
 use job::Job;
-use job::refusal::{Refusal, Verdict};
+use job::refusal::Refusal;
 use job::validate::{validate, validate_limits};
 use timeline::{Day, Plan};
-use watch::Watched;
 
-// What tests 14 to 20 say of a plan: its end, or why it is refused.
-#[derive(Clone, Copy)]
-pub enum Checked {
-    Ends(u32),
-    Refused(Refusal),
-}
-
-// What is answered of a plan's bytes, and the plan by value for a call that goes on with it. A refused one is empty.
+// What is told of a plan's bytes, and the plan by value for a call that goes on with it.
 #[derive(Clone, Copy)]
 pub struct CheckedPlan {
     pub day: Day,
     pub plan: Plan,
 }
 
-// Tests 14 to 20, of the steps of a plan whose actions are known.
-fn check_steps(plan: Plan, job: Job, goal: u64) -> Checked
+// Tests 14 and 15, of the steps of a plan whose actions are known: its end.
+fn check_order(plan: Plan, job: Job) -> Result<u32, Refusal>
+    requires { (plan.length ≤ 32) × (any (unknown (job_in job)) (steps_of plan) ≡ false) }
+    ensures { result ≡ answer_by (first (order_rows (job_in job) (steps_of plan))) (end (steps_of plan)) }
+{
+    rules::order(plan)?;
+    rules::deadline(plan, job.deadline)?;
+    Ok(rules::end(plan))
+}
+
+// Tests 16 to 19, of a plan that ends at the minute: the clock then.
+fn check_rules(plan: Plan, job: Job, last: u32) -> Result<Clock, Refusal>
+    requires length_bound { (plan.length ≤ 32) × (plan.counts ≡ job.counts) × Fits job.counts }
+    requires plan_value { (last ≡ end (steps_of plan)) × Each (λ x. x.start < x.stop) (steps_of plan) }
+    ensures { result ≡ answer_by (first (rule_rows (job_in job) (steps_of plan))) (clock_at_end job.start plan) }
+{
+    rules::clashes(plan)?;
+    pools::within(plan, job)?;
+    rules::stores(plan, job)?;
+    watch::watch(plan, job.start, last)
+}
+
+// Tests 14 to 20, of the steps of a plan whose actions are known: its end.
+fn check_steps(plan: Plan, job: Job, goal: u64) -> Result<u32, Refusal>
     requires length_bound { (plan.length ≤ 32) × (plan.counts ≡ job.counts) × Fits job.counts }
     requires plan_value { (any (unknown (job_in job)) (steps_of plan) ≡ false) × Each (λ x. x.start < x.stop) (steps_of plan) }
-    ensures { result ≡ checked_of (first (step_rows (job_in job) goal (steps_of plan))) (steps_of plan) }
+    ensures { result ≡ answer_by (first (step_rows (job_in job) goal (steps_of plan))) (end (steps_of plan)) }
 {
-    let Verdict::Pass = rules::order(plan) else {
-        return Checked::Refused(Refusal::StepOrder);
-    };
-    let Verdict::Pass = rules::deadline(plan, job.deadline) else {
-        return Checked::Refused(Refusal::AfterDeadline);
-    };
-    let Verdict::Pass = rules::clashes(plan) else {
-        return Checked::Refused(Refusal::Clash);
-    };
-    let Verdict::Pass = pools::within(plan, job) else {
-        return Checked::Refused(Refusal::PoolExceeded);
-    };
-    let Verdict::Pass = rules::stores(plan, job) else {
-        return Checked::Refused(Refusal::StoreExceeded);
-    };
-    let last = rules::end(plan);
-    let Watched::Done(clock) = watch::watch(plan, job.start, last) else {
-        return Checked::Refused(Refusal::NeedMissing);
-    };
-    let Verdict::Pass = watch::goal(goal, clock) else {
-        return Checked::Refused(Refusal::GoalMissing);
-    };
-    Checked::Ends(last)
+    let last = check_order(plan, job)?;
+    let clock = check_rules(plan, job, last)?;
+    watch::goal(goal, clock)?;
+    Ok(last)
 }
 
-// No plan, and why there is none.
-fn refused_plan(job: Job, why: Refusal) -> CheckedPlan
-    ensures { result.day ≡ no_day why }
+// What is told of a plan that ends at the minute.
+fn told(plan: Plan, job: Job, last: u32) -> Day
+    requires { (plan.length ≤ 32) × (plan.counts ≡ job.counts) × Fits job.counts × SmallPeaks job plan
+        × (last ≡ end (steps_of plan)) }
+    ensures { result ≡ told_of (job_in job) (steps_of plan) }
 {
-    let counts = job.counts;
-    CheckedPlan {
-        day: Day::refused(why),
-        plan: Plan::none(counts),
+    Day {
+        end: last,
+        steps: plan.length,
+        peaks: pools::peaks(plan, job),
     }
-}
-
-// The plan with its day, by what tests 14 to 20 say.
-fn with_day(job: Job, plan: Plan, checked: Checked) -> CheckedPlan
-    requires { (plan.length ≤ 32) × (plan.counts ≡ job.counts) × Fits job.counts
-        × ((e : ℕ) → checked ≡ answer.Ends e → SmallPeaks job plan) }
-    ensures { (result.day ≡ day_by checked plan.length (peaks (job_in job) (steps_of plan)))
-        × (result.day.verdict ≡ verdict.Pass → result.plan ≡ plan) }
-{
-    match checked {
-        Checked::Refused(why) => refused_plan(job, why),
-        Checked::Ends(end) => CheckedPlan {
-            day: Day {
-                verdict: Verdict::Pass,
-                end,
-                steps: plan.length,
-                peaks: pools::peaks(plan, job),
-            },
-            plan,
-        },
-    }
-}
-
-// Tests 14 and 15, of the steps of a plan whose actions are known.
-fn check_order(plan: Plan, job: Job) -> Checked
-    requires { (plan.length ≤ 32) × (any (unknown (job_in job)) (steps_of plan) ≡ false) }
-    ensures { result ≡ checked_of (first (order_rows (job_in job) (steps_of plan))) (steps_of plan) }
-{
-    let Verdict::Pass = rules::order(plan) else {
-        return Checked::Refused(Refusal::StepOrder);
-    };
-    let Verdict::Pass = rules::deadline(plan, job.deadline) else {
-        return Checked::Refused(Refusal::AfterDeadline);
-    };
-    let last = rules::end(plan);
-    Checked::Ends(last)
 }
 
 // Tests 12 to 15, of a job that passes its own tests: what is told of a plan that may break 16 to 20.
-pub fn check_shape(job: Job, bytes: &[u8]) -> Day
+pub fn check_shape(job: Job, bytes: &[u8]) -> Result<Day, Refusal>
     requires { Valid job }
     ensures { result ≡ shape_day (job_in job) bytes.now }
 {
-    let Verdict::Pass = decode::size(bytes) else {
-        return Day::refused(Refusal::PlanSize);
-    };
-    let Verdict::Pass = decode::known_actions(job, bytes) else {
-        return Day::refused(Refusal::UnknownAction);
-    };
+    decode::size(bytes)?;
+    decode::known_actions(job, bytes)?;
     let plan = decode::plan(job, bytes);
-    let checked = with_day(job, plan, check_order(plan, job));
-    checked.day
+    let last = check_order(plan, job)?;
+    Ok(told(plan, job, last))
 }
 
 // Tests 12 to 20 with a goal, of a job within its limits.
-pub fn checked_plan(job: Job, goal: u64, bytes: &[u8]) -> CheckedPlan
+pub fn checked_plan(job: Job, goal: u64, bytes: &[u8]) -> Result<CheckedPlan, Refusal>
     requires { Limited job }
     ensures { ChecksPlan job goal bytes.now result }
 {
-    let Verdict::Pass = decode::size(bytes) else {
-        return refused_plan(job, Refusal::PlanSize);
-    };
-    let Verdict::Pass = decode::known_actions(job, bytes) else {
-        return refused_plan(job, Refusal::UnknownAction);
-    };
+    decode::size(bytes)?;
+    decode::known_actions(job, bytes)?;
     let plan = decode::plan(job, bytes);
-    with_day(job, plan, check_steps(plan, job, goal))
+    let last = check_steps(plan, job, goal)?;
+    let day = told(plan, job, last);
+    Ok(CheckedPlan { day, plan })
 }
 
 // Whether the plan is accepted for the job's goal: its end, number of steps and peaks, or the first refusal of the
 // job and of 12 to 20.
-pub fn check(job: Job, plan: &[u8]) -> Day
+pub fn check(job: Job, plan: &[u8]) -> Result<Day, Refusal>
     ensures { Checks (job_in job) plan.now result }
 {
-    let verdict = validate(job);
-    if let Verdict::Refused(why) = verdict {
-        return Day::refused(why);
-    }
-    let checked = checked_plan(job, job.goal, plan);
-    checked.day
+    validate(job)?;
+    let checked = checked_plan(job, job.goal, plan)?;
+    Ok(checked.day)
 }
 
 // Whether the plan is accepted for another goal by what may be left of a day: the job's limits, 24 for a foreign fact,
 // then 12 to 20. Test 26 looks only at a job as it is handed in.
-pub fn check_within(job: Job, goal: u64, plan: &[u8]) -> Day
+pub fn check_within(job: Job, goal: u64, plan: &[u8]) -> Result<Day, Refusal>
     ensures { result ≡ check_within (job_in job) goal plan.now }
 {
-    let verdict = validate_limits(job);
-    if let Verdict::Refused(why) = verdict {
-        return Day::refused(why);
-    }
+    validate_limits(job)?;
     if facts::foreign(job.facts, goal) {
-        return Day::refused(Refusal::ForeignAskedFact);
+        return Err(Refusal::ForeignAskedFact);
     }
-    let checked = checked_plan(job, goal, plan);
-    checked.day
+    let checked = checked_plan(job, goal, plan)?;
+    Ok(checked.day)
 }
 
 // Whether the plan is accepted for another goal: all tests of the job, then as above.
-pub fn check_for(job: Job, goal: u64, plan: &[u8]) -> Day
+pub fn check_for(job: Job, goal: u64, plan: &[u8]) -> Result<Day, Refusal>
     ensures { result ≡ check_for (job_in job) goal plan.now }
 {
-    let verdict = validate(job);
-    if let Verdict::Refused(why) = verdict {
-        return Day::refused(why);
-    }
+    validate(job)?;
     check_within(job, goal, plan)
 }

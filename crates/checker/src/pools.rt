@@ -11,7 +11,7 @@ ghost use Rattle.checker.specs.Check.{SmallPeaks};
 ghost use Rattle.checker.specs.Leaf.{Share, InUse, PeakOf};
 
 use job::Job;
-use job::refusal::{Refusal, Verdict};
+use job::refusal::Refusal;
 use timeline::{Plan, Step};
 
 // Whether a share is free again in the minute: the handover long after its step.
@@ -77,7 +77,7 @@ fn peak(plan: Plan, pool: usize, handover: u8) -> u64
 }
 
 // Test 17: in each minute the steps use no more of each pool than there is.
-pub fn within(plan: Plan, job: Job) -> Verdict
+pub fn within(plan: Plan, job: Job) -> Result<(), Refusal>
     requires { (plan.length ≤ 32) × (plan.counts ≡ job.counts) × Fits job.counts }
     ensures { result ≡ first
         (PoolExceeded when any_below (length (job_in job).pools) (exceeds_pool (job_in job) (steps_of plan)) ∷ []) }
@@ -87,11 +87,11 @@ pub fn within(plan: Plan, job: Job) -> Verdict
     let mut k = 0;
     while k < counts.pools {
         if job::wide(job.pools[k]) < peak(plan, k, handovers[k]) {
-            return Verdict::Refused(Refusal::PoolExceeded);
+            return Err(Refusal::PoolExceeded);
         }
         k += 1;
     }
-    Verdict::Pass
+    Ok(())
 }
 
 // The peak of each pool, 0 for a pool that the job lacks.

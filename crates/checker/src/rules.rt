@@ -12,7 +12,7 @@ ghost use Rattle.timeline.specs.Timeline.{end, used_up};
 ghost use Rattle.timeline.specs.Accepted.{clashing, exceeds_store};
 ghost use Rattle.timeline.specs.Value.{step_of_value, step_at, steps_of};
 
-use job::refusal::{Refusal, Verdict};
+use job::refusal::Refusal;
 use job::{Counts, Job};
 use timeline::{Plan, Step};
 
@@ -24,7 +24,7 @@ fn precedes(x: Step, y: Step) -> bool
 }
 
 // Test 14: the steps stand in strictly rising order.
-pub fn order(plan: Plan) -> Verdict
+pub fn order(plan: Plan) -> Result<(), Refusal>
     requires { plan.length ≤ 32 }
     ensures { result ≡ first (StepOrder when not (strictly_rising (steps_of plan)) ∷ []) }
 {
@@ -33,15 +33,15 @@ pub fn order(plan: Plan) -> Verdict
         let last = plan.steps[i - 1];
         let step = plan.steps[i];
         if !precedes(last, step) {
-            return Verdict::Refused(Refusal::StepOrder);
+            return Err(Refusal::StepOrder);
         }
         i += 1;
     }
-    Verdict::Pass
+    Ok(())
 }
 
 // Test 15: every step stops by the deadline.
-pub fn deadline(plan: Plan, limit: u16) -> Verdict
+pub fn deadline(plan: Plan, limit: u16) -> Result<(), Refusal>
     requires { plan.length ≤ 32 }
     ensures { result ≡ first (AfterDeadline when any (λ x. over limit x.stop) (steps_of plan) ∷ []) }
 {
@@ -49,11 +49,11 @@ pub fn deadline(plan: Plan, limit: u16) -> Verdict
     while i < plan.length {
         let step = plan.steps[i];
         if (limit as u32) < step.stop {
-            return Verdict::Refused(Refusal::AfterDeadline);
+            return Err(Refusal::AfterDeadline);
         }
         i += 1;
     }
-    Verdict::Pass
+    Ok(())
 }
 
 // Whether two steps share a minute and clash.
@@ -84,18 +84,18 @@ fn clashes_earlier(plan: Plan, i: usize) -> bool
 }
 
 // Test 16: steps that share a minute don't clash.
-pub fn clashes(plan: Plan) -> Verdict
+pub fn clashes(plan: Plan) -> Result<(), Refusal>
     requires { plan.length ≤ 32 }
     ensures { result ≡ first (Clash when any_pair clashing (steps_of plan) ∷ []) }
 {
     let mut i = 0;
     while i < plan.length {
         if clashes_earlier(plan, i) {
-            return Verdict::Refused(Refusal::Clash);
+            return Err(Refusal::Clash);
         }
         i += 1;
     }
-    Verdict::Pass
+    Ok(())
 }
 
 // How much of the store all steps use up.
@@ -116,7 +116,7 @@ pub fn used_up(plan: Plan, job: Job, store: usize) -> u64
 }
 
 // Test 18: over the plan the steps use up no more of each store than is allowed.
-pub fn stores(plan: Plan, job: Job) -> Verdict
+pub fn stores(plan: Plan, job: Job) -> Result<(), Refusal>
     requires { (plan.length ≤ 32) × (plan.counts ≡ job.counts) × Fits job.counts }
     ensures { result ≡ first
         (StoreExceeded when any_below (length (job_in job).stores) (exceeds_store (job_in job) (steps_of plan)) ∷ []) }
@@ -126,11 +126,11 @@ pub fn stores(plan: Plan, job: Job) -> Verdict
     let mut k = 0;
     while k < counts.stores {
         if job::wide(limits[k]) < used_up(plan, job, k) {
-            return Verdict::Refused(Refusal::StoreExceeded);
+            return Err(Refusal::StoreExceeded);
         }
         k += 1;
     }
-    Verdict::Pass
+    Ok(())
 }
 
 // The plan's end: the latest stop, 0 for no steps.

@@ -9,15 +9,8 @@ ghost use Rattle.timeline.specs.Value.{steps_of};
 ghost use Rattle.checker.specs.Watch.{lacks_at, Watches};
 
 use crate::clock::Clock;
-use job::refusal::{Refusal, Verdict};
+use job::refusal::Refusal;
 use timeline::Plan;
-
-// How the clock's run ends: at a need that is missing, or at the plan's end.
-#[derive(Clone, Copy)]
-pub enum Watched {
-    NeedMissing,
-    Done(Clock),
-}
 
 // Whether a step that starts at the clock's minute lacks a needed fact.
 fn lacks_need(plan: Plan, clock: Clock) -> bool
@@ -37,26 +30,26 @@ fn lacks_need(plan: Plan, clock: Clock) -> bool
 }
 
 // Test 19, minute by minute: the needs of every step hold at its start. Where they do, the clock at the plan's end.
-pub fn watch(plan: Plan, start: u64, last: u32) -> Watched
+pub fn watch(plan: Plan, start: u64, last: u32) -> Result<Clock, Refusal>
     requires { (plan.length ≤ 32) × (last ≡ end (steps_of plan)) × Each (λ x. x.start < x.stop) (steps_of plan) }
     ensures { Watches start plan result }
 {
     let mut clock = Clock::new(start);
     while clock.minute < last {
         if lacks_need(plan, clock) {
-            return Watched::NeedMissing;
+            return Err(Refusal::NeedMissing);
         }
         clock = clock.tick(plan);
     }
-    Watched::Done(clock)
+    Ok(clock)
 }
 
 // Test 20: the goal holds at the clock's minute.
-pub fn goal(goal: u64, clock: Clock) -> Verdict
+pub fn goal(goal: u64, clock: Clock) -> Result<(), Refusal>
     ensures { result ≡ first (GoalMissing when not (subset goal clock.facts) ∷ []) }
 {
     if !facts::subset(goal, clock.facts) {
-        return Verdict::Refused(Refusal::GoalMissing);
+        return Err(Refusal::GoalMissing);
     }
-    Verdict::Pass
+    Ok(())
 }

@@ -60,6 +60,11 @@ first [] = pass
 first (why when true ∷ rows) = Err why
 first (why when false ∷ rows) = first rows
 
+-- "Of the refusals that hold, the one standing first in the table is returned, alone", or else what the call returns
+abbrev pub answer_by : {A : Type 0} → Verdict → A → Result A Refusal
+answer_by (Ok _) value = Ok value
+answer_by (Err why) value = Err why
+
 -- what an answer says of the tests: that it passes, or its refusal
 abbrev pub verdict_of : {A : Type 0} → Result A Refusal → Verdict
 verdict_of (Ok value) = pass

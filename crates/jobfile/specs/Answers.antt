@@ -4,7 +4,7 @@ use Rattle.std.specs.Prelude.{ℕ, ◌≡◌, List, [], ◌∷◌, ◌++◌, ltb
 use Rattle.encoding.specs.Bytes.{overwrite}
 use Rattle.job.specs.declared.Job as held
 use Rattle.job.specs.Job.{Job, job_value}
-use Rattle.job.specs.Refusal.{Row, ◌when◌, Verdict, first, reply_of, reply_by}
+use Rattle.job.specs.Refusal.{Row, ◌when◌, Verdict, answer_by, first, reply_of, reply_by}
 use Rattle.job.specs.Valid.{job_rows}
 use Rattle.job.specs.declared.refusal.Refusal.{Refusal}
 use Rattle.job.specs.declared.refusal.Refusal.TheVariants.{FileSlice}
@@ -22,8 +22,7 @@ Reading = Result held.Job Refusal
 
 -- "the reader returns the job"; "a job standing beside a refusal is all zero": beside one none stands
 abbrev pub reading_of : Verdict → Job → Reading
-reading_of (Ok _) J = Ok (job_value J)
-reading_of (Err why) J = Err why
+reading_of v J = answer_by v (job_value J)
 
 unfoldable pub read_file : List ℕ → Reading
 read_file file = reading_of (first (read_rows file)) (decoded file)
@@ -45,8 +44,7 @@ Written = Result ℕ Refusal
 
 -- "the writer returns the file's length"
 abbrev pub written_of : Verdict → Job → Written
-written_of (Ok _) J = Ok (length (file_of J))
-written_of (Err why) J = Err why
+written_of v J = answer_by v (length (file_of J))
 
 unfoldable pub write_file : Job → List ℕ → Written
 write_file J slice = written_of (first (write_rows J slice)) J

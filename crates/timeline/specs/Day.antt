@@ -3,7 +3,7 @@
 use Rattle.std.specs.Prelude.{List, length, replicate, Result, Ok, Err}
 use Rattle.job.specs.Job.{Job}
 use Rattle.job.specs.declared.refusal.Refusal.{Refusal}
-use Rattle.job.specs.Refusal.{Verdict}
+use Rattle.job.specs.Refusal.{Verdict, answer_by}
 use Rattle.timeline.specs.declared.Day.{Day}
 use Rattle.timeline.specs.Step.{Step}
 use Rattle.timeline.specs.Timeline.{end, peaks}
@@ -14,8 +14,7 @@ told_of J P = record { end = end P; steps = length P; peaks = peaks J P }
 
 -- the refusal, or what is told of the plan
 abbrev pub day_of : Verdict → Job → List Step → Result Day Refusal
-day_of (Ok _) J P = Ok (told_of J P)
-day_of (Err why) J P = Err why
+day_of v J P = answer_by v (told_of J P)
 
 -- what an answer tells: "a job or number standing beside" a refusal "is all zero"
 abbrev pub told : Result Day Refusal → Day

@@ -10,7 +10,10 @@ use Rattle.timeline.specs.Timeline.{held, next}
 use Rattle.timeline.specs.Accepted.{lacks_need}
 use Rattle.timeline.specs.Value.{steps_of}
 use Rattle.checker.specs.declared.clock.Clock.{Clock}
-use Rattle.std.specs.Prelude.{Ok, Err}
+use mathlib.Core.List.{[]}
+use Rattle.std.specs.Prelude.{Ok}
+use Rattle.job.specs.declared.refusal.Refusal.TheVariants.{NeedMissing}
+use Rattle.job.proofs.Table.{first_here, first_next, first_none}
 use Rattle.checker.proofs.WatchLaws.{lacks, watching_none, watching_missing, watching_next}
 use Rattle.checker.proofs.WatchLaws.{watching_end, watching_clock, held_tick}
 use native.Mathlib.Omega.{arith}
@@ -34,8 +37,8 @@ pub returns-then-lacks_need : goal.returns-then-lacks_need
 returns-then-lacks_need c =
     let P = c.args.plan in
     let found = sym c.lacks_need.ensures ∙ c.if-lacks_need.true in
-    λ J e. rw (missing c.args.start P J e ∙ watching_missing c.args.start P c.loop-clock.clock
-    c.loop-clock.invariant.1 found)
+    λ J e. rw (first_here NeedMissing _ [] (missing c.args.start P J e ∙ watching_missing c.args.start P c.loop-clock.clock
+    c.loop-clock.invariant.1 found))
 
 pub tick-clock-requires : goal.tick-clock-requires
 tick-clock-requires c =
@@ -68,4 +71,4 @@ returns c =
     let t = c.loop-clock-test.false in
     let none = watching_end c.args.start P k w (omega arith) c.requires.2 in
     let clock = watching_clock c.args.start P k w (omega arith) in
-    λ J e. rw (missing c.args.start P J e ∙ none) (ap Done clock)
+    λ J e. rw (first_next NeedMissing _ [] (missing c.args.start P J e ∙ none) ∙ first_none) (ap Ok clock)
