@@ -14,7 +14,7 @@ use Rattle.price.specs.declared.Rates.{Rates}
 use Rattle.price.specs.Price.{price_plan}
 use Rattle.true_day.specs.TrueDay.{true_day}
 use Rattle.joining.specs.Answer.{join_answer, left_by_join}
-use Rattle.earliest.specs.declared.EarliestTime.{EarliestTime}
+use Rattle.earliest.specs.Answer.{EarliestTime}
 use Rattle.earliest.specs.Answer.{Answers}
 use Rattle.timeline.specs.declared.Day.{Day}
 use Rattle.planner.specs.Plan.{Plans}

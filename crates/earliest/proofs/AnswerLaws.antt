@@ -21,14 +21,14 @@ use Rattle.times.specs.Earliest.{time_of}
 use Rattle.times.specs.Numbers.{table_in}
 use Rattle.times.proofs.Monotone.{durations_of_passed}
 use Rattle.times.proofs.Unique.{one_solution_of_sets}
-use Rattle.earliest.specs.declared.EarliestTime.{EarliestTime}
-use Rattle.earliest.specs.declared.EarliestTime.TheVariants as answer
+use Rattle.earliest.specs.Answer.{EarliestTime}
+use Rattle.std.specs.Prelude.{Option, Some, None, Ok, Err}
 use Rattle.earliest.specs.Answer.{earliest_rows, answer_of, time_reply, AnswersBy, Answers}
 use Rattle.earliest.specs.Numbers.{set_number, SameTime}
 use Rattle.earliest.specs.Sweep.{Filled}
 use Rattle.earliest.proofs.SetTimes.{time_of_set, same_time}
 
-reply_of_time : (t : Time) → time_reply (answer_of t) ≡ returned t
+reply_of_time : (t : Time) → time_reply (Ok (answer_of t)) ≡ returned t
 reply_of_time (at x) = refl
 reply_of_time unreachable = refl
 
@@ -53,18 +53,18 @@ module _ (J : Job) (set : ℕ) where
 
   pub answers_time : first (job_rows J) ≡ pass → foreign J.facts set ≡ false → (xs : List ℕ) → Filled J xs
       → (n : ℕ) → SameTime n (set_number xs set J.facts) → (r : EarliestTime)
-      → r ≡ answer_of (cond (ltb 530400 n) unreachable (at n)) → Answers J set r
+      → r ≡ Ok (answer_of (cond (ltb 530400 n) unreachable (at n))) → Answers J set r
   answers_time e f xs filled n g r h =
       let time : time_of J (table_in xs) set ≡ cond (ltb 530400 n) unreachable (at n) =
       time_of_set J xs filled.able set ∙ sym (same_time n (set_number xs set J.facts) g) in
       let positive = durations_of_passed J (passed J e) in
-      let pass = first_append_pass (job_rows J) last e
+      let passes = first_append_pass (job_rows J) last e
       ∙ first_next ForeignAskedFact (foreign J.facts set) [] f
       ∙ first_none in
-      answers_by pass pass r (
+      answers_by pass passes r (
         (table_in xs, filled.solves),
         λ T solves.
-            let told : r ≡ answer_of (time_of J T set) =
-            h ∙ ap answer_of (sym time ∙ one_solution_of_sets J positive (table_in xs) T filled.solves solves set) in
+            let told : r ≡ Ok (answer_of (time_of J T set)) =
+            h ∙ ap (λ (t : Time). Ok (answer_of t)) (sym time ∙ one_solution_of_sets J positive (table_in xs) T filled.solves solves set) in
             (told, rw told (reply_of_time (time_of J T set))),
       )

@@ -16,40 +16,29 @@ ghost use Rattle.earliest.specs.Answer.{answer_of, Answers};
 
 use crate::extra::Extra;
 use job::Job;
-use job::refusal::{Refusal, Verdict};
+use job::refusal::Refusal;
 use job::validate::validate;
 use pairs::Pair;
 
-// An earliest time, or why there is none to tell.
-#[derive(Clone, Copy)]
-pub enum EarliestTime {
-    At(u32),
-    Unreachable,
-    Refused(Refusal),
-}
-
-// The time that a number of a table stands for.
-fn answer(time: u32) -> EarliestTime
+// The time that a number of a table stands for, or none where that is unreachable.
+fn answer(time: u32) -> Option<u32>
     ensures { result ≡ answer_of (cond (ltb 530400 time) unreachable (at time)) }
 {
     if set_time::LATEST < time {
-        return EarliestTime::Unreachable;
+        return None;
     }
-    EarliestTime::At(time)
+    Some(time)
 }
 
-// The earliest time of a set of facts: a refusal of the job, 24, a number or unreachable.
-pub fn earliest(job: Job, set: u64) -> EarliestTime
+// The earliest time of a set of facts, or none where it is unreachable; or the first refusal of the job and of 24.
+pub fn earliest(job: Job, set: u64) -> Result<Option<u32>, Refusal>
     ensures { Answers (job_in job) set result }
 {
-    let verdict = validate(job);
-    if let Verdict::Refused(why) = verdict {
-        return EarliestTime::Refused(why);
-    }
+    validate(job)?;
     if facts::foreign(job.facts, set) {
-        return EarliestTime::Refused(Refusal::ForeignAskedFact);
+        return Err(Refusal::ForeignAskedFact);
     }
     let mut table = [set_time::NONE; Pair::COUNT];
     sweep::fill(&mut table, job, Extra::none());
-    answer(set_time::set_time(&table, job.facts, set))
+    Ok(answer(set_time::set_time(&table, job.facts, set)))
 }

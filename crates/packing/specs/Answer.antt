@@ -12,7 +12,7 @@ use Rattle.std.specs.Prelude.{Ok, Err}
 use Rattle.timeline.specs.declared.Day.{Day}
 use Rattle.price.specs.declared.Priced.{Priced}
 use Rattle.std.specs.Prelude.{Ok, Err}
-use Rattle.earliest.specs.declared.EarliestTime.{EarliestTime}
+use Rattle.earliest.specs.Answer.{EarliestTime}
 use Rattle.earliest.specs.declared.EarliestTime.TheVariants as time
 
 -- the kind in bits 0 to 7, the refusal's number in 8 to 15, the end in 16 to 47, the number of steps in 48 to 63
