@@ -4,7 +4,8 @@ use mathlib.Core.Path.{◌≡◌, refl}
 use mathlib.Core.Bool.{Bool, true, false}
 use mathlib.Core.List.{List, [], ◌∷◌, ◌++◌}
 use Rattle.job.specs.declared.refusal.Refusal.{Refusal}
-use Rattle.std.specs.Prelude.{Ok, Err}
+use Rattle.std.specs.Prelude.{Option, Some, None, Result, Ok, Err}
+use Rattle.std.specs.Result.{result_ok}
 use Rattle.job.specs.Refusal.{pass}
 use Rattle.job.specs.Refusal.{Row, ◌when◌, first}
 
@@ -57,3 +58,12 @@ first_append_row (w when false ∷ rows) why test h = first_append_row rows why 
 pub first_none : first [] ≡ pass
 unfolding first
 first_none = refl
+
+-- what stands behind an answer whose refusal is left out
+pub some_is_answered : {A : Type 0} (r : Result A Refusal) (value : A) → result_ok r ≡ Some value → r ≡ Ok value
+some_is_answered (Ok x) value h = cc
+some_is_answered (Err why) value h = cc
+
+pub none_is_refused : {A : Type 0} (r : Result A Refusal) → result_ok r ≡ None → (why : Refusal) × (r ≡ Err why)
+none_is_refused (Ok x) h = cc
+none_is_refused (Err why) h = (why, refl)

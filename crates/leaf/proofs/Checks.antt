@@ -1,6 +1,6 @@
 -- The checker over the bytes of the steps: what its answer says of the plan, and the answer that is made of it.
 -- Assumes nothing.
-use Rattle.std.specs.Prelude.{Result, Ok, Err}
+use Rattle.std.specs.Prelude.{Option, Some, None, Result, Ok, Err}
 use Prim.Native.Nat.{ℕ, ◌+◌, ◌*◌, ◌≤◌, ◌<◌}
 use mathlib.Core.Path.{◌≡◌, refl, sym, ap, subst, ◌∙◌}
 use mathlib.Core.Bool.{Bool, true, false, cond}
@@ -21,7 +21,8 @@ use Rattle.job.specs.Refusal.{pass}
 use Rattle.job.specs.Job.{Job}
 use Rattle.job.specs.Refusal.{first}
 use Rattle.job.specs.Valid.{limit_rows}
-use Rattle.job.proofs.Table.{first_next, first_pass, first_append_pass, pass_of_append}
+use Rattle.std.specs.Result.{result_ok}
+use Rattle.job.proofs.Table.{some_is_answered, none_is_refused, first_next, first_pass, first_append_pass, pass_of_append}
 use Rattle.timeline.specs.Step.{Step, steps_in, plan_bytes}
 use Rattle.timeline.specs.Timeline.{end, peaks}
 use Rattle.timeline.specs.Accepted.{Accepted}
@@ -33,7 +34,7 @@ use Rattle.checker.specs.Check.{check_within}
 use Rattle.tables.specs.declared.Steps.{Steps}
 use Rattle.leaf.specs.declared.Answer.{Answer}
 use Rattle.leaf.specs.Order.{placed, in_order, WritesPlan}
-use Rattle.leaf.specs.Answer.{no_answer, answer_by, plan_of, Answers, bytes_in, Found}
+use Rattle.leaf.specs.Answer.{answer_of, plan_of, Answers, bytes_in, Found}
 
 -- ---- the bytes of the steps stand in front
 pub length_bytes_in_order : (J : Job) (steps : Steps) → length (plan_bytes (in_order J steps)) ≡ 3 * steps.count
@@ -59,17 +60,16 @@ front_whole J steps o w =
     omega arith
 
 -- ---- what the checker answers
-day_passed : (v : Verdict) (J : Job) (P : List Step) → verdict_of (day_of v J P) ≡ pass
-    → (v ≡ pass) × (end P ≡ (day_of v J P).end) × (peaks J P ≡ (day_of v J P).peaks)
-day_passed (Ok _) J P h = (refl, refl, refl)
-day_passed (Err why) J P h = (h, cc, cc)
+day_passed : (v : Verdict) (J : Job) (P : List Step) (day : Day) → day_of v J P ≡ Ok day
+    → (v ≡ pass) × (end P ≡ day.end) × (peaks J P ≡ day.peaks)
+day_passed (Ok _) J P day h = let e : told_of J P ≡ day = cc in (refl, ap (λ (d : Day). d.end) e, ap (λ (d : Day). d.peaks) e)
+day_passed (Err why) J P day h = cc
 
-pub passed_accepted : (J : Job) (goal : ℕ) (bytes : List ℕ) → verdict_of (check_within J goal bytes) ≡ pass
-    → Accepted J goal bytes × (end (steps_in J bytes) ≡ (check_within J goal bytes).end)
-    × (peaks J (steps_in J bytes) ≡ (check_within J goal bytes).peaks)
+pub passed_accepted : (J : Job) (goal : ℕ) (bytes : List ℕ) (day : Day) → check_within J goal bytes ≡ Ok day
+    → Accepted J goal bytes × (end (steps_in J bytes) ≡ day.end) × (peaks J (steps_in J bytes) ≡ day.peaks)
 unfolding check_within
-passed_accepted J goal bytes h =
-    let r = day_passed _ J (steps_in J bytes) h in
+passed_accepted J goal bytes day h =
+    let r = day_passed _ J (steps_in J bytes) day h in
     ((first_pass _ _ _ (pass_of_append (limit_rows J) _ r.0).1).1, r.1, r.2)
 
 pub accepted_passes : (J : Job) (goal : ℕ) (bytes : List ℕ) → first (limit_rows J) ≡ pass → foreign J.facts goal ≡ false
@@ -90,77 +90,66 @@ module _ (J : Job) (goal T : ℕ) (steps : Steps) where
       sym (e ∙ ap (λ (bytes : List ℕ). check_within J goal (take (steps.count * 3) bytes)) (w J)
       ∙ ap (check_within J goal) (plan_in_front J steps (steps.count * 3) (omega arith)))
 
-  -- the answer by a verdict to what the checker says, and the steps as a plan of that day
-  abbrev answer_to : Verdict → Result Day Refusal → Answer
-  answer_to v d = answer_by v d.end d.peaks T steps.count (plan_of J steps)
+  -- the steps as a plan of that day
+  abbrev plan_of_day : Day → List ℕ → Answer
+  plan_of_day d plan = record { end = d.end; count = steps.count; peaks = d.peaks; plan = plan }
 
-  abbrev as_plan : Result Day Refusal → List ℕ → Answer
-  as_plan d plan = record { found = true; end = d.end; count = steps.count; peaks = d.peaks; plan = plan }
+  plan_answered : (d : Day) → d.end ≤ T → answer_of (Ok d) T steps.count (plan_of J steps) ≡ Some (plan_of_day d (plan_of J steps))
+  plan_answered d l = rw (le-ltb T d.end l)
 
-  plan_answered : (d : Result Day Refusal) → d.end ≤ T → answer_to pass d ≡ as_plan d (plan_of J steps)
-  plan_answered d l = ap (λ (b : Bool). cond b no_answer (as_plan d (plan_of J steps))) (le-ltb T d.end l)
-
-  nothing_answered : (d : Result Day Refusal) → T < d.end → answer_to pass d ≡ no_answer
-  nothing_answered d l = ap (λ (b : Bool). cond b no_answer (as_plan d (plan_of J steps))) (lt-ltb T d.end l)
+  nothing_answered : (d : Day) → T < d.end → answer_of (Ok d) T steps.count (plan_of J steps) ≡ None
+  nothing_answered d l = rw (lt-ltb T d.end l)
 
   -- o is the bytes that were written, and day what the checker says of them
   module _ (o : List ℕ) (day : Result Day Refusal) (w : WritesPlan steps (replicate 96 0) o)
       (e : day ≡ check_within J goal (take (steps.count * 3) o)) where
-    by_verdict : (v : Verdict) → verdict_of day ≡ v → answer_to (verdict_of checks) checks ≡ answer_to v day
-    by_verdict v h =
-        ap (λ (d : Result Day Refusal). answer_to (verdict_of d) d) (same_checked o day w e) ∙ ap (λ (x : Verdict). answer_to x day) h
+    pub answers_refused : result_ok day ≡ None → Answers J goal T steps None
+    answers_refused h = rw (same_checked o day w e ∙ (none_is_refused day h).1)
 
-    pub answers_refused : (why : Refusal) → verdict_of day ≡ Err why → Answers J goal T steps no_answer
-    answers_refused why h = sym (by_verdict (Err why) h)
+    pub answers_late : (d : Day) → result_ok day ≡ Some d → T < d.end → Answers J goal T steps None
+    answers_late d h l = rw (same_checked o day w e ∙ some_is_answered day d h) (sym (nothing_answered d l))
 
-    pub answers_late : verdict_of day ≡ pass → T < day.end → Answers J goal T steps no_answer
-    answers_late h l = sym (by_verdict pass h ∙ nothing_answered day l)
+    pub answers_plan : (d : Day) → result_ok day ≡ Some d → d.end ≤ T → Answers J goal T steps (Some (plan_of_day d o))
+    answers_plan d h l = rw (same_checked o day w e ∙ some_is_answered day d h) (rw (w J) (sym (plan_answered d l)))
 
-    pub answers_plan : verdict_of day ≡ pass → day.end ≤ T → Answers J goal T steps (as_plan day o)
-    answers_plan h l = ap (as_plan day) (w J) ∙ sym (by_verdict pass h ∙ plan_answered day l)
+  -- a plan that is answered is that of a day that ends in time
+  answered : (r : Result Day Refusal) (a : Answer) → answer_of r T steps.count (plan_of J steps) ≡ Some a
+      → (d : Day) × (r ≡ Ok d) × (d.end ≤ T) × (a ≡ plan_of_day d (plan_of J steps))
+  answered (Err why) a h = cc
+  answered (Ok d) a h =
+      elim (ltb T d.end) as (λ b. ltb T d.end ≡ b → cond b None (Some (plan_of_day d (plan_of J steps))) ≡ Some a → (x : Day) × (◌≡◌ {A = Result Day Refusal} (Ok d) (Ok x)) × (x.end ≤ T) × (a ≡ plan_of_day x (plan_of J steps))) [
+        | true ↦ λ l e. cc
+        | false ↦ λ l e. (d, refl, ltb-false T d.end l, cc)
+      ] refl h
 
   -- a plan that is found is accepted
-  pub answer_found : steps.count ≤ 32 → (r : Answer) → Answers J goal T steps r → r.found ≡ true → Found J goal T r
-  answer_found few r a h = by_verdict (verdict_of checks) refl a
-    where
-      by_end : (b : Bool) → ltb T checks.end ≡ b → verdict_of checks ≡ pass
-          → r ≡ cond b no_answer (as_plan checks (plan_of J steps)) → Found J goal T r
-      by_end true l c q = not_both h (ap (λ (x : Answer). x.found) q)
-      by_end false l c q =
-          let front = plan_in_front J steps (3 * steps.count) refl in
-          let same = passed_accepted J goal (plan_bytes (in_order J steps)) c in
-          subst (λ (x : Answer). Found J goal T x) (sym q)
-          (record {
-            few = few;
-            whole = ap length front ∙ length_bytes_in_order J steps;
-            accepted = subst (λ (bytes : List ℕ). Accepted J goal bytes) (sym front) same.0;
-            end = ap (λ (bytes : List ℕ). end (steps_in J bytes)) front ∙ same.1;
-            peaks = ap (λ (bytes : List ℕ). peaks J (steps_in J bytes)) front ∙ same.2;
-            in_time = ltb-false T checks.end l;
-          })
-
-      by_verdict : (v : Verdict) → verdict_of checks ≡ v → r ≡ answer_to v checks → Found J goal T r
-      by_verdict (Ok _) c q = by_end (ltb T checks.end) refl c q
-      by_verdict (Err why) c q = not_both h (ap (λ (x : Answer). x.found) q)
+  pub answer_found : steps.count ≤ 32 → (r : Option Answer) → Answers J goal T steps r → (a : Answer) → r ≡ Some a
+      → Found J goal T a
+  answer_found few r told a h =
+      let by = answered checks a (sym told ∙ h) in
+      let front = plan_in_front J steps (3 * steps.count) refl in
+      let same = passed_accepted J goal (plan_bytes (in_order J steps)) by.0 by.1 in
+      subst (λ (x : Answer). Found J goal T x) (sym by.3)
+      (record {
+        few = few;
+        whole = ap length front ∙ length_bytes_in_order J steps;
+        accepted = subst (λ (bytes : List ℕ). Accepted J goal bytes) (sym front) same.0;
+        end = ap (λ (bytes : List ℕ). end (steps_in J bytes)) front ∙ same.1;
+        peaks = ap (λ (bytes : List ℕ). peaks J (steps_in J bytes)) front ∙ same.2;
+        in_time = by.2;
+      })
 
   -- its bytes are those of the steps
-  pub answer_bytes : (r : Answer) → Answers J goal T steps r → r.found ≡ true → bytes_in r ≡ plan_bytes (in_order J steps)
-  answer_bytes r a h = by_verdict (verdict_of checks) a
-    where
-      by_end : (b : Bool) → r ≡ cond b no_answer (as_plan checks (plan_of J steps))
-          → bytes_in r ≡ plan_bytes (in_order J steps)
-      by_end true q = not_both h (ap (λ (x : Answer). x.found) q)
-      by_end false q = ap bytes_in q ∙ plan_in_front J steps (3 * steps.count) refl
-
-      by_verdict : (v : Verdict) → r ≡ answer_to v checks → bytes_in r ≡ plan_bytes (in_order J steps)
-      by_verdict (Ok _) q = by_end (ltb T checks.end) q
-      by_verdict (Err why) q = not_both h (ap (λ (x : Answer). x.found) q)
+  pub answer_bytes : (r : Option Answer) → Answers J goal T steps r → (a : Answer) → r ≡ Some a
+      → bytes_in a ≡ plan_bytes (in_order J steps)
+  answer_bytes r told a h =
+      let by = answered checks a (sym told ∙ h) in
+      ap bytes_in by.3 ∙ plan_in_front J steps (3 * steps.count) refl
 
   -- where nothing is found, the steps as they stand are no accepted plan that ends by T
-  pub answer_not_found : (r : Answer) → Answers J goal T steps r → r.found ≡ false → (day : Result Day Refusal) → checks ≡ day
-      → verdict_of day ≡ pass → day.end ≤ T → ⊥
-  answer_not_found r a h day c p l =
-      not_both
-      (ap (λ (x : Answer). x.found)
-      (a ∙ ap (λ (d : Result Day Refusal). answer_to (verdict_of d) d) c ∙ ap (λ (v : Verdict). answer_to v day) p
-      ∙ plan_answered day l)) h
+  pub answer_not_found : (r : Option Answer) → Answers J goal T steps r → r ≡ None → (day : Day) → checks ≡ Ok day
+      → day.end ≤ T → ⊥
+  answer_not_found r told h day c l =
+      let found : r ≡ Some (plan_of_day day (plan_of J steps))
+        = told ∙ ap (λ (d : Result Day Refusal). answer_of d T steps.count (plan_of J steps)) c ∙ plan_answered day l in
+      cc

@@ -1,13 +1,10 @@
 -- What the search answers at the first minute: a plan that is accepted, or nothing, and then a dead end.
 -- Assumes nothing.
 use Rattle.job.specs.declared.refusal.Refusal.{Refusal}
-use Rattle.std.specs.Prelude.{Result, Ok, Err}
-use Rattle.std.specs.Prelude.{ℕ, ◌*◌, ◌≤◌, ◌<◌, ◌≡◌, true, false, cond, List, ltb, length, get_or, take, replicate}
+use Rattle.std.specs.Prelude.{ℕ, ◌*◌, ◌≤◌, ◌<◌, ◌≡◌, false, cond, List, ltb, length, get_or, take, replicate, Option, Some, None, Result, Ok, Err}
 use Rattle.encoding.specs.Bytes.{overwrite}
 use Rattle.facts.specs.FactSet.{foreign}
 use Rattle.job.specs.declared.Job as held
-use Rattle.job.specs.Refusal.{verdict_of, Verdict}
-use Rattle.std.specs.Prelude.{Ok, Err}
 use Rattle.job.specs.Refusal.{pass}
 use Rattle.job.specs.Job.{Job, job_in}
 use Rattle.job.specs.Refusal.{first}
@@ -28,32 +25,25 @@ use Rattle.tables.specs.declared.Steps.{Steps}
 use Rattle.leaf.specs.declared.Answer.{Answer}
 use Rattle.leaf.specs.Order.{in_order}
 
--- no plan
-abbrev pub no_answer : Answer
-no_answer = record { found = false; end = 0; count = 0; peaks = replicate 4 0; plan = replicate 96 0 }
-
 -- the plan, where it is accepted and ends by the horizon T
-abbrev pub answer_by : Verdict → ℕ → List ℕ → ℕ → ℕ → List ℕ → Answer
-answer_by (Ok _) e peaks T count plan =
-    cond (ltb T e) no_answer (record { found = true; end = e; count = count; peaks = peaks; plan = plan })
-answer_by (Err why) e peaks T count plan = no_answer
-
-abbrev pub answer_of : Result Day Refusal → ℕ → ℕ → List ℕ → Answer
-answer_of day T count plan = answer_by (verdict_of day) day.end day.peaks T count plan
+abbrev pub answer_of : Result Day Refusal → ℕ → ℕ → List ℕ → Option Answer
+answer_of (Ok day) T count plan =
+    cond (ltb T day.end) None (Some (record { end = day.end; count = count; peaks = day.peaks; plan = plan }))
+answer_of (Err why) T count plan = None
 
 -- the bytes of the steps, zeros behind them
 abbrev pub plan_of : Job → Steps → List ℕ
 plan_of J steps = overwrite (replicate 96 0) 0 (plan_bytes (in_order J steps))
 
 -- what the checker says of the steps as they stand
-abbrev pub Answers : Job → ℕ → ℕ → Steps → Answer → Type 0
+abbrev pub Answers : Job → ℕ → ℕ → Steps → Option Answer → Type 0
 Answers J goal T steps r =
     r ≡ answer_of (check_within J goal (plan_bytes (in_order J steps))) T steps.count (plan_of J steps)
 
 -- J is the job of the file with these facts at its start and so much in its stores, and is within its limits
 pub record FileOf (J : Job) (file : List ℕ) (start : ℕ) (supplies : List ℕ) : Type 0 where
   pub value : held.Job
-  pub read : read_file file ≡ record { verdict = pass; job = value }
+  pub read : read_file file ≡ Ok value
   pub same : resumed (job_in value) start supplies ≡ J
   pub passes : first (limit_rows J) ≡ pass
 
@@ -77,15 +67,15 @@ pub record Asked (J : Job) (frame : Frame) (steps : Steps) : Type 0 where
   pub known : Known (length J.actions) steps
 
 -- a plan that is found is accepted and has the chosen steps; where none is, they are a dead end
-pub record Finishes (file : List ℕ) (frame : Frame) (steps : Steps) (r : Answer) : Type 0 where
-  pub found : r.found ≡ true → (J : Job) → FileOf J file frame.start frame.supplies
-      → Found J frame.goal frame.horizon r
-  pub same : r.found ≡ true → (J : Job) → FileOf J file frame.start frame.supplies
+pub record Finishes (file : List ℕ) (frame : Frame) (steps : Steps) (r : Option Answer) : Type 0 where
+  pub found : (a : Answer) → r ≡ Some a → (J : Job) → FileOf J file frame.start frame.supplies
+      → Found J frame.goal frame.horizon a
+  pub same : (a : Answer) → r ≡ Some a → (J : Job) → FileOf J file frame.start frame.supplies
       → Known (length J.actions) steps → ((k : ℕ) → k < steps.count → get_or steps.starts k 0 < 65536)
-      → Permutation (steps_in J (bytes_in r)) (chosen J steps)
-  pub bytes : r.found ≡ true → (J : Job) → FileOf J file frame.start frame.supplies
+      → Permutation (steps_in J (bytes_in a)) (chosen J steps)
+  pub bytes : (a : Answer) → r ≡ Some a → (J : Job) → FileOf J file frame.start frame.supplies
       → Known (length J.actions) steps → ((k : ℕ) → k < steps.count → get_or steps.starts k 0 < 65536)
-      → bytes_in r ≡ plan_bytes (steps_in J (bytes_in r))
-  pub dead : r.found ≡ false → (J : Job) → FileOf J file frame.start frame.supplies → Asked J frame steps
+      → bytes_in a ≡ plan_bytes (steps_in J (bytes_in a))
+  pub dead : r ≡ None → (J : Job) → FileOf J file frame.start frame.supplies → Asked J frame steps
       → (b : From) (t : ℕ) → t ≤ b.minute
       → Dead J b frame.goal frame.horizon (Until b t) (chosen J steps)
