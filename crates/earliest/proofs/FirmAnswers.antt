@@ -1,5 +1,6 @@
 -- What the call answers is a firm "not before" (document 02, l).
 -- Assumes nothing.
+use Rattle.times.specs.Time.{Time}
 use Prim.Native.Nat.{ℕ, ◌≤◌}
 use mathlib.Core.Path.{◌≡◌, ap, ◌∙◌, subst}
 use mathlib.Core.List.{List}

@@ -1,7 +1,8 @@
 -- An accepted plan that counts is the kept steps, and new ones.
 -- Assumes nothing.
+use Rattle.std.specs.Prelude.{Option, Some, None, is_some}
 use Prim.Native.Nat.{ℕ, ◌<◌}
-use mathlib.Core.Bool.{true}
+use mathlib.Core.Bool.{true, false}
 use mathlib.Core.Path.{◌≡◌, refl, sym, ap, subst, ◌∙◌}
 use mathlib.Core.Logic.{⊎_elim}
 use mathlib.Core.List.{List, [], ◌∷◌, ◌++◌}
@@ -57,19 +58,24 @@ split_of_counted J frame bytes accepted counts =
           (subst (EachStep (IsKept (from_of frame))) counts (before_are_kept (from_of frame) P));
     }
 
+-- what is not some is none
+pub none_of : (r : Option Answer) → is_some r ≡ false → r ≡ None
+none_of None h = refl
+none_of (Some a) h = cc
+
 -- a plan that the leaf finds has the kept steps, and else new ones
-pub found_when_finished : (J : Job) (file : List ℕ) (frame : Frame) (steps : Steps) (r : Answer) → KeepsKept frame steps
+pub found_when_finished : (J : Job) (file : List ℕ) (frame : Frame) (steps : Steps) (r : Option Answer) → KeepsKept frame steps
     → Known frame.actions steps → ((k : ℕ) → k < steps.count → get_or steps.starts k 0 < 65536)
-    → Finishes file frame steps r → r.found ≡ true → FileOf J file frame.start frame.supplies
+    → Finishes file frame steps r → (a : Answer) → r ≡ Some a → FileOf J file frame.start frame.supplies
     → length J.actions ≡ frame.actions
-    → FoundFor J frame r
-found_when_finished J file frame steps r keeps known starts finishes e have count =
+    → FoundFor J frame a
+found_when_finished J file frame steps r keeps known starts finishes a e have count =
     let split = chosen_splits J frame steps keeps in
     record {
-      plan = finishes.found e J have;
+      plan = finishes.found a e J have;
       new = split.0;
-      same = subst (λ (P : List Step). Permutation (steps_in J (bytes_in r)) P) split.1
-          (finishes.same e J have (rw count known) starts);
+      same = subst (λ (P : List Step). Permutation (steps_in J (bytes_in a)) P) split.1
+          (finishes.same a e J have (rw count known) starts);
       after = since_new J frame steps keeps split.0 split.2;
     }
 

@@ -1,5 +1,6 @@
 -- The bounds of the least horizon: what a search for one horizon says of them.
 -- Assumes nothing.
+use Rattle.std.specs.Prelude.{Option, Some, None, is_some}
 use Prim.Native.Nat.{ℕ, ◌+◌, ◌<◌, ◌≤◌, min, max}
 use mathlib.Core.Path.{◌≡◌, sym, ap, subst}
 use mathlib.Core.Bool.{true, false}
@@ -74,11 +75,11 @@ module _ (file sets numbers times : List ℕ) (frame : Frame) (T : ℕ) (within 
         };
       }
 
-  module _ (r : Answer) (solves : Solves file sets numbers times (until frame T) r) where
+  module _ (r : Option Answer) (solves : Solves file sets numbers times (until frame T) r) where
     -- a plan by T is one by the frame's horizon
-    pub found_by_horizon : r.found ≡ true → FoundBy file sets numbers times frame r
-    found_by_horizon e J task passed =
-        let found = solves.found e J task.in_file task.described.actions in
+    pub found_by_horizon : (a : Answer) → r ≡ Some a → FoundBy file sets numbers times frame a
+    found_by_horizon a e J task passed =
+        let found = solves.found a e J task.in_file task.described.actions in
         let f = found.plan in
         let in_time = f.in_time in
         record {
@@ -95,11 +96,11 @@ module _ (file sets numbers times : List ℕ) (frame : Frame) (T : ℕ) (within 
           after = found.after;
         }
 
-    pub found_in_time : r.found ≡ true → (J : Job) → TaskOf J file sets numbers times frame → r.end ≤ T
-    found_in_time e J task = (solves.found e J task.in_file task.described.actions).plan.in_time
+    pub found_in_time : (a : Answer) → r ≡ Some a → (J : Job) → TaskOf J file sets numbers times frame → a.end ≤ T
+    found_in_time a e J task = (solves.found a e J task.in_file task.described.actions).plan.in_time
 
     -- no plan by T: none ends before the minute after
-    pub raised_past : r.found ≡ false → (from : ℕ) → Raised file sets numbers times frame from (T + 1)
+    pub raised_past : r ≡ None → (from : ℕ) → Raised file sets numbers times frame from (T + 1)
     raised_past e from J task passed before bytes accepted counts =
         let later = solves.none e J (task_until J task) passed bytes accepted counts in omega arith
 
@@ -179,31 +180,31 @@ module _ (file sets numbers times : List ℕ) (frame : Frame) (T : ℕ) (is : T 
   whole_when_begun whole =
       subst (Whole sets numbers times) (sym same) (whole_until file sets numbers times frame T within whole)
 
-  module _ (r : Answer) (answer : Solves file sets numbers times begun r) where
+  module _ (r : Option Answer) (answer : Solves file sets numbers times begun r) where
     solves : Solves file sets numbers times (until frame T) r
     solves = subst (λ (f : Frame). Solves file sets numbers times f r) same answer
 
-    pub shortest_when_begun : r.found ≡ true → Shortest file sets numbers times frame r
+    pub shortest_when_begun : is_some r ≡ true → Shortest file sets numbers times frame r
     shortest_when_begun e =
         record {
-          found = λ f J task passed.
-              let found = found_by_horizon file sets numbers times frame T within r solves e J task passed in
-              let early = found_in_time file sets numbers times frame T within r solves e J task in
-              (found, least_when_begun J frame r passed found (omega arith));
-          none = λ n. not_both e n;
+          found = λ a f J task passed.
+              let found = found_by_horizon file sets numbers times frame T within r solves a f J task passed in
+              let early = found_in_time file sets numbers times frame T within r solves a f J task in
+              (found, least_when_begun J frame a passed found (omega arith));
+          none = λ n. let z = rw n at e in cc;
         }
 
-    none_by_then : r.found ≡ false → (J : Job) → TaskOf J file sets numbers times frame → Passed J
+    none_by_then : r ≡ None → (J : Job) → TaskOf J file sets numbers times frame → Passed J
         → NoneBefore J frame (T + 1)
     none_by_then e J task passed =
         raised_past file sets numbers times frame T within r solves e 0 J task passed (λ bytes a c. omega arith)
 
-    pub none_by_first : r.found ≡ false → frame.first < frame.horizon → (J : Job)
+    pub none_by_first : r ≡ None → frame.first < frame.horizon → (J : Job)
         → TaskOf J file sets numbers times frame → Passed J → NoneBefore J frame (frame.first + 1)
     none_by_first e later J task passed =
         λ bytes accepted counts. let begun = none_by_then e J task passed bytes accepted counts in omega arith
 
-    pub none_when_no_minute_is_free : r.found ≡ false → frame.horizon ≤ frame.first → (J : Job)
+    pub none_when_no_minute_is_free : r ≡ None → frame.horizon ≤ frame.first → (J : Job)
         → TaskOf J file sets numbers times frame → Passed J → NoneBy J frame
     none_when_no_minute_is_free e early J task passed =
         λ bytes accepted counts. let begun = none_by_then e J task passed bytes accepted counts in omega arith

@@ -1,5 +1,6 @@
 -- The search for one horizon begins with the goal and the kept steps; from horizon to horizon the bounds close in.
 -- Assumes nothing.
+use Rattle.std.specs.Prelude.{Option, Some, None, is_some}
 use Prim.Native.Nat.{ℕ, ◌≤◌, ◌<◌}
 use mathlib.Core.Path.{◌≡◌, refl, sym, ap, subst, ◌∙◌}
 use mathlib.Core.Bool.{true≢false}
@@ -119,7 +120,7 @@ module _ (sets numbers times : List ℕ) (frame : Frame) (whole : Whole sets num
   none_by_horizon J passed dead = none_when_dead J frame passed (rw (begins.minute, begins.steps) at dead)
 
   -- the answer from there is the answer for the horizon
-  pub solved_by_regress : (file : List ℕ) (r : Answer)
+  pub solved_by_regress : (file : List ℕ) (r : Option Answer)
       → Answered file frame (NoneFrom file sets numbers times frame st (Until (from_of frame) st.minute)
       (λ J. chosen J st.steps)) r
       → Solves file sets numbers times frame r
@@ -131,14 +132,14 @@ module _ (sets numbers times : List ℕ) (frame : Frame) (whole : Whole sets num
       }
 
 -- ---- no minute left
-pub solved_by_finish : (file sets numbers times : List ℕ) (frame : Frame) (r : Answer)
+pub solved_by_finish : (file sets numbers times : List ℕ) (frame : Frame) (r : Option Answer)
     → Whole sets numbers times frame → frame.horizon ≤ frame.first → Finishes file frame frame.kept r
     → Solves file sets numbers times frame r
 solved_by_finish file sets numbers times frame r whole early finishes =
     record {
-      found = λ e J have count.
+      found = λ a e J have count.
           found_when_finished J file frame frame.kept r (keeps_kept frame) whole.kept whole.starts finishes
-          e have count;
+          a e have count;
       none = λ n J task passed.
           none_when_dead J frame passed
           (finishes.dead n J task.in_file

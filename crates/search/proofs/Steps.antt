@@ -1,5 +1,6 @@
 -- The steps of the search: what is ready stays ready, and a dead end after a step is one before it.
 -- Assumes nothing.
+use Rattle.std.specs.Prelude.{Option, Some, None, is_some}
 use Prim.Native.Nat.{ℕ, ◌+◌, ◌≤◌, ◌<◌}
 use mathlib.Core.Path.{◌≡◌, refl, sym, ap, ◌∙◌}
 use mathlib.Core.Bool.{true, false, not}
@@ -137,9 +138,9 @@ module _ (sets numbers times : List ℕ) (frame : Frame) (st : State) (ready : R
       (rw (← back.minute, ← back.steps) dead)
 
 -- ---- the first minute
-pub dead_when_unfinished : (J : Job) (file sets numbers times : List ℕ) (frame : Frame) (st : State) (r : Answer)
+pub dead_when_unfinished : (J : Job) (file sets numbers times : List ℕ) (frame : Frame) (st : State) (r : Option Answer)
     → Ready sets numbers times frame st → TaskOf J file sets numbers times frame → Finishes file frame st.steps r
-    → st.minute ≤ frame.first → r.found ≡ false
+    → st.minute ≤ frame.first → r ≡ None
     → DeadFor J frame (Until (from_of frame) st.minute) (chosen J st.steps)
 dead_when_unfinished J file sets numbers times frame st r ready task finishes early none =
     finishes.dead none J task.in_file

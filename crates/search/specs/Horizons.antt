@@ -1,6 +1,6 @@
 -- What the search promises for one horizon, and for the least.
 -- Assumes nothing.
-use Rattle.std.specs.Prelude.{ℕ, ◌+◌, ◌≤◌, ◌<◌, ◌≡◌, true, false, List, length, get_or}
+use Rattle.std.specs.Prelude.{ℕ, ◌+◌, ◌≤◌, ◌<◌, ◌≡◌, List, length, get_or, Option, Some, None}
 use Rattle.job.specs.Job.{Job}
 use Rattle.job.specs.Passed.{Passed}
 use Rattle.timeline.specs.Step.{steps_in}
@@ -57,23 +57,23 @@ NoneBy J frame =
     (bytes : List ℕ) → Accepted J frame.goal bytes → CountsFor J frame bytes → frame.horizon < end (steps_in J bytes)
 
 -- the answer of the search for one horizon: a plan that ends by then, or there is none
-pub record Solves (file sets numbers times : List ℕ) (frame : Frame) (r : Answer) : Type 0 where
-  pub found : r.found ≡ true → FoundIn file frame r
-  pub none : r.found ≡ false → (J : Job) → TaskOf J file sets numbers times frame → Passed J → NoneBy J frame
+pub record Solves (file sets numbers times : List ℕ) (frame : Frame) (r : Option Answer) : Type 0 where
+  pub found : (a : Answer) → r ≡ Some a → FoundIn file frame a
+  pub none : r ≡ None → (J : Job) → TaskOf J file sets numbers times frame → Passed J → NoneBy J frame
 
 -- the answer of the search for the least horizon: a shortest plan, or there is none
-pub record Shortest (file sets numbers times : List ℕ) (frame : Frame) (r : Answer) : Type 0 where
-  pub found : r.found ≡ true → (J : Job) → TaskOf J file sets numbers times frame → Passed J
-      → FoundFor J frame r × NoneBefore J frame r.end
-  pub none : r.found ≡ false → (J : Job) → TaskOf J file sets numbers times frame → Passed J → NoneBy J frame
+pub record Shortest (file sets numbers times : List ℕ) (frame : Frame) (r : Option Answer) : Type 0 where
+  pub found : (a : Answer) → r ≡ Some a → (J : Job) → TaskOf J file sets numbers times frame → Passed J
+      → FoundFor J frame a × NoneBefore J frame a.end
+  pub none : r ≡ None → (J : Job) → TaskOf J file sets numbers times frame → Passed J → NoneBy J frame
 
 -- ---- from horizon to horizon
 
 -- a plan that no other ends before, or none by the horizon, if no plan ends before the minute `from`
-pub record ShortestFrom (file sets numbers times : List ℕ) (frame : Frame) (from : ℕ) (r : Answer) : Type 0 where
-  pub found : r.found ≡ true → (J : Job) → TaskOf J file sets numbers times frame → Passed J
-      → NoneBefore J frame from → FoundFor J frame r × NoneBefore J frame r.end
-  pub none : r.found ≡ false → (J : Job) → TaskOf J file sets numbers times frame → Passed J → NoneBy J frame
+pub record ShortestFrom (file sets numbers times : List ℕ) (frame : Frame) (from : ℕ) (r : Option Answer) : Type 0 where
+  pub found : (a : Answer) → r ≡ Some a → (J : Job) → TaskOf J file sets numbers times frame → Passed J
+      → NoneBefore J frame from → FoundFor J frame a × NoneBefore J frame a.end
+  pub none : r ≡ None → (J : Job) → TaskOf J file sets numbers times frame → Passed J → NoneBy J frame
 
 -- no plan ends before the lower bound, if none ended before the one at the beginning
 abbrev pub Raised : List ℕ → List ℕ → List ℕ → List ℕ → Frame → ℕ → ℕ → Type 0
@@ -87,10 +87,10 @@ FoundBy file sets numbers times frame r =
     (J : Job) → TaskOf J file sets numbers times frame → Passed J → FoundFor J frame r
 
 -- from the lower bound upwards: a plan and a new lower bound, or no plan by the horizon
-pub record Rises (file sets numbers times : List ℕ) (frame : Frame) (from : ℕ) (r : Rise) : Type 0 where
-  pub found : r.answer.found ≡ true → FoundBy file sets numbers times frame r.answer
-  pub raised : Raised file sets numbers times frame from r.low
-  pub none : r.answer.found ≡ false → (J : Job) → TaskOf J file sets numbers times frame → Passed J → NoneBy J frame
+pub record Rises (file sets numbers times : List ℕ) (frame : Frame) (from : ℕ) (r : Option Rise) : Type 0 where
+  pub found : (x : Rise) → r ≡ Some x → FoundBy file sets numbers times frame x.answer
+  pub raised : (x : Rise) → r ≡ Some x → Raised file sets numbers times frame from x.low
+  pub none : r ≡ None → (J : Job) → TaskOf J file sets numbers times frame → Passed J → NoneBy J frame
 
 -- between the bounds: the lower one rises, or the plan ends earlier
 pub record Narrows (file sets numbers times : List ℕ) (frame : Frame) (from : ℕ) (best : Answer) (r : Rise)
@@ -98,10 +98,8 @@ pub record Narrows (file sets numbers times : List ℕ) (frame : Frame) (from : 
   pub found : FoundBy file sets numbers times frame best → FoundBy file sets numbers times frame r.answer
   pub raised : Raised file sets numbers times frame from r.low
   pub closer : (r.answer.end + from < best.end + r.low) × (r.answer.end ≤ best.end) × (from ≤ r.low)
-  pub still : r.answer.found ≡ true
 
 -- the plan that is left at the end
 pub record Descends (file sets numbers times : List ℕ) (frame : Frame) (from : ℕ) (best r : Answer) : Type 0 where
   pub found : FoundBy file sets numbers times frame best → FoundBy file sets numbers times frame r
   pub raised : Raised file sets numbers times frame from r.end
-  pub still : r.found ≡ true

@@ -1,6 +1,6 @@
 -- What the search promises of a state: the plan that it finds is accepted, and where it finds none there is none.
 -- Assumes nothing.
-use Rattle.std.specs.Prelude.{ℕ, ◌≤◌, ◌<◌, ◌≡◌, true, false, cond, List, [], ◌∷◌, ◌++◌, length, get_or}
+use Rattle.std.specs.Prelude.{ℕ, ◌≤◌, ◌<◌, ◌≡◌, true, false, cond, List, [], ◌∷◌, ◌++◌, length, get_or, Option, Some, None}
 use Rattle.facts.specs.FactSet.{foreign}
 use Rattle.job.specs.Job.{Job}
 use Rattle.timeline.specs.Step.{Step, steps_in}
@@ -58,9 +58,9 @@ FoundIn file frame r =
     (J : Job) → FileOf J file frame.start frame.supplies → length J.actions ≡ frame.actions → FoundFor J frame r
 
 -- the answer of a search: a plan found is accepted and has the kept steps; none found makes a dead end
-pub record Answered (file : List ℕ) (frame : Frame) (Dead : Type 0) (r : Answer) : Type 0 where
-  pub found : r.found ≡ true → FoundIn file frame r
-  pub dead : r.found ≡ false → Dead
+pub record Answered (file : List ℕ) (frame : Frame) (Dead : Type 0) (r : Option Answer) : Type 0 where
+  pub found : (a : Answer) → r ≡ Some a → FoundIn file frame a
+  pub dead : r ≡ None → Dead
 
 -- for every job of the task at which the state stands: none of the steps that are X completes these steps
 abbrev pub NoneFrom : List ℕ → List ℕ → List ℕ → List ℕ → Frame → State → (Step → Type 0) → (Job → List Step) → Type 0

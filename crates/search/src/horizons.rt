@@ -20,7 +20,7 @@ fn until(frame: Frame, horizon: u16) -> Frame
 
 // A plan that ends by the frame's horizon. With no free minute left there are the kept steps; this second call of
 // `finish` also keeps its large frame out of the recursion, where a function called once would be inlined.
-pub fn solve(sets: &[u64], numbers: &[u32], times: &[u32], file: &[u8], frame: Frame) -> Answer
+pub fn solve(sets: &[u64], numbers: &[u32], times: &[u32], file: &[u8], frame: Frame) -> Option<Answer>
     requires { Whole sets.now numbers.now times.now frame }
     ensures { Solves file.now sets.now numbers.now times.now
         frame result }
@@ -43,7 +43,7 @@ pub fn solve(sets: &[u64], numbers: &[u32], times: &[u32], file: &[u8], frame: F
     regress::regress(sets, numbers, times, file, frame, st)
 }
 
-// An answer, and the minute before which no plan ends.
+// A plan, and the minute before which none ends.
 #[derive(Clone, Copy)]
 pub struct Rise {
     pub low: u32,
@@ -76,7 +76,7 @@ fn longer(stride: u16) -> u16
 }
 
 // From the minute `low` upwards with doubling strides, until a plan is found or the frame's horizon has none.
-fn ascend(sets: &[u64], numbers: &[u32], times: &[u32], file: &[u8], frame: Frame, low: u16) -> Rise
+fn ascend(sets: &[u64], numbers: &[u32], times: &[u32], file: &[u8], frame: Frame, low: u16) -> Option<Rise>
     requires { Whole sets.now numbers.now times.now frame × (low ≤ frame.horizon) }
     ensures { Rises file.now sets.now numbers.now times.now
         frame low result }
@@ -85,23 +85,15 @@ fn ascend(sets: &[u64], numbers: &[u32], times: &[u32], file: &[u8], frame: Fram
     let mut horizon = low;
     let mut stride: u16 = 1;
     while horizon < frame.horizon {
-        let answer = solve(sets, numbers, times, file, until(frame, horizon));
-        let found = answer.found;
-        if found {
-            return Rise {
-                low: bound,
-                answer: answer,
-            };
+        if let Some(answer) = solve(sets, numbers, times, file, until(frame, horizon)) {
+            return Some(Rise { low: bound, answer });
         }
         bound = minute::wide(horizon) + 1;
         horizon = next_horizon(horizon, stride, frame.horizon);
         stride = longer(stride);
     }
-    let last = solve(sets, numbers, times, file, frame);
-    Rise {
-        low: bound,
-        answer: last,
-    }
+    let answer = solve(sets, numbers, times, file, frame)?;
+    Some(Rise { low: bound, answer })
 }
 
 // Tries the horizon in the middle between the lower bound and the end of the plan.
@@ -114,30 +106,18 @@ fn halve(
     low: u32,
     best: Answer,
 ) -> Rise
-    requires { Whole sets.now numbers.now times.now frame × (low < best.end) × (best.end ≤ frame.horizon)
-        × (best.found ≡ true) }
+    requires { Whole sets.now numbers.now times.now frame × (low < best.end) × (best.end ≤ frame.horizon) }
     ensures { Narrows file.now sets.now numbers.now times.now
         frame low best result }
 {
     let middle = low + (best.end - low) / 2;
     let horizon = (middle % minute::MINUTES) as u16;
-    let answer = solve(sets, numbers, times, file, until(frame, horizon));
-    let found = answer.found;
-    if !found {
-        return Rise {
+    match solve(sets, numbers, times, file, until(frame, horizon)) {
+        Some(answer) if answer.end <= middle => Rise { low, answer },
+        _ => Rise {
             low: middle + 1,
             answer: best,
-        };
-    }
-    if middle < answer.end {
-        return Rise {
-            low: middle + 1,
-            answer: best,
-        };
-    }
-    Rise {
-        low: low,
-        answer: answer,
+        },
     }
 }
 
@@ -151,8 +131,7 @@ fn descend(
     low: u32,
     best: Answer,
 ) -> Answer
-    requires { Whole sets.now numbers.now times.now frame × (best.end ≤ frame.horizon)
-        × (best.found ≡ true) }
+    requires { Whole sets.now numbers.now times.now frame × (best.end ≤ frame.horizon) }
     ensures { Descends file.now sets.now numbers.now times.now
         frame low best result }
 {
@@ -174,21 +153,17 @@ fn shortest_from(
     file: &[u8],
     frame: Frame,
     low: u16,
-) -> Answer
+) -> Option<Answer>
     requires { Whole sets.now numbers.now times.now frame × (low ≤ frame.horizon) }
     ensures { ShortestFrom file.now sets.now numbers.now times.now
         frame low result }
 {
-    let rise = ascend(sets, numbers, times, file, frame, low);
+    let rise = ascend(sets, numbers, times, file, frame, low)?;
     let answer = rise.answer;
-    let found = answer.found;
-    if !found {
-        return leaf::nothing();
-    }
     if minute::wide(frame.horizon) < answer.end {
-        return leaf::nothing();
+        return None;
     }
-    descend(sets, numbers, times, file, frame, rise.low, answer)
+    Some(descend(sets, numbers, times, file, frame, rise.low, answer))
 }
 
 // The earlier of two minutes.
@@ -203,23 +178,22 @@ fn earlier(a: u16, b: u16) -> u16
 
 // The shortest plan by the frame's horizon. By the first free minute there are the kept steps alone; a longer plan is
 // sought from the least bound on its end upwards.
-pub fn shortest(sets: &[u64], numbers: &[u32], times: &[u32], file: &[u8], frame: Frame) -> Answer
+pub fn shortest(sets: &[u64], numbers: &[u32], times: &[u32], file: &[u8], frame: Frame) -> Option<Answer>
     requires { Whole sets.now numbers.now times.now frame }
     ensures { Shortest file.now sets.now numbers.now times.now
         frame result }
 {
     let begun = until(frame, earlier(frame.first, frame.horizon));
     let kept = solve(sets, numbers, times, file, begun);
-    let found = kept.found;
-    if found {
+    if kept.is_some() {
         return kept;
     }
     if frame.horizon <= frame.first {
-        return leaf::nothing();
+        return None;
     }
     let low = bounds::lowest(times, frame);
     if minute::wide(frame.horizon) < low {
-        return leaf::nothing();
+        return None;
     }
     shortest_from(
         sets,

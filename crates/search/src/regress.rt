@@ -23,7 +23,7 @@ fn attempt(
     st: State,
     i: u8,
     left: u64,
-) -> Answer
+) -> Option<Answer>
     requires { Ready sets.now numbers.now times.now frame st × (i < frame.actions)
         × MayStop sets.now numbers.now frame st i true × (frame.first < st.minute) }
     ensures { Answered file.now frame
@@ -32,11 +32,11 @@ fn attempt(
 {
     let next = moves::take(sets, numbers, frame, st, i);
     if !tests::all_needed(sets, frame.actions, next) {
-        return leaf::nothing();
+        return None;
     }
     let start = moves::start_of(numbers, i, st.minute);
     if !tests::all_reached(sets, numbers, times, frame, next, start) {
-        return leaf::nothing();
+        return None;
     }
     choose(sets, numbers, times, file, frame, next, left)
 }
@@ -52,7 +52,7 @@ fn choose(
     frame: Frame,
     st: State,
     undecided: u64,
-) -> Answer
+) -> Option<Answer>
     requires { Ready sets.now numbers.now times.now frame st × (frame.first < st.minute) }
     ensures { Answered file.now frame
         (NoneFrom file.now sets.now numbers.now times.now frame st
@@ -68,12 +68,11 @@ fn choose(
         let i = rules::pick(numbers, left);
         left = facts::difference(left, facts::single(i));
         let answer = attempt(sets, numbers, times, file, frame, st, i, left);
-        let found = answer.found;
-        if found {
+        if answer.is_some() {
             return answer;
         }
     }
-    leaf::nothing()
+    None
 }
 
 // Goes on from a state, whose minute is an event: with fewer minutes left at each call.
@@ -85,7 +84,7 @@ pub fn regress(
     file: &[u8],
     frame: Frame,
     st: State,
-) -> Answer
+) -> Option<Answer>
     requires { Ready sets.now numbers.now times.now frame st × Fresh st }
     ensures { Answered file.now frame
         (NoneFrom file.now sets.now numbers.now times.now frame st
@@ -96,7 +95,7 @@ pub fn regress(
         return leaf::finish(file, frame, steps);
     }
     if !missing::suffices(sets, numbers, frame, st) {
-        return leaf::nothing();
+        return None;
     }
     let undecided = rules::all(frame.actions);
     choose(sets, numbers, times, file, frame, st, undecided)

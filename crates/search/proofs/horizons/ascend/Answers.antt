@@ -1,4 +1,5 @@
 -- `ascend` meets its contract: no plan ends before `bound`.
+use Rattle.std.specs.Prelude.{Option, Some, None, is_some}
 use Prim.Native.Nat.{ℕ, ◌+◌}
 use mathlib.Core.Path.{◌≡◌, sym, ap, ◌∙◌}
 use mathlib.Core.Bool.{true≢false}
@@ -14,7 +15,7 @@ raised-as : (file sets numbers times : List ℕ) (frame : Frame) (from low low' 
     → Raised file sets numbers times frame from low → Raised file sets numbers times frame from low'
 raised-as file sets numbers times frame from low low' e h = rw (← e) h
 
-solves-as : (file sets numbers times : List ℕ) (frame frame' : Frame) (r : Answer) → frame ≡ frame'
+solves-as : (file sets numbers times : List ℕ) (frame frame' : Frame) (r : Option Answer) → frame ≡ frame'
     → Solves file sets numbers times frame r → Solves file sets numbers times frame' r
 solves-as file sets numbers times frame frame' r e h = rw (← e) h
 
@@ -23,19 +24,20 @@ loop-horizon-init c =
     let h = c.requires in
     (h.1, omega arith, raised-as _ _ _ _ _ _ _ _ (sym c.wide-bound.ensures.0) (λ J task passed before. before))
 
-pub solve-answer-requires : goal.solve-answer-requires
-solve-answer-requires c =
+pub solve-requires : goal.solve-requires
+solve-requires c =
     rw c.until.ensures
     (whole_until c.args.file.now _ _ _ c.args.frame c.loop-horizon.horizon c.loop-horizon.invariant.0 c.requires.0)
 
-pub returns-then-found : goal.returns-then-found
-returns-then-found c =
+pub returns-in-Some : goal.returns-in-Some
+returns-in-Some c =
     let inv = c.loop-horizon.invariant in
-    let solves = solves-as _ _ _ _ _ _ _ c.until.ensures c.solve-answer.ensures in
+    let solves = solves-as _ _ _ _ _ _ _ c.until.ensures c.solve.ensures in
     record {
-      found = λ e. found_by_horizon _ _ _ _ c.args.frame c.loop-horizon.horizon inv.0 _ solves e;
-      raised = inv.2;
-      none = λ e. absurd (true≢false (sym c.if-found.true ∙ e));
+      found = λ x e. let same : c.in-Some.answer ≡ x.answer = cc in
+          rw (← same) (found_by_horizon _ _ _ _ c.args.frame c.loop-horizon.horizon inv.0 _ solves _ c.in-Some.is);
+      raised = λ x e. let same : c.loop-horizon.bound ≡ x.low = cc in raised-as _ _ _ _ _ _ _ _ same inv.2;
+      none = λ e. cc;
     }
 
 pub overflow_add-bound : goal.overflow_add-bound
@@ -56,22 +58,28 @@ loop-horizon-smaller c = let n = c.next_horizon-horizon.ensures in let a = n.0 i
 pub loop-horizon-preserved : goal.loop-horizon-preserved
 loop-horizon-preserved c =
     let inv = c.loop-horizon.invariant in
-    let solves = solves-as _ _ _ _ _ _ _ c.until.ensures c.solve-answer.ensures in (
+    let solves = solves-as _ _ _ _ _ _ _ c.until.ensures c.solve.ensures in (
       c.next_horizon-horizon.ensures.1,
       c.longer-stride.ensures,
       raised-as _ _ _ _ _ _ _ _ (ap (λ (n : ℕ). n + 1) (sym c.wide-bound-in-loop-horizon.ensures.0))
-          (raised_past _ _ _ _ c.args.frame c.loop-horizon.horizon inv.0 _ solves c.if-found.false c.args.low),
+          (raised_past _ _ _ _ c.args.frame c.loop-horizon.horizon inv.0 _ solves c.in_default.is c.args.low),
     )
 
-pub solve-last-requires : goal.solve-last-requires
-solve-last-requires c =
+pub solve-requires-2 : goal.solve-requires-2
+solve-requires-2 c =
     c.requires.0
+
+pub returns-in_err-answer : goal.returns-in_err-answer
+returns-in_err-answer c =
+    rw c.from_residual.ensures
+    (record { found = λ x e. cc; raised = λ x e. cc; none = λ e. c.solve-2.ensures.none c.in_err-answer.was })
 
 pub returns : goal.returns
 returns c =
-    let solves = c.solve-last.ensures in
     record {
-      found = λ e J task passed. solves.found e J task.in_file task.described.actions;
-      raised = c.loop-horizon.invariant.2;
-      none = λ e. solves.none e;
+      found = λ x e J task passed. let same : c.in_ok-answer.answer ≡ x.answer = cc in
+          rw (← same) (c.solve-2.ensures.found _ c.in_ok-answer.was J task.in_file task.described.actions);
+      raised = λ x e. let same : c.loop-horizon.bound ≡ x.low = cc in
+          raised-as _ _ _ _ _ _ _ _ same c.loop-horizon.invariant.2;
+      none = λ e. cc;
     }

@@ -4,11 +4,11 @@ use Rattle.search.proofs.horizons.descend.Goals as goal
 
 pub loop-bound-init : goal.loop-bound-init
 loop-bound-init c =
-    let h = c.requires in (h.1, h.2, (λ J task passed before. before), λ f. f)
+    let h = c.requires in (h.1, (λ J task passed before. before), λ f. f)
 
 pub halve-next-requires : goal.halve-next-requires
 halve-next-requires c =
-    let h = c.requires in let inv = c.loop-bound.invariant in (h.0, omega arith, inv.0, inv.1)
+    let h = c.requires in let inv = c.loop-bound.invariant in (h.0, omega arith, inv.0)
 
 pub loop-bound-smaller : goal.loop-bound-smaller
 loop-bound-smaller c =
@@ -21,17 +21,15 @@ loop-bound-preserved c =
     let n = c.halve-next.ensures in
     let b = n.closer.1 in (
       omega arith,
-      n.still,
-      (λ J task passed before. n.raised J task passed (inv.2 J task passed before)),
-      λ f. n.found (inv.3 f),
+      (λ J task passed before. n.raised J task passed (inv.1 J task passed before)),
+      λ f. n.found (inv.2 f),
     )
 
 pub returns : goal.returns
 returns c =
     let inv = c.loop-bound.invariant in
     record {
-      found = inv.3;
+      found = inv.2;
       raised = λ J task passed before bytes accepted counts.
-          let l = inv.2 J task passed before bytes accepted counts in omega arith;
-      still = inv.1;
+          let l = inv.1 J task passed before bytes accepted counts in omega arith;
     }

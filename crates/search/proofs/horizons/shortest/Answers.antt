@@ -1,6 +1,8 @@
 -- `shortest` meets its contract: the kept steps alone, or a plan that ends after the first free minute.
-use mathlib.Core.Path.{sym, ap, ◌∙◌}
-use mathlib.Core.Bool.{true≢false}
+use Rattle.search.proofs.Counted.{none_of}
+use Rattle.std.specs.Prelude.{Option, Some, None, is_some}
+use mathlib.Core.Path.{◌≡◌, refl, sym, ap, ◌∙◌}
+use mathlib.Core.Bool.{false}
 use Rattle.leaf.specs.declared.Answer.{Answer}
 use Rattle.search.proofs.HorizonBounds.{whole_when_begun, shortest_when_begun, none_by_first}
 use Rattle.search.proofs.HorizonBounds.{none_when_no_minute_is_free}
@@ -12,34 +14,32 @@ solve-kept-requires c =
     whole_when_begun c.args.file.now _ _ _ c.args.frame _ c.earlier.ensures _ c.until-begun.ensures
     (c.requires)
 
-pub returns-then-found : goal.returns-then-found
-returns-then-found c =
+pub returns-then-is_some : goal.returns-then-is_some
+returns-then-is_some c =
     shortest_when_begun _ _ _ _ c.args.frame _ c.earlier.ensures _ c.until-begun.ensures
-    c.solve-kept.result c.solve-kept.ensures c.if-found.true
+    c.solve-kept.result c.solve-kept.ensures (sym c.is_some.ensures ∙ c.if-is_some.true)
 
 pub returns-then-frame : goal.returns-then-frame
 returns-then-frame c =
-    let none = ap (λ (a : Answer). a.found) c.nothing.ensures in
     record {
-      found = λ e. absurd (true≢false (sym e ∙ none));
+      found = λ a e. cc;
       none = λ e.
           none_when_no_minute_is_free _ _ _ _ c.args.frame _ c.earlier.ensures _ c.until-begun.ensures
           c.solve-kept.result c.solve-kept.ensures
-          c.if-found.false c.if-frame.true;
+          (none_of _ (sym c.is_some.ensures ∙ c.if-is_some.false)) c.if-frame.true;
     }
 
 pub returns-then-wide-low : goal.returns-then-wide-low
 returns-then-wide-low c =
-    let none = ap (λ (a : Answer). a.found) c.nothing-then-wide-low.ensures in
     let w = c.wide.ensures.0 in
     let late = c.if-wide-low.true in
     record {
-      found = λ e. absurd (true≢false (sym e ∙ none));
+      found = λ a e. cc;
       none = λ e J task passed bytes accepted counts.
           let low = c.lowest-low.ensures _ _ _ J task passed
           (none_by_first _ _ _ _ c.args.frame _ c.earlier.ensures _ c.until-begun.ensures
           c.solve-kept.result c.solve-kept.ensures
-          c.if-found.false c.if-frame.false J task passed) bytes accepted counts in
+          (none_of _ (sym c.is_some.ensures ∙ c.if-is_some.false)) c.if-frame.false J task passed) bytes accepted counts in
           omega arith;
     }
 
@@ -54,13 +54,13 @@ returns c =
     let w = c.wide.ensures.0 in
     let early = c.if-wide-low.false in
     record {
-      found = λ e J task passed.
-          c.shortest_from.ensures.found e J task passed
+      found = λ a e J task passed.
+          c.shortest_from.ensures.found a e J task passed
           (λ bytes accepted counts.
           let low = c.lowest-low.ensures _ _ _ J task passed
           (none_by_first _ _ _ _ c.args.frame _ c.earlier.ensures _ c.until-begun.ensures
           c.solve-kept.result c.solve-kept.ensures
-          c.if-found.false c.if-frame.false J task passed) bytes accepted counts in
+          (none_of _ (sym c.is_some.ensures ∙ c.if-is_some.false)) c.if-frame.false J task passed) bytes accepted counts in
           omega arith);
       none = c.shortest_from.ensures.none;
     }

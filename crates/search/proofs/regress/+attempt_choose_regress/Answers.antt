@@ -1,3 +1,4 @@
+use Rattle.std.specs.Prelude.{Option, Some, None, is_some}
 use mathlib.Core.Path.{refl, sym, ap, ◌∙◌, ◌≡◌}
 use mathlib.Core.Bool.{true≢false}
 use native.Mathlib.Omega.{arith}
@@ -9,7 +10,7 @@ use Rattle.facts.proofs.SetLaws.{in_difference_parts}
 use Rattle.states.proofs.CandidateLaws.{subset_at_most}
 use Rattle.times.proofs.Singles.{less_without}
 use Rattle.search.proofs.Completeness.{dead_past_barred, dead_either, dead_until}
-use Rattle.search.proofs.Counted.{found_when_finished}
+use Rattle.search.proofs.Counted.{found_when_finished, none_of}
 use Rattle.search.proofs.regress.+attempt_choose_regress.Goals as goal
 
 pub attempt-take-next-requires : goal.attempt-take-next-requires
@@ -41,9 +42,8 @@ attempt-returns-then-not-all_needed t c =
     let h = c.requires in
     let taken = c.take-next.ensures in
     let next = ready_taken _ _ _ c.args.frame c.args.st h.0 _ h.1 h.2 _ taken in
-    let none = ap (λ (a : Answer). a.found) c.nothing.ensures in
     record {
-      found = λ e. absurd (true≢false (sym e ∙ none));
+      found = λ a e. cc;
       dead = λ e J task stands.
           dead_when_taken_until _ _ _ c.args.frame c.args.st h.0 _ h.1 h.2 _ taken J _ task stands _
           (c.all_needed.ensures (c.if-not-all_needed.true) _ _ next.safe.known J
@@ -74,9 +74,8 @@ attempt-returns-then-not-all_reached t c =
     let taken = c.take-next.ensures in
     let later = h.3 in
     let next = ready_taken _ _ _ c.args.frame c.args.st h.0 _ h.1 h.2 _ taken in
-    let none = ap (λ (a : Answer). a.found) c.nothing-then-not-all_reached.ensures in
     record {
-      found = λ e. absurd (true≢false (sym e ∙ none));
+      found = λ a e. cc;
       dead = λ e J task stands.
           dead_when_taken_until _ _ _ c.args.frame c.args.st h.0 _ h.1 h.2 _ taken J _ task stands _
           (c.all_reached.ensures (c.if-not-all_reached.true) J task.described
@@ -196,11 +195,11 @@ choose-attempt-answer-requires t c =
     let less = less_without c.loop-frame.left c.pick-i.result member in
     (omega arith, (h.0, may.0, may.1, h.1))
 
-pub choose-returns-then-found : goal.choose-returns-then-found
-choose-returns-then-found t c =
+pub choose-returns-then-is_some : goal.choose-returns-then-is_some
+choose-returns-then-is_some t c =
     record {
-      found = λ e. c.attempt-answer.ensures.found c.if-found.true;
-      dead = λ e. absurd (true≢false (sym c.if-found.true ∙ e));
+      found = c.attempt-answer.ensures.found;
+      dead = λ e. let z = rw e at c.is_some.ensures in cc;
     }
 
 pub choose-loop-frame-smaller : goal.choose-loop-frame-smaller
@@ -221,15 +220,14 @@ choose-loop-frame-preserved t c =
       λ J task stands dead.
           inv.2 J task stands
           (dead_either J c.args.frame c.args.st c.loop-frame.left i
-          (rw (← e) (c.attempt-answer.ensures.dead c.if-found.false J task stands))
+          (rw (← e) (c.attempt-answer.ensures.dead (none_of _ (sym c.is_some.ensures ∙ c.if-is_some.false)) J task stands))
           (rw (← e) dead)),
     )
 
 pub choose-returns : goal.choose-returns
 choose-returns t c =
-    let none = ap (λ (a : Answer). a.found) c.nothing.ensures in
     record {
-      found = λ e. absurd (true≢false (sym e ∙ none));
+      found = λ a e. cc;
       dead = λ e J task stands.
           c.loop-frame.invariant.2 J task stands
           (c.in_time.ensures c.event-last.ensures.2 c.loop-frame-test.false J task.described task.timely
@@ -244,9 +242,8 @@ pub regress-returns-then-st-frame : goal.regress-returns-then-st-frame
 regress-returns-then-st-frame t c =
     let h = c.requires.0 in
     record {
-      found = λ e J have count.
-          found_when_finished J _ c.args.frame _ _ h.kept h.safe.known h.starts c.finish.ensures e have
-          count;
+      found = λ a e J have count.
+          found_when_finished J _ c.args.frame _ _ h.kept h.safe.known h.starts c.finish.ensures a e have count;
       dead = λ e J task stands.
           dead_when_unfinished J _ _ _ _ c.args.frame c.args.st _ h task c.finish.ensures (omega arith) e;
     }
@@ -257,9 +254,8 @@ regress-suffices-requires t c =
 
 pub regress-returns-then-not-suffices : goal.regress-returns-then-not-suffices
 regress-returns-then-not-suffices t c =
-    let none = ap (λ (a : Answer). a.found) c.nothing.ensures in
     record {
-      found = λ e. absurd (true≢false (sym e ∙ none));
+      found = λ a e. cc;
       dead = λ e J task stands.
           c.suffices.ensures (c.if-not-suffices.true) J task.described
           task.marked c.requires.0.kept stands;
