@@ -7,7 +7,7 @@ ghost use Rattle.facts.specs.FactSet.{foreign};
 ghost use Rattle.job.specs.Job.{job_in, Fits};
 ghost use Rattle.job.specs.Refusal.{first};
 ghost use Rattle.job.specs.Valid.{job_rows};
-ghost use Rattle.job.specs.declared.refusal.Verdict.TheVariants.{Pass};
+ghost use Rattle.job.specs.Refusal.{pass};
 ghost use Rattle.timeline.specs.Step.{steps_in};
 ghost use Rattle.timeline.specs.Accepted.{Accepted};
 ghost use Rattle.timeline.specs.Timeline.{end};
@@ -66,7 +66,7 @@ pub fn afternoon(job: Job, plan: Plan) -> Task
 
 // The first plan of the list for the halfway set.
 fn first_half(job: Job, halfway: u64) -> Page
-    requires { (first (job_rows (job_in job)) ≡ Pass) × (foreign job.facts halfway ≡ false) }
+    requires { (first (job_rows (job_in job)) ≡ pass) × (foreign job.facts halfway ≡ false) }
     ensures { PageOf (job_in job) halfway 0 result }
 {
     page::plan_at(job, Task::begun(job, halfway, 0, Steps::none()), 0)
@@ -74,7 +74,7 @@ fn first_half(job: Job, halfway: u64) -> Page
 
 // The first plan of the list for the job's goal, from the facts and stores that the morning's plan leaves.
 fn second_half(job: Job, halfway: u64, morning: &[u8]) -> Page
-    requires { (first (job_rows (job_in job)) ≡ Pass) × Accepted (job_in job) halfway morning.now }
+    requires { (first (job_rows (job_in job)) ≡ pass) × Accepted (job_in job) halfway morning.now }
     ensures { PageOf (rest.afternoon (job_in job) (steps_in (job_in job) morning.now)) job.goal 0
         result }
 {

@@ -3,7 +3,7 @@
 #![tactic(auto)]
 
 ghost use Rattle.std.specs.Prelude.{◌≡◌, ◌≤◌};
-ghost use Rattle.job.specs.declared.refusal.Verdict.TheVariants.{Pass};
+ghost use Rattle.job.specs.Refusal.{pass};
 
 use encoding::read_number;
 use job::Job;
@@ -95,7 +95,7 @@ fn print_peaks(rt: &impl Print, job: Job, day: Day) -> io::Result<()> {
 // A day of the job with its plan: its end, its number of steps, the peak of each pool, then the steps. Or why there is
 // no day.
 pub fn print_day(rt: &impl Print, job: Job, day: Day, plan: [u8; Plan::BYTES]) -> io::Result<()>
-    requires { day.verdict ≡ Pass → day.steps ≤ 32 }
+    requires { day.verdict ≡ pass → day.steps ≤ 32 }
 {
     match day.verdict {
         Verdict::Pass => {

@@ -22,7 +22,9 @@ use Rattle.job.proofs.Passed.{passed}
 use Rattle.job.proofs.Table.{first_next, first_append_pass, first_none}
 use Rattle.job.proofs.Values.{job_in_shape, value_holds_job}
 use Rattle.jobfile.specs.Answers.{Written}
-use Rattle.std.specs.Prelude.{Ok, Err}
+use Rattle.std.specs.Prelude.{Option, Some, None, Ok, Err}
+use Rattle.std.specs.Result.{result_ok}
+use Rattle.job.proofs.Table.{some_is_answered, none_is_refused}
 use Rattle.jobfile.specs.File.{file_of}
 use Rattle.jobfile.specs.Answers.{read_file, write_rows, written_of, write_file, left_of, left_by_write}
 use Rattle.jobfile.proofs.Lengths.{file_fits}
@@ -35,7 +37,7 @@ lengths_same : {m n : ℕ} → ◌≡◌ {A = Written} (Ok m) (Ok n) → m ≡ n
 lengths_same h = cc h
 
 no_length_when_refused : {n : ℕ} {why : Refusal} → ◌≡◌ {A = Written} (Err why) (Ok n) → ⊥
-no_length_when_refused h = let z : ◌≡◌ {A = ℕ} 0 1 = cc h in omega arith
+no_length_when_refused h = cc
 
 module _ (job : held.Job) (passes : first (job_rows (job_in job)) ≡ pass) (slice : List ℕ)
     (room : length slice ≡ 4096) where
@@ -59,12 +61,15 @@ module _ (job : held.Job) (passes : first (job_rows (job_in job)) ≡ pass) (sli
 
   module _ (answer : Written) (after : List ℕ) (wrote : Wrote (job_in job) slice answer after) where
     -- 23 is no answer
-    pub file_not_refused : (why : Refusal) → answer ≡ Err why → ⊥
-    file_not_refused why h = no_length_when_refused (sym h ∙ wrote.answers ∙ file_written)
+    pub file_not_refused : result_ok answer ≡ None → ⊥
+    file_not_refused h =
+        let refused = none_is_refused answer h in
+        no_length_when_refused (sym refused.1 ∙ wrote.answers ∙ file_written)
 
     -- the file ends in the slice
-    pub file_in_slice : (n : ℕ) → answer ≡ Ok n → n ≤ length after
-    file_in_slice n h =
+    pub file_in_slice : (n : ℕ) → result_ok answer ≡ Some n → n ≤ length after
+    file_in_slice n ok =
+        let h = some_is_answered answer n ok in
         let J = job_in job in
         let fits = file_fits J (job_in_shape job) (passed J passes) in
         let size : length (file_of J) ≡ n = lengths_same (sym file_written ∙ sym wrote.answers ∙ h) in
@@ -72,19 +77,19 @@ module _ (job : held.Job) (passes : first (job_rows (job_in job)) ≡ pass) (sli
         let same = length_overwrite slice 0 (file_of J) (omega arith) in
         omega arith
 
-    pub file_length : (n : ℕ) → answer ≡ Ok n → n ≡ length (take n after)
+    pub file_length : (n : ℕ) → result_ok answer ≡ Some n → n ≡ length (take n after)
     file_length n h = sym (length-take-le n after (file_in_slice n h))
 
 -- what the writer leaves in the slice, up to the file's length, is a file of which J is resumed
 pub file_of_job : (job : held.Job) (slice : List ℕ) (answer : Written) (after : List ℕ)
-    → Wrote (job_in job) slice answer after → ByteDurations job → (n : ℕ) → answer ≡ Ok n
+    → Wrote (job_in job) slice answer after → ByteDurations job → (n : ℕ) → result_ok answer ≡ Some n
     → (start : ℕ) (stocks : List ℕ) (J : Job) → resumed (job_in job) start stocks ≡ J → first (limit_rows J) ≡ pass
     → FileOf J (take n after) start stocks
 file_of_job job slice answer after wrote durations n h start stocks J same passes =
     record {
       value = job_value (job_in job);
-      read = subst (λ (bytes : List ℕ). read_file (take n bytes) ≡ record { verdict = pass; job = job_value (job_in job) })
-          (sym wrote.leaves) (read_after_write_slice job slice n durations (sym wrote.answers ∙ h));
+      read = subst (λ (bytes : List ℕ). read_file (take n bytes) ≡ Ok (job_value (job_in job)))
+          (sym wrote.leaves) (read_after_write_slice job slice n durations (sym wrote.answers ∙ some_is_answered answer n h));
       same = ap (λ (K : Job). resumed K start stocks) (value_holds_job (job_in job) (job_in_shape job)) ∙ same;
       passes = passes;
     }

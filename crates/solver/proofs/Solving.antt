@@ -1,5 +1,6 @@
 -- From the answer of the search to the makespan.
 -- Assumes nothing.
+use Rattle.std.specs.Prelude.{Option, Some, None}
 use Prim.Native.Nat.{ℕ, ◌<◌}
 use mathlib.Core.Path.{◌≡◌}
 use mathlib.Core.Bool.{true, false}
@@ -46,21 +47,21 @@ module _ (J : Job) (frame : Frame) (plain : frame.least ≡ 0) (passed : Passed 
       }
 
   -- the search was up to the deadline
-  pub solved : (r : Answer) → frame.horizon ≡ J.deadline
-      → (r.found ≡ true → FoundFor J frame r × NoneBefore J frame r.end) → (r.found ≡ false → NoneBy J frame)
+  pub solved : (r : Option Answer) → frame.horizon ≡ J.deadline
+      → ((a : Answer) → r ≡ Some a → FoundFor J frame a × NoneBefore J frame a.end) → (r ≡ None → NoneBy J frame)
       → Solved J frame.goal frame.first (in_order J frame.kept) r
   solved r last found none =
       record {
-        found = λ e.
-            let f = (found e).0 in
-            let counts = counts_by_minute J frame plain (bytes_in r)
-            (found_counts J frame r f (λ x Q i. inl (early_steps x Q i)) rising) in
+        found = λ a e.
+            let f = (found a e).0 in
+            let counts = counts_by_minute J frame plain (bytes_in a)
+            (found_counts J frame a f (λ x Q i. inl (early_steps x Q i)) rising) in
             let plan = f.plan in
             let in_time = plan.in_time in
-            let least : LeastEnd J frame.goal frame.first (in_order J frame.kept) r.end =
+            let least : LeastEnd J frame.goal frame.first (in_order J frame.kept) a.end =
             record {
-              plan = (bytes_in r, plan.accepted, counts, plan.end);
-              least = λ bytes a c. (found e).1 bytes a (counts_by_place J frame plain bytes c);
+              plan = (bytes_in a, plan.accepted, counts, plan.end);
+              least = λ bytes b c. (found a e).1 bytes b (counts_by_place J frame plain bytes c);
             } in (
               record {
                 few = plan.few;
@@ -71,7 +72,7 @@ module _ (J : Job) (frame : Frame) (plain : frame.least ≡ 0) (passed : Passed 
                 in_time = omega arith;
               },
               counts,
-              makespan_of_least_end J frame.goal frame.first _ passed begun_steps r.end least,
+              makespan_of_least_end J frame.goal frame.first _ passed begun_steps a.end least,
             );
         none = λ e.
             makespan_when_none_accepted J frame.goal frame.first _ passed begun_steps

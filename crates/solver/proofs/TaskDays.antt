@@ -1,5 +1,6 @@
 -- A day of a job with its own start and stocks, begun or whole: a task that fits, and its answer is one for the job.
 -- Assumes nothing.
+use Rattle.std.specs.Prelude.{Option}
 use Prim.Native.Nat.{ℕ}
 use mathlib.Core.Path.{◌≡◌, refl, sym, subst}
 use mathlib.Core.List.{[]}
@@ -26,7 +27,7 @@ module _ (job : held.Job) (goal minute : ℕ) (kept : Steps) (task : Task) (is :
       subst (λ (t : Task). TaskFits (day_of job t) t) (sym is)
       (subst (λ (J : Job). TaskFits J (begun_day job goal minute kept)) (sym (resumed_as_it_is job)) fits)
 
-  pub begun_day_solved : (r : Answer)
+  pub begun_day_solved : (r : Option Answer)
       → Solved (day_of job task) task.goal task.first (in_order (day_of job task) task.kept) r
       → Solved (job_in job) goal minute (in_order (job_in job) kept) r
   begun_day_solved r solved =
@@ -47,7 +48,7 @@ module _ (job : held.Job) (task : Task) (is : task ≡ whole_day job) where
         minute = omega arith;
       })
 
-  pub whole_day_solved : (r : Answer)
+  pub whole_day_solved : (r : Option Answer)
       → Solved (day_of job task) task.goal task.first (in_order (day_of job task) task.kept) r
       → Solved (job_in job) job.goal 0 [] r
   unfolding tabulate

@@ -1,5 +1,6 @@
 -- The tables of a day, with the frame of a task: what the search is asked, and its answer.
 -- Assumes nothing.
+use Rattle.std.specs.Prelude.{Option, Some, None}
 use Prim.Native.Nat.{ℕ, ◌+◌, ◌*◌}
 use mathlib.Core.Path.{◌≡◌, refl, sym, ap, ◌∙◌, subst}
 use mathlib.Core.Bool.{true, false}
@@ -208,9 +209,9 @@ module _ (day : held.Job) (task : Task) (fits : TaskFits (job_in day) task) (fra
               tables.landmarks.closed)
 
   -- the answer of the search for the frame is the answer for the task
-  pub solved_task : (r : Answer) → (r.found ≡ true → FoundFor J frame r × NoneBefore J frame r.end)
-      → (r.found ≡ false → NoneBy J frame) → Solved J task.goal task.first (in_order J task.kept) r
+  pub solved_task : (r : Option Answer) → ((a : Answer) → r ≡ Some a → FoundFor J frame a × NoneBefore J frame a.end)
+      → (r ≡ None → NoneBy J frame) → Solved J task.goal task.first (in_order J task.kept) r
   solved_task r found none =
       solved J whole refl (within_limits J passes) fits.known fits.early fits.rising r refl
-      (subst (λ (f : Frame). r.found ≡ true → FoundFor J f r × NoneBefore J f r.end) same found)
-      (subst (λ (f : Frame). r.found ≡ false → NoneBy J f) same none)
+      (λ a e. subst (λ (f : Frame). FoundFor J f a × NoneBefore J f a.end) same (found a e))
+      (λ e. subst (λ (f : Frame). NoneBy J f) same (none e))

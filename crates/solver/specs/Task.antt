@@ -1,6 +1,6 @@
 -- What the search is asked, and what it promises: a plan with the least end of those that count, or there is none.
 -- Assumes nothing.
-use Rattle.std.specs.Prelude.{ℕ, ◌<◌, ◌≡◌, true, false, List, length, get_or}
+use Rattle.std.specs.Prelude.{ℕ, ◌<◌, ◌≡◌, true, false, List, length, get_or, Option, Some, None}
 use Rattle.facts.specs.FactSet.{foreign}
 use Rattle.job.specs.declared.Job as held
 use Rattle.job.specs.Refusal.{pass}
@@ -48,10 +48,10 @@ pub record TaskFits (J : Job) (task : Task) : Type 0 where
 
 -- the answer for a goal, with the begun steps K and the others from the minute on: a plan that counts, with the least
 -- end of the accepted ones; or there is none
-pub record Solved (J : Job) (goal minute : ℕ) (K : List Step) (r : Answer) : Type 0 where
-  pub found : r.found ≡ true
-      → Found J goal J.deadline r × Counts J minute K (bytes_in r) × (makespan_from J goal minute K ≡ ends_at r.end)
-  pub none : r.found ≡ false → makespan_from J goal minute K ≡ no_plan
+pub record Solved (J : Job) (goal minute : ℕ) (K : List Step) (r : Option Answer) : Type 0 where
+  pub found : (a : Answer) → r ≡ Some a
+      → Found J goal J.deadline a × Counts J minute K (bytes_in a) × (makespan_from J goal minute K ≡ ends_at a.end)
+  pub none : r ≡ None → makespan_from J goal minute K ≡ no_plan
 
 -- ---- what inner functions promise
 

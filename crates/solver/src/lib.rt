@@ -5,7 +5,7 @@ ghost use Rattle.std.specs.Prelude.{◌≡◌, ◌≤◌, replicate};
 ghost use Rattle.job.specs.Job.{job_in, Fits};
 ghost use Rattle.job.specs.Refusal.{first};
 ghost use Rattle.job.specs.Valid.{job_rows};
-ghost use Rattle.job.specs.declared.refusal.Verdict.TheVariants.{Pass};
+ghost use Rattle.job.specs.Refusal.{pass};
 ghost use Rattle.tables.specs.Tables.{Known};
 ghost use Rattle.times.specs.Numbers.{none};
 ghost use Rattle.leaf.specs.Order.{in_order};
@@ -13,7 +13,7 @@ ghost use Rattle.solver.specs.Task.{begun_day, whole_day, day_of, StartBefore, T
 
 use earliest::set_time;
 use job::{Job, resumed};
-use jobfile::{Layout, Written};
+use jobfile::Layout;
 use leaf::Answer;
 use pairs::Pair;
 use search::horizons;
@@ -71,8 +71,8 @@ pub fn fill_times(times: &mut [u32], day: Job, kept: Steps, minute: u16) -> u64
 
 // A shortest plan of the task that counts, from the tables of the day, the earliest times and landmarks of what is left
 // of it, and the file of the job.
-pub fn solve(job: Job, task: Task) -> Answer
-    requires { (first (job_rows (job_in job)) ≡ Pass) × TaskFits (day_of job task) task }
+pub fn solve(job: Job, task: Task) -> Option<Answer>
+    requires { (first (job_rows (job_in job)) ≡ pass) × TaskFits (day_of job task) task }
     ensures { Solved (day_of job task) task.goal task.first (in_order (day_of job task) task.kept) result }
 {
     let stocks = task.stocks;
@@ -86,9 +86,6 @@ pub fn solve(job: Job, task: Task) -> Answer
     let frame = Frame::of(day, task.goal, task.first, kept);
     cliques::fill(&mut sets, &mut numbers, &times, frame, hand);
     let mut file = [0u8; Layout::FILE];
-    let written = writer::write(job, &mut file);
-    let Written::Length(length) = written else {
-        return leaf::nothing();
-    };
+    let length = writer::write(job, &mut file).ok()?;
     horizons::shortest(&sets, &numbers, &times, &file[..length], frame)
 }

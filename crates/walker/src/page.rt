@@ -3,7 +3,7 @@ ghost use Rattle.std.specs.Prelude.{◌≡◌};
 ghost use Rattle.job.specs.Job.{job_in};
 ghost use Rattle.job.specs.Refusal.{first};
 ghost use Rattle.job.specs.Valid.{job_rows};
-ghost use Rattle.job.specs.declared.refusal.Verdict.TheVariants.{Pass};
+ghost use Rattle.job.specs.Refusal.{pass};
 ghost use Rattle.search.specs.Horizons.{until, Whole};
 ghost use Rattle.solver.specs.Task.{day_of, TaskFits};
 ghost use Rattle.walker.specs.Page.{WholeTask, PageFrom, PageOf};
@@ -88,7 +88,7 @@ fn plan_from(
 
 // The plan at the place of the list of the task, which is of a whole day.
 pub fn plan_at(job: Job, task: Task, place: u32) -> Page
-    requires { (first (job_rows (job_in job)) ≡ Pass) × TaskFits (day_of job task) task × WholeTask task }
+    requires { (first (job_rows (job_in job)) ≡ pass) × TaskFits (day_of job task) task × WholeTask task }
     ensures { PageOf (day_of job task) task.goal place result }
 {
     let stocks = task.stocks;
