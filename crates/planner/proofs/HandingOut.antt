@@ -1,12 +1,13 @@
 -- The answer of the search, handed out: a plan with the least end of those that count, or that there is none.
 -- Assumes nothing.
 use Rattle.job.specs.Refusal.{reply_of}
-use Rattle.std.specs.Prelude.{Result, Ok, Err}
+use Rattle.std.specs.Prelude.{Option, Some, None, Result, Ok, Err}
 use Prim.Native.Nat.{ℕ}
 use mathlib.Core.Path.{◌≡◌, refl, sym, ap, ◌∙◌, subst}
 use mathlib.Core.Bool.{true, false}
 use mathlib.Core.Logic.{⊎_elim}
 use mathlib.Core.List.{List}
+use Rattle.std.specs.Option.{ok_or}
 use Rattle.encoding.specs.Bytes.{overwrite}
 use Rattle.job.specs.declared.refusal.Refusal.{Refusal}
 use Rattle.job.specs.Job.{Job}
@@ -24,28 +25,30 @@ use Rattle.planner.specs.Plan.{RefusedWith, HandsOut, PlansFor, Whole, HandedOut
 pub refused_with_lem : (slice : List ℕ) (why : Refusal) (r : Result Day Refusal) → r ≡ Err why → RefusedWith why slice r slice
 refused_with_lem slice why r told = record { answers = told; replies = ap reply_of told; keeps = refl }
 
--- ---- the ways out of `hand_out`
-pub handed_none : (a : Answer) (none : Refusal) (slice : List ℕ) (r : Result Day Refusal) → a.found ≡ false → r ≡ Err none
-    → HandedOut a none slice r slice
-handed_none a none slice r e told = record { found = λ h. not_both h e; none = λ h. (told, refl) }
+-- ---- whether there is a plan to hand out
+pub plan_given : (answer : Option Answer) (none : Refusal) (a : Answer) → ok_or answer none ≡ Ok a → answer ≡ Some a
+plan_given (Some x) none a h = cc
+plan_given None none a h = cc
 
-pub handed_plan : (a : Answer) (none : Refusal) (slice after : List ℕ) → a.found ≡ true
-    → after ≡ overwrite slice 0 (bytes_in a)
-    → HandedOut a none slice (Ok (record { end = a.end; steps = a.count; peaks = a.peaks })) after
-handed_plan a none slice after e copied = record { found = λ h. (refl, copied); none = λ h. not_both e h }
+pub no_plan_given : (answer : Option Answer) (none why : Refusal) → ok_or answer none ≡ Err why
+    → (answer ≡ None) × (none ≡ why)
+no_plan_given (Some x) none why h = (cc, cc)
+no_plan_given None none why h = (refl, cc)
 
 -- ---- an answer of which the search's promise holds
-module _ (J : Job) (goal minute : ℕ) (K : List Step) (a : Answer) (solved : Solved J goal minute K a) where
-  pub whole_when_solved : Whole a
-  whole_when_solved e = let found = (solved.found e).0 in (found.few, found.whole)
+module _ (J : Job) (goal minute : ℕ) (K : List Step) (answer : Option Answer) (solved : Solved J goal minute K answer) where
+  pub whole_when_solved : Whole answer
+  whole_when_solved a e = let found = (solved.found a e).0 in (found.few, found.whole)
 
-  module _ (none : Refusal) (slice : List ℕ) (r : Result Day Refusal) (after : List ℕ) (handed : HandedOut a none slice r after) where
-    hands_out : a.found ≡ true → HandsOut J goal minute K slice a.end r after
-    hands_out e =
-        let found = solved.found e in
+  module _ (none : Refusal) (slice : List ℕ) (r : Result Day Refusal) (after : List ℕ)
+      (handed : HandedOut answer none slice r after) where
+    hands_out : (a : Answer) → answer ≡ Some a → HandsOut J goal minute K slice a.end r after
+    hands_out a e =
+        let found = solved.found a e in
         let plan = found.0 in
         let told = told_of_bytes J (bytes_in a) a.end a.count a.peaks plan.whole plan.end plan.peaks in
-        let answers = (handed.found e).0 ∙ ap Ok (sym told) in
+        let handed_plan = subst (λ (x : Option Answer). HandedOut x none slice r after) e handed in
+        let answers = handed_plan.0 ∙ ap Ok (sym told) in
         record {
           bytes = bytes_in a;
           accepted = plan.accepted;
@@ -53,20 +56,21 @@ module _ (J : Job) (goal minute : ℕ) (K : List Step) (a : Answer) (solved : So
           end = plan.end;
           answers = answers;
           replies = ap reply_of answers;
-          leaves = (handed.found e).1;
+          leaves = handed_plan.1;
         }
 
-    refuses : a.found ≡ false → RefusedWith none slice r after
+    refuses : answer ≡ None → RefusedWith none slice r after
     refuses e =
-        let h = handed.none e in
+        let h = subst (λ (x : Option Answer). HandedOut x none slice r after) e handed in
         subst (λ (bytes : List ℕ). RefusedWith none slice r bytes) (sym h.1) (refused_with_lem slice none r h.0)
 
     pub plans_when_solved : PlansFor (makespan_from J goal minute K) none J goal minute K slice r after
-    plans_when_solved =
-        ⊎_elim (λ e. by_makespan _ (solved.found e).2 (hands_out e))
-        (λ e. by_makespan _ (solved.none e) (refuses e))
-        (decided a.found)
+    plans_when_solved = by_answer answer refl
       where
         by_makespan : (m : Makespan) → makespan_from J goal minute K ≡ m → PlansFor m none J goal minute K slice r after
             → PlansFor (makespan_from J goal minute K) none J goal minute K slice r after
         by_makespan m e h = subst (λ (k : Makespan). PlansFor k none J goal minute K slice r after) (sym e) h
+
+        by_answer : (x : Option Answer) → answer ≡ x → PlansFor (makespan_from J goal minute K) none J goal minute K slice r after
+        by_answer (Some a) e = by_makespan _ (solved.found a e).2 (hands_out a e)
+        by_answer None e = by_makespan _ (solved.none e) (refuses e)

@@ -1,6 +1,7 @@
 -- What follows from the planner's promise: the plan handed out is a shortest one, 22 means that there is none, and
 -- where there is one a plan is handed out.
 -- Assumes nothing.
+use Rattle.timeline.specs.Day.{told}
 use Rattle.std.specs.Prelude.{Result, Ok, Err}
 use Prim.Native.Nat.{ℕ, ◌≤◌}
 use mathlib.Core.Path.{◌≡◌, refl, sym, ap, ◌∙◌, subst}
@@ -36,7 +37,7 @@ use Rattle.planner.specs.Plan.{plan_refusals, HandsOut, PlansFor, PlansBy, Plans
 -- an answer that tells of a plan refuses nothing, and a refusal is its own
 told_not_refused : (answer : Result Day Refusal) (told : Day) (why : Refusal) → answer ≡ Ok told → verdict_of answer ≡ Err why
     → ⊥
-told_not_refused answer told why same h = let z : ◌≡◌ {A = ℕ} 0 1 = cc in omega arith
+told_not_refused answer day why same h = let z = rw same at h in cc
 
 pub refusals_same : (answer : Result Day Refusal) (w v : Refusal) → answer ≡ Err w → verdict_of answer ≡ Err v → w ≡ v
 refusals_same answer w v told h = cc
@@ -72,20 +73,20 @@ shortest_day_without_26 J limits e ends =
 module _ (J : Job) (goal minute : ℕ) (K : List Step) (slice : List ℕ) (answer : Result Day Refusal) (after : List ℕ) where
   -- the end told is the least one of all accepted plans that count; the slice has such a plan, of at most 32 steps
   pub record Shortest : Type 0 where
-    pub least : LeastEnd J goal minute K answer.end
-    pub few : answer.steps ≤ 32
-    pub hands_out : HandsOut J goal minute K slice answer.end answer after
+    pub least : LeastEnd J goal minute K (told answer).end
+    pub few : (told answer).steps ≤ 32
+    pub hands_out : HandsOut J goal minute K slice (told answer).end answer after
 
   pub shortest_handed_out : (e : ℕ) → LeastEnd J goal minute K e → HandsOut J goal minute K slice e answer after
       → Shortest
   shortest_handed_out e least p =
-      let told : answer.end ≡ e = ap (λ (d : Result Day Refusal). d.end) p.answers ∙ p.end in
-      let count = ap (λ (d : Result Day Refusal). d.steps) p.answers in
+      let ends : (told answer).end ≡ e = ap (λ (d : Result Day Refusal). (told d).end) p.answers ∙ p.end in
+      let count = ap (λ (d : Result Day Refusal). (told d).steps) p.answers in
       let most = few_steps_of_accepted J goal p.bytes p.accepted in
       record {
-        least = subst (LeastEnd J goal minute K) (sym told) least;
+        least = subst (LeastEnd J goal minute K) (sym ends) least;
         few = omega arith;
-        hands_out = subst (λ (k : ℕ). HandsOut J goal minute K slice k answer after) (sym told) p;
+        hands_out = subst (λ (k : ℕ). HandsOut J goal minute K slice k answer after) (sym ends) p;
       }
 
   module _ (within : Passed J) (none : Refusal) where

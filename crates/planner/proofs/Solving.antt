@@ -1,6 +1,6 @@
 -- The ways out of the planner: a job or a slice that is refused, and the answer of the search handed out.
 -- Assumes nothing.
-use Rattle.std.specs.Prelude.{Result, Ok, Err}
+use Rattle.std.specs.Prelude.{Option, Result, Ok, Err}
 use Prim.Native.Nat.{ℕ, ◌≤◌, ◌<◌}
 use mathlib.Core.Path.{◌≡◌, sym, ◌∙◌, subst}
 use mathlib.Core.List.{List, []}
@@ -41,7 +41,7 @@ module _ (J : Job) (slice : List ℕ) where
       (refused_with_lem slice PlanSlice r told)
 
   -- what the search found, or that it found nothing
-  pub plans_answered : first (job_rows J) ≡ pass → 96 ≤ length slice → (a : Answer) → Solved J J.goal 0 [] a
+  pub plans_answered : first (job_rows J) ≡ pass → 96 ≤ length slice → (a : Option Answer) → Solved J J.goal 0 [] a
       → (r : Result Day Refusal) (after : List ℕ) → HandedOut a NoPlan slice r after → Plans J slice r after
   plans_answered passes room a solved r after handed =
       by_verdict pass r after

@@ -1,6 +1,6 @@
 -- What the planner promises: a shortest plan in the lent slice, or why there is none.
 -- Assumes nothing.
-use Rattle.std.specs.Prelude.{Result, Ok, Err}
+use Rattle.std.specs.Prelude.{Option, Some, None, Result, Ok, Err}
 use Rattle.std.specs.Prelude.{ℕ, ◌*◌, ◌≤◌, ◌≡◌, true, false, List, [], ◌∷◌, ◌++◌, ltb, length}
 use Rattle.encoding.specs.Bytes.{overwrite}
 use Rattle.job.specs.Job.{Job}
@@ -61,11 +61,11 @@ Plans J slice answer after = PlansBy (first (plan_refusals J slice)) J slice ans
 -- ---- what inner functions promise
 
 -- where there is a plan, its bytes are whole
-abbrev pub Whole : Answer → Type 0
-Whole a = a.found ≡ true → (a.count ≤ 32) × (length (bytes_in a) ≡ 3 * a.count)
+abbrev pub Whole : Option Answer → Type 0
+Whole r = (a : Answer) → r ≡ Some a → (a.count ≤ 32) × (length (bytes_in a) ≡ 3 * a.count)
 
 -- the answer of the search as a call tells it: the plan at the front of the slice, or the refusal that there is none
-pub record HandedOut (a : Answer) (why : Refusal) (slice : List ℕ) (r : Result Day Refusal) (after : List ℕ) : Type 0 where
-  pub found : a.found ≡ true
-      → (r ≡ Ok (record { end = a.end; steps = a.count; peaks = a.peaks })) × (after ≡ overwrite slice 0 (bytes_in a))
-  pub none : a.found ≡ false → (r ≡ Err why) × (after ≡ slice)
+abbrev pub HandedOut : Option Answer → Refusal → List ℕ → Result Day Refusal → List ℕ → Type 0
+HandedOut (Some a) why slice r after =
+    (r ≡ Ok (record { end = a.end; steps = a.count; peaks = a.peaks })) × (after ≡ overwrite slice 0 (bytes_in a))
+HandedOut None why slice r after = (r ≡ Err why) × (after ≡ slice)

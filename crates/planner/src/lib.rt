@@ -9,22 +9,19 @@ ghost use Rattle.planner.specs.Plan.{Plans};
 
 use hand_out::hand_out;
 use job::Job;
-use job::refusal::{Refusal, Verdict};
+use job::refusal::Refusal;
 use job::validate::validate;
 use solver::Task;
 use timeline::{Day, Plan};
 
 // Writes a shortest plan to the front of the slice, and returns its end, its number of steps and its peaks. A refusal
 // changes no byte.
-pub fn plan(job: Job, out: &mut [u8]) -> Day
+pub fn plan(job: Job, out: &mut [u8]) -> Result<Day, Refusal>
     ensures { Plans (job_in job) out.old result out.new }
 {
-    let verdict = validate(job);
-    if let Verdict::Refused(why) = verdict {
-        return Day::refused(why);
-    }
+    validate(job)?;
     if out.len() < Plan::BYTES {
-        return Day::refused(Refusal::PlanSlice);
+        return Err(Refusal::PlanSlice);
     }
     let answer = solver::solve(job, Task::whole_day(job));
     hand_out(answer, Refusal::NoPlan, out)

@@ -1,5 +1,5 @@
 -- `plan` meets its contract: two refusals, and the answer of the search handed out.
-use mathlib.Core.Path.{sym, ◌∙◌}
+use Rattle.std.proofs.Common.{rules, Err, ◌≡◌, refl, sym, ◌∙◌}
 use mathlib.Core.List.{[]}
 use Rattle.job.specs.Job.{job_in}
 use Rattle.solver.proofs.TaskDays.{whole_day_fits, whole_day_solved}
@@ -7,19 +7,20 @@ use Rattle.planner.proofs.HandingOut.{whole_when_solved}
 use Rattle.planner.proofs.Solving.{plans_refused, plans_short, plans_answered}
 use Rattle.planner.proofs.plan.Goals as goal
 
-pub returns-in-Refused : goal.returns-in-Refused
-returns-in-Refused c =
-    plans_refused (job_in c.args.job) c.args.out.now _ _ c.refused.ensures (sym c.validate-verdict.ensures ∙ c.in-Refused.is)
+pub returns-in_err-validate : goal.returns-in_err-validate
+returns-in_err-validate c =
+    let e : c.from_residual.result ≡ Err c.in_err-validate.field-0.0 = search rules in
+    plans_refused (job_in c.args.job) c.args.out.now _ _ e (sym c.validate.ensures ∙ c.in_err-validate.was)
 
 pub returns-then-out-lt-BYTES : goal.returns-then-out-lt-BYTES
 returns-then-out-lt-BYTES c =
-    let pass = sym c.validate-verdict.ensures ∙ c.in_default.is in
-    plans_short (job_in c.args.job) c.args.out.now _ c.refused-then-out-lt-BYTES.ensures pass c.if-out-lt-BYTES.true
+    let passes = sym c.validate.ensures ∙ c.in_ok-validate.was in
+    plans_short (job_in c.args.job) c.args.out.now _ refl passes c.if-out-lt-BYTES.true
 
 pub solve-answer-requires : goal.solve-answer-requires
 solve-answer-requires c =
-    let pass = sym c.validate-verdict.ensures ∙ c.in_default.is in
-    (pass, whole_day_fits c.args.job _ c.whole_day.ensures pass)
+    let passes = sym c.validate.ensures ∙ c.in_ok-validate.was in
+    (passes, whole_day_fits c.args.job _ c.whole_day.ensures passes)
 
 pub hand_out-requires : goal.hand_out-requires
 hand_out-requires c =
@@ -28,6 +29,6 @@ hand_out-requires c =
 
 pub returns : goal.returns
 returns c =
-    let pass = sym c.validate-verdict.ensures ∙ c.in_default.is in
+    let passes = sym c.validate.ensures ∙ c.in_ok-validate.was in
     let solved = whole_day_solved c.args.job _ c.whole_day.ensures c.solve-answer.result c.solve-answer.ensures in
-    plans_answered (job_in c.args.job) c.args.out.now pass c.if-out-lt-BYTES.false c.solve-answer.result solved _ _ c.hand_out.ensures
+    plans_answered (job_in c.args.job) c.args.out.now passes c.if-out-lt-BYTES.false c.solve-answer.result solved _ _ c.hand_out.ensures
