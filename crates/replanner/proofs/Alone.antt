@@ -1,6 +1,7 @@
 -- The kept steps alone: whether they are accepted for the goal is what the checker says of them, and from the deadline
 -- on no other plan counts.
 -- Assumes nothing.
+use Rattle.std.specs.Prelude.{Option, Some, None}
 use Rattle.std.specs.Prelude.{Result, Ok, Err}
 use Prim.Native.Nat.{ℕ, ◌≤◌, ◌<◌}
 use mathlib.Core.Path.{◌≡◌, refl, sym, ap, ◌∙◌, subst}
@@ -31,7 +32,7 @@ use Rattle.makespan.specs.Makespan.{is_pass, passes, Counts}
 use Rattle.makespan.proofs.LeastEnds.{BegunSteps, ends_by_deadline, makespan_when_none_accepted}
 use Rattle.tables.specs.declared.Steps.{Steps}
 use Rattle.leaf.specs.declared.Answer.{Answer}
-use Rattle.leaf.specs.Answer.{no_answer, Answers}
+use Rattle.leaf.specs.Answer.{Answers}
 use Rattle.leaf.specs.Order.{placed, in_order}
 use Rattle.leaf.proofs.InOrder.{in_order_own}
 use Rattle.leaf.proofs.Checks.{accepted_passes, answer_found, answer_bytes, answer_not_found}
@@ -69,51 +70,51 @@ module _ (J : Job) (goal minute : ℕ) (kept : Steps) (valid : first (job_rows J
       subst (λ (P : List Step). passes J goal P ≡ true) same (ap is_pass (steps_of_accepted J goal bytes accepted))
 
   -- r is what the checker says of them
-  module _ (r : Answer) (checked : Answers J goal J.deadline kept r) where
-    found_passes : r.found ≡ true → passes J goal K ≡ true
-    found_passes e =
-        let found = answer_found J goal J.deadline kept fit.known.few r checked e in
-        let same = answer_bytes J goal J.deadline kept r checked e in
+  module _ (r : Option Answer) (checked : Answers J goal J.deadline kept r) where
+    found_passes : (a : Answer) → r ≡ Some a → passes J goal K ≡ true
+    found_passes a e =
+        let found = answer_found J goal J.deadline kept fit.known.few r checked a e in
+        let same = answer_bytes J goal J.deadline kept r checked a e in
         passes_when_accepted (plan_bytes K) kept_read_back
         (subst (λ (bytes : List ℕ). Accepted J goal bytes) same found.accepted)
 
-    not_found_fails : r.found ≡ false → passes J goal K ≡ false
+    not_found_fails : r ≡ None → passes J goal K ≡ false
     not_found_fails e = ⊎_elim (λ h. absurd (nothing h)) (λ h. h) (decided (passes J goal K))
       where
         nothing : passes J goal K ≡ true → ⊥
         nothing h =
             let accepted = (accepted_alone J goal minute K within begun_steps h).0 in
-            let day = Ok (told_of J (steps_in J (plan_bytes K))) in
+            let day = told_of J (steps_in J (plan_bytes K)) in
             answer_not_found J goal J.deadline kept r checked e day
-            (accepted_passes J goal (plan_bytes K) (limits_of_pass J valid) own accepted) refl
+            (accepted_passes J goal (plan_bytes K) (limits_of_pass J valid) own accepted)
             (ends_by_deadline J goal (plan_bytes K) accepted)
 
     -- they are accepted
-    pub replanned_alone : r.found ≡ true → Replanned J goal minute K r
-    replanned_alone e =
-        let same = answer_bytes J goal J.deadline kept r checked e in
+    pub replanned_alone : (a : Answer) → r ≡ Some a → Replanned J goal minute K (Some a)
+    replanned_alone a e =
+        let same = answer_bytes J goal J.deadline kept r checked a e in
         record {
           alone = λ h.
               record {
-                found = e;
-                plan = answer_found J goal J.deadline kept fit.known.few r checked e;
+                answer = a;
+                found = refl;
+                plan = answer_found J goal J.deadline kept fit.known.few r checked a e;
                 bytes = same;
                 steps = ap (steps_in J) same ∙ kept_read_back;
               };
-          solved = λ h. not_both (found_passes e) h;
+          solved = λ h. not_both (found_passes a e) h;
         }
 
     -- they are not, and the search answers
-    pub replanned_solved : r.found ≡ false → (s : Answer) → Solved J goal minute K s → Replanned J goal minute K s
+    pub replanned_solved : r ≡ None → (s : Option Answer) → Solved J goal minute K s → Replanned J goal minute K s
     replanned_solved e s solved = record { alone = λ h. not_both h (not_found_fails e); solved = λ h. solved }
 
     -- they are not, and it is too late for others: an accepted plan that counts would be these steps
-    pub replanned_late : r.found ≡ false → J.deadline ≤ minute → (s : Answer) → s ≡ no_answer
-        → Replanned J goal minute K s
-    replanned_late e late s nothing =
-        replanned_solved e s
+    pub replanned_late : r ≡ None → J.deadline ≤ minute → Replanned J goal minute K None
+    replanned_late e late =
+        replanned_solved e None
         (record {
-          found = λ h. not_both h (ap (λ (x : Answer). x.found) nothing);
+          found = λ a h. cc;
           none = λ h. makespan_when_none_accepted J goal minute K within begun_steps none;
         })
       where

@@ -1,5 +1,6 @@
 -- The ways out of the replanner: each refusal in its turn, and the answer handed out.
 -- Assumes nothing.
+use Rattle.std.specs.Prelude.{Option, Some, None}
 use Rattle.std.specs.Prelude.{Result, Ok, Err}
 use Prim.Native.Nat.{ℕ, ◌≤◌, ◌<◌}
 use mathlib.Core.Path.{◌≡◌, sym, ap, ◌∙◌, subst}
@@ -85,15 +86,16 @@ module _ (J : Job) (current : List ℕ) (minute goal : ℕ) (slice : List ℕ) w
             refused_by PlanSlice r told
             (slice_rows ∙ first_here PlanSlice _ [] (lt-ltb (length slice) 96 short))
 
-        module _ (room : 96 ≤ length slice) (a : Answer) (replanned : Replanned J goal minute K a) (r : Result Day Refusal)
-            (after : List ℕ) (handed : HandedOut a NoPlanWithKept slice r after) where
+        module _ (room : 96 ≤ length slice) (found : Option Answer) (replanned : Replanned J goal minute K found) (r : Result Day Refusal)
+            (after : List ℕ) (handed : HandedOut found NoPlanWithKept slice r after) where
           kept_handed_out : passes J goal K ≡ true → HandsOutKept J K slice r after
           kept_handed_out e =
               let alone = replanned.alone e in
               let plan = alone.plan in
+              let a = alone.answer in
               let told = told_of_bytes J (bytes_in a) a.end a.count a.peaks plan.whole plan.end
               plan.peaks in
-              let out = handed.found alone.found in
+              let out = subst (λ (x : Option Answer). HandedOut x NoPlanWithKept slice r after) alone.found handed in
               let answers = out.0 ∙ ap Ok (sym told ∙ ap (told_of J) alone.steps) in
               record {
                 answers = answers;
@@ -109,7 +111,7 @@ module _ (J : Job) (current : List ℕ) (minute goal : ℕ) (slice : List ℕ) w
               (⊎_elim (λ e. by_pass true e (kept_handed_out e))
               (λ e.
               by_pass false e
-              (plans_when_solved J goal minute K a (replanned.solved e) NoPlanWithKept slice r after handed))
+              (plans_when_solved J goal minute K found (replanned.solved e) NoPlanWithKept slice r after handed))
               (decided (passes J goal K)))
             where
               by_pass : (b : Bool) → passes J goal K ≡ b → ReplansWith b J goal minute K slice r after
@@ -117,13 +119,17 @@ module _ (J : Job) (current : List ℕ) (minute goal : ℕ) (slice : List ℕ) w
               by_pass b e h = subst (λ (c : Bool). ReplansWith c J goal minute K slice r after) (sym e) h
 
 -- an answer with the kept steps can be handed out
-pub whole_when_replanned : (J : Job) (goal minute : ℕ) (K : List Step) (a : Answer) → Replanned J goal minute K a
-    → Whole a
-whole_when_replanned J goal minute K a replanned e =
-    ⊎_elim (λ h. let plan = (replanned.alone h).plan in (plan.few, plan.whole))
-    (λ h. whole_when_solved J goal minute K a (replanned.solved h) e)
+pub whole_when_replanned : (J : Job) (goal minute : ℕ) (K : List Step) (r : Option Answer) → Replanned J goal minute K r
+    → Whole r
+whole_when_replanned J goal minute K r replanned a e =
+    ⊎_elim
+    (λ h.
+    let alone = replanned.alone h in
+    let same : alone.answer ≡ a = let z = sym alone.found ∙ e in cc in
+    rw (← same) (alone.plan.few, alone.plan.whole))
+    (λ h. whole_when_solved J goal minute K r (replanned.solved h) a e)
     (decided (passes J goal K))
 
-pub replanned_with : (J : Job) (goal minute : ℕ) (a : Answer) (P Q : List Step) → P ≡ Q → Replanned J goal minute P a
+pub replanned_with : (J : Job) (goal minute : ℕ) (a : Option Answer) (P Q : List Step) → P ≡ Q → Replanned J goal minute P a
     → Replanned J goal minute Q a
 replanned_with J goal minute a P Q e = subst (λ (K : List Step). Replanned J goal minute K a) e

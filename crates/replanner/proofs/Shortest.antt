@@ -1,6 +1,7 @@
 -- What follows from the replanner's promise: the plan handed out is a shortest one with the kept steps, 35 means that
 -- there is none, and where there is one a plan is handed out.
 -- Assumes nothing.
+use Rattle.timeline.specs.Day.{told}
 use Rattle.job.specs.declared.refusal.Refusal.{Refusal}
 use Rattle.std.specs.Prelude.{Result, Ok, Err}
 use Prim.Native.Nat.{ℕ, ◌≤◌}
@@ -130,7 +131,7 @@ module _ (J : Job) (current : List ℕ) (minute goal : ℕ) (slice : List ℕ) (
 
     -- the current plan counts: where it meets the goal, the day ends no later than it does
     pub no_later_than_current : Accepted J goal current
-        → (verdict_of answer ≡ pass) × (answer.end ≤ end (steps_in J current))
+        → (verdict_of answer ≡ pass) × ((told answer).end ≤ end (steps_in J current))
     no_later_than_current accepted =
         let shortest = plan_when_counts current accepted refl in
         (shortest.0, shortest.1.least.least current accepted refl)

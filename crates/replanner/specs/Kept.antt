@@ -1,5 +1,6 @@
 -- What inner functions of the replanner promise: the kept steps, and the answer with them.
 -- Assumes nothing.
+use Rattle.std.specs.Prelude.{Option, Some}
 use Rattle.std.specs.Prelude.{ℕ, ◌≤◌, ◌<◌, ◌≡◌, true, false, List, length, get_or}
 use Rattle.lists.specs.Lists.{tabulate}
 use Rattle.job.specs.Job.{Job}
@@ -32,13 +33,14 @@ pub record KeptFit (J : Job) (minute : ℕ) (kept : Steps) : Type 0 where
   pub rising : strictly_rising (in_order J kept) ≡ true
 
 -- the answer is the plan of the kept steps K and no others, which is accepted
-pub record Alone (J : Job) (goal : ℕ) (K : List Step) (r : Answer) : Type 0 where
-  pub found : r.found ≡ true
-  pub plan : Found J goal J.deadline r
-  pub bytes : bytes_in r ≡ plan_bytes K
-  pub steps : steps_in J (bytes_in r) ≡ K
+pub record Alone (J : Job) (goal : ℕ) (K : List Step) (r : Option Answer) : Type 0 where
+  pub answer : Answer
+  pub found : r ≡ Some answer
+  pub plan : Found J goal J.deadline answer
+  pub bytes : bytes_in answer ≡ plan_bytes K
+  pub steps : steps_in J (bytes_in answer) ≡ K
 
 -- the answer with the kept steps K: these alone where they pass, and otherwise a shortest plan with them
-pub record Replanned (J : Job) (goal minute : ℕ) (K : List Step) (r : Answer) : Type 0 where
+pub record Replanned (J : Job) (goal minute : ℕ) (K : List Step) (r : Option Answer) : Type 0 where
   pub alone : passes J goal K ≡ true → Alone J goal K r
   pub solved : passes J goal K ≡ false → Solved J goal minute K r

@@ -14,7 +14,7 @@ ghost use Rattle.replanner.specs.Kept.{KeptFit, Replanned};
 
 use checker::checked_plan;
 use job::Job;
-use job::refusal::{Refusal, Verdict};
+use job::refusal::Refusal;
 use job::validate::validate;
 use leaf::Answer;
 use planner::hand_out::hand_out;
@@ -24,43 +24,39 @@ use timeline::{Day, Plan};
 
 // The kept steps alone, where they meet the goal. Otherwise a shortest plan with them, and with no other step before
 // the minute; from the deadline on there is none.
-fn with_kept(job: Job, goal: u64, minute: u32, kept: Steps) -> Answer
+fn with_kept(job: Job, goal: u64, minute: u32, kept: Steps) -> Option<Answer>
     requires { Valid job × (foreign job.facts goal ≡ false) × KeptFit (job_in job) minute kept }
     ensures { Replanned (job_in job) goal minute (in_order (job_in job) kept) result }
 {
-    let alone = leaf::as_plan(job, goal, job.deadline, kept);
-    let found = alone.found;
-    if found {
-        return alone;
+    if let Some(alone) = leaf::as_plan(job, goal, job.deadline, kept) {
+        return Some(alone);
     }
     if job.deadline as u32 <= minute {
-        return leaf::nothing();
+        return None;
     }
     solver::solve(job, Task::begun(job, goal, minute as u16, kept))
 }
 
 // Writes a shortest day for the new goal that keeps the steps begun before the minute to the front of the slice, and
 // returns its end, its number of steps and its peaks. A refusal changes no byte.
-pub fn replan(job: Job, current: &[u8], minute: u32, goal: u64, out: &mut [u8]) -> Day
+pub fn replan(
+    job: Job,
+    current: &[u8],
+    minute: u32,
+    goal: u64,
+    out: &mut [u8],
+) -> Result<Day, Refusal>
     ensures { Replans (job_in job) current.now minute goal out.old result out.new }
 {
-    let verdict = validate(job);
-    if let Verdict::Refused(why) = verdict {
-        return Day::refused(why);
-    }
+    validate(job)?;
     if facts::foreign(job.facts, goal) {
-        return Day::refused(Refusal::ForeignAskedFact);
+        return Err(Refusal::ForeignAskedFact);
     }
-    let checked = checked_plan(job, 0, current);
-    let day = checked.day;
-    let runs = day.verdict;
-    if let Verdict::Refused(why) = runs {
-        return Day::refused(why);
-    }
+    let checked = checked_plan(job, 0, current)?;
     if out.len() < Plan::BYTES {
-        return Day::refused(Refusal::PlanSlice);
+        return Err(Refusal::PlanSlice);
     }
-    let plan = checked.plan;
-    let answer = with_kept(job, goal, minute, kept::kept_steps(plan, minute));
+    let kept = kept::kept_steps(checked.plan, minute);
+    let answer = with_kept(job, goal, minute, kept);
     hand_out(answer, Refusal::NoPlanWithKept, out)
 }

@@ -7,16 +7,17 @@ use Rattle.replanner.proofs.Alone.{replanned_alone, replanned_late, replanned_so
 use Rattle.job.proofs.Rows.{limits_of_pass}
 use Rattle.replanner.proofs.with_kept.Goals as goal
 
-pub as_plan-alone-requires : goal.as_plan-alone-requires
-as_plan-alone-requires c = c.requires.2.known.few
+pub as_plan-requires : goal.as_plan-requires
+as_plan-requires c = c.requires.2.known.few
 
-pub returns-then-found : goal.returns-then-found
-returns-then-found c =
-    replanned_alone (job_in c.args.job) c.args.goal c.args.minute c.args.kept c.requires.0 c.requires.1 c.requires.2 c.as_plan-alone.result c.as_plan-alone.ensures c.if-found.true
+pub returns-in-Some : goal.returns-in-Some
+returns-in-Some c =
+    replanned_alone (job_in c.args.job) c.args.goal c.args.minute c.args.kept c.requires.0 c.requires.1 c.requires.2
+    c.as_plan.result c.as_plan.ensures _ c.in-Some.is
 
 pub returns-then-job-minute : goal.returns-then-job-minute
 returns-then-job-minute c =
-    replanned_late (job_in c.args.job) c.args.goal c.args.minute c.args.kept c.requires.0 c.requires.1 c.requires.2 c.as_plan-alone.result c.as_plan-alone.ensures c.if-found.false c.if-job-minute.true _ c.nothing.ensures
+    replanned_late (job_in c.args.job) c.args.goal c.args.minute c.args.kept c.requires.0 c.requires.1 c.requires.2 c.as_plan.result c.as_plan.ensures c.in_default.is c.if-job-minute.true
 
 pub overflow_cast-minute : goal.overflow_cast-minute
 overflow_cast-minute c =
@@ -34,4 +35,4 @@ solve-requires c =
 
 pub returns : goal.returns
 returns c =
-    replanned_solved (job_in c.args.job) c.args.goal c.args.minute c.args.kept c.requires.0 c.requires.1 c.requires.2 c.as_plan-alone.result c.as_plan-alone.ensures c.if-found.false _ (begun_day_solved c.args.job c.args.goal c.args.minute c.args.kept _ c.begun.ensures c.solve.result c.solve.ensures)
+    replanned_solved (job_in c.args.job) c.args.goal c.args.minute c.args.kept c.requires.0 c.requires.1 c.requires.2 c.as_plan.result c.as_plan.ensures c.in_default.is _ (begun_day_solved c.args.job c.args.goal c.args.minute c.args.kept _ c.begun.ensures c.solve.result c.solve.ensures)
