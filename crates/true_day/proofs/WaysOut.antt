@@ -69,5 +69,5 @@ module _ (J : Job) (bytes lengths : List ℕ) (r : Result Day Refusal) where
 
 -- what is told of steps, by numbers that are theirs
 pub told_of_steps : (J : Job) (P Q : List Step) (e n : ℕ) (most : List ℕ) → Q ≡ P → e ≡ end Q → n ≡ length Q
-    → most ≡ peaks J Q → Ok (record { end = e; steps = n; peaks = most }) ≡ Ok (told_of J P)
+    → most ≡ peaks J Q → ◌≡◌ {A = Day} (record { end = e; steps = n; peaks = most }) (told_of J P)
 told_of_steps J P Q e n most same ends count peak = rw (ends, count, peak, same)

@@ -21,7 +21,7 @@ returns-then-lengths-plan c =
     (λ e. c.if-lengths-plan.true (e ∙ count)))
 
 pub loop-i-init : goal.loop-i-init
-loop-i-init c = (omega arith, below_none _)
+loop-i-init c = below_none _
 
 pub offset_bounds-plan-i : goal.offset_bounds-plan-i
 offset_bounds-plan-i c =
@@ -64,7 +64,7 @@ loop-i-preserved c =
     let here = ap (λ (m : Counts). outside_range (job_in a.job) (step_of_value m (get_or a.plan.steps i beyond_step))
     (get_or a.lengths.now i 0)) c.requires.counts
     ∙ sym c.outside_range.ensures ∙ c.if-outside_range.false in
-    (omega arith, below_more _ _ c.loop-i.invariant.1 here)
+    below_more _ _ c.loop-i.invariant here
 
 pub returns : goal.returns
 returns c =
@@ -72,4 +72,4 @@ returns c =
     let n = a.plan.length in
     let test : ℕ → Bool = λ k. outside_range (job_in a.job) (step_at a.plan k) (get_or a.lengths.now k 0) in
     sym (wrong_by_place (job_in a.job) n (step_at a.plan) a.lengths.now c.if-lengths-plan.false
-    ∙ none_below n test (λ k l. c.loop-i.invariant.1 k (omega arith)))
+    ∙ none_below n test (λ k l. c.loop-i.invariant k (omega arith)))
