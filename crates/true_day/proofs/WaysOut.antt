@@ -8,7 +8,7 @@ use mathlib.Core.List.{List, []}
 use lib.ListN.{length}
 use Rattle.job.specs.declared.refusal.Refusal.{Refusal}
 use Rattle.job.specs.declared.refusal.Refusal.TheVariants.{TrueLengths}
-use Rattle.job.specs.Refusal.{reply_of, Verdict}
+use Rattle.job.specs.Refusal.{Verdict}
 use Rattle.std.specs.Prelude.{Ok, Err}
 use Rattle.job.specs.Refusal.{pass}
 use Rattle.job.specs.Job.{Job}

@@ -64,12 +64,6 @@ with_lengths-run-requires c =
       in_bits job job.goal bytes _ valid accepted decodes lengths right,
     )
 
-pub end-requires : goal.end-requires
-end-requires c =
-    let few = (c.checked_plan.ensures.plan _ c.in_ok-checked.was).few in
-    let same = c.with_lengths-run.ensures.0 in
-    omega arith
-
 pub peaks-requires : goal.peaks-requires
 peaks-requires c =
     let job = c.args.job in

@@ -1,5 +1,5 @@
 -- `with_lengths` meets its contract: the first i steps have their new lengths.
-use Prim.Native.Nat.{ℕ, ◌-◌, ◌<◌, ◌≤◌}
+use Prim.Native.Nat.{ℕ, ◌<◌}
 use mathlib.Core.Path.{◌≡◌}
 use lib.ListN.{length, get_or}
 use Rattle.timeline.specs.TrueLengths.{with_length}
