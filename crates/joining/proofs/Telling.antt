@@ -1,6 +1,7 @@
 -- What is told of two plans joined, by what is told of each: small laws that the code's branches use.
 -- Assumes nothing.
-use Prim.Native.Nat.{ℕ, zero, suc, ◌+◌, max}
+use Prim.Native.Nat.{ℕ, zero, suc, ◌+◌, ◌<◌, max}
+use native.Mathlib.Omega.{arith}
 use mathlib.Core.Path.{◌≡◌, refl}
 use native.Mathlib.Numerals.{add-one}
 use Rattle.timeline.specs.Timeline.{largest_below}
@@ -18,5 +19,12 @@ last_end_some last minutes zero second h = absurd (h refl)
 last_end_some last minutes (suc n) second h = refl
 
 -- one number more
-pub largest_next : (n : ℕ) (f : ℕ → ℕ) → max (f n) (largest_below n f) ≡ largest_below (n + 1) f
-largest_next n f = rw (add-one n)
+pub largest_next : (n : ℕ) (f : ℕ → ℕ) → max (largest_below n f) (f n) ≡ largest_below (n + 1) f
+largest_next n f = rw (add-one n) (omega arith)
+
+pub largest_same : (n : ℕ) (f g : ℕ → ℕ) → ((k : ℕ) → k < n → f k ≡ g k) → largest_below n f ≡ largest_below n g
+largest_same zero f g h = refl
+largest_same (suc n) f g h =
+    let here = h n (omega arith) in
+    let before = largest_same n f g (λ k l. h k (omega arith)) in
+    omega arith

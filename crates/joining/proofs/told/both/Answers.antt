@@ -2,4 +2,4 @@
 use Rattle.joining.proofs.told.both.Goals as goal
 
 pub returns : goal.returns
-returns c = rw (c.last_end.ensures, c.larger_peaks-peaks.ensures)
+returns c = rw (c.last_end.ensures, c.larger_peaks.ensures)

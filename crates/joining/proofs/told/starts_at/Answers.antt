@@ -9,5 +9,5 @@ returns-then-steps-eq0 c = offset_none _ _ _ c.if-steps-eq0.true
 
 pub returns : goal.returns
 returns c =
-    ap (λ (n : ℕ). c.args.end + n) c.largest_handover.ensures
+    ap (λ (n : ℕ). c.args.end + n) (c.from.ensures ∙ c.largest_handover.ensures)
     ∙ offset_some _ _ _ c.if-steps-eq0.false
