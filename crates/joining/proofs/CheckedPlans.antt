@@ -13,7 +13,7 @@ use Rattle.lists.proofs.Tabulate.{length_tabulate, each_at}
 use Rattle.encoding.specs.Bytes.{overwrite}
 use Rattle.job.specs.Job.{Job}
 use Rattle.job.specs.Passed.{Passed}
-use Rattle.job.specs.Refusal.{verdict_of, first}
+use Rattle.job.specs.Refusal.{first}
 use Rattle.job.specs.Resources.{handover}
 use Rattle.job.specs.Valid.{over}
 use Rattle.job.specs.Refusal.{Verdict}

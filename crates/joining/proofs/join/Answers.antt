@@ -21,9 +21,6 @@ returns-in_err-validate c =
     joins_refused_job (job_in c.args.job) c.args.first.now c.args.second.now c.args.out.now _ _ e
     (sym c.validate.ensures ∙ c.in_err-validate.was)
 
-pub check_shape-requires : goal.check_shape-requires
-check_shape-requires c = sym c.validate.ensures ∙ c.in_ok-validate.was
-
 pub returns-in_err-morning : goal.returns-in_err-morning
 returns-in_err-morning c =
     let e : c.from_residual-in_err-morning.result ≡ Err c.in_err-morning.field-0.0 = search rules in
@@ -31,9 +28,6 @@ returns-in_err-morning c =
     let valid = sym c.validate.ensures ∙ c.in_ok-validate.was in
     joins_refused_first J c.args.first.now c.args.second.now c.args.out.now _ valid _ e
     (shape_refused J c.args.first.now _ (sym c.in_err-morning.was ∙ c.check_shape.ensures))
-
-pub check_shape-requires-2 : goal.check_shape-requires-2
-check_shape-requires-2 c = sym c.validate.ensures ∙ c.in_ok-validate.was
 
 pub returns-in_err-afternoon : goal.returns-in_err-afternoon
 returns-in_err-afternoon c =

@@ -7,9 +7,6 @@ use Rattle.joining.proofs.later.write_later.Goals as goal
 pub loop-i-init : goal.loop-i-init
 loop-i-init c = (refl, wrote_none _ _ _)
 
-pub write_step-requires : goal.write_step-requires
-write_step-requires c = (omega arith, omega arith)
-
 pub loop-i-preserved : goal.loop-i-preserved
 loop-i-preserved c = (
   omega arith,

@@ -1,5 +1,4 @@
 -- `write_later` meets its contract: `WroteLater` is the loop's invariant.
-use Prim.Native.Nat.{◌-◌, ◌≤◌}
 use mathlib.Core.Path.{◌≡◌}
 use lib.ListN.{length}
 use Rattle.joining.proofs.WritingLater.{WroteLater}

@@ -1,5 +1,5 @@
 -- `largest_handover` meets its contract: the largest over all pools.
-use Rattle.std.proofs.Common.{◌≡◌, ℕ, ◌<◌, get_or, take, length, rules, arith, sym, ap, ◌∙◌}
+use Rattle.std.proofs.Common.{◌≡◌, ℕ, get_or, take, length, rules, arith, sym, ap, ◌∙◌}
 use Rattle.std.proofs.lemmas.List.{get_or-take, length-take}
 use Rattle.lists.proofs.Tabulate.{length_tabulate}
 use Rattle.job.specs.Job.{job_in}

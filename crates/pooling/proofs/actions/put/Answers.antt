@@ -8,9 +8,8 @@ use Rattle.pooling.proofs.actions.put.Goals as goal
 
 pub loop-i-init : goal.loop-i-init
 loop-i-init c =
-    let a = c.args in (
-      omega arith,
-      λ xs pools stores e h w. actions_start xs (renumbered a.facts pools stores) (action_at a.job) a.out h,
+    let a = c.args in
+      (λ xs pools stores e h w. actions_start xs (renumbered a.facts pools stores) (action_at a.job) a.out h,
     )
 
 pub renumbered-requires : goal.renumbered-requires
@@ -22,11 +21,10 @@ pub loop-i-preserved : goal.loop-i-preserved
 loop-i-preserved c =
     let a = c.args in
     let l = c.loop-i in
-    let most = c.requires.1 in (
-      omega arith,
-      λ xs pools stores e h w.
+    let most = c.requires.1 in
+      (λ xs pools stores e h w.
           actions_next xs (renumbered a.facts pools stores) (action_at a.job) l.i a.at l.all
-          c.renumbered.result e (omega arith) (l.invariant.1 xs pools stores e h w)
+          c.renumbered.result e (omega arith) (l.invariant xs pools stores e h w)
           (c.renumbered.ensures pools stores w),
     )
 
@@ -35,4 +33,4 @@ returns c =
     let a = c.args in
     let l = c.loop-i in
     let e : l.i ≡ a.job.counts.actions = omega arith in
-    rw e at l.invariant.1
+    rw e at l.invariant

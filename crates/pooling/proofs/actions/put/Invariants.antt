@@ -11,9 +11,5 @@ use Rattle.pooling.proofs.actions.put.Given as goal
 
 abbrev pub invariant-loop-i : goal.invariant-loop-i
 invariant-loop-i l =
-    (l.i ≤ l.counts.actions)
-    × ((xs : List Action) (pools stores : ℕ) → length xs ≡ l.at → HasActions l.initial.all xs → Widens l.counts pools stores
-    → HasActions l.all (xs ++ map (renumbered l.facts pools stores) (tabulate l.i (action_at l.job))))
-
-abbrev pub decreases-loop-i : goal.decreases-loop-i
-decreases-loop-i l = l.counts.actions - l.i
+    (xs : List Action) (pools stores : ℕ) → length xs ≡ l.at → HasActions l.initial.all xs → Widens l.counts pools stores
+    → HasActions l.all (xs ++ map (renumbered l.facts pools stores) (tabulate l.i (action_at l.job)))
