@@ -9,8 +9,7 @@ use Rattle.pooling.proofs.actions.put.Goals as goal
 pub loop-i-init : goal.loop-i-init
 loop-i-init c =
     let a = c.args in
-      (λ xs pools stores e h w. actions_start xs (renumbered a.facts pools stores) (action_at a.job) a.out h,
-    )
+    λ xs pools stores e h w. actions_start xs (renumbered a.facts pools stores) (action_at a.job) a.out h
 
 pub renumbered-requires : goal.renumbered-requires
 renumbered-requires c =
@@ -22,11 +21,10 @@ loop-i-preserved c =
     let a = c.args in
     let l = c.loop-i in
     let most = c.requires.1 in
-      (λ xs pools stores e h w.
+    λ xs pools stores e h w.
           actions_next xs (renumbered a.facts pools stores) (action_at a.job) l.i a.at l.all
           c.renumbered.result e (omega arith) (l.invariant xs pools stores e h w)
-          (c.renumbered.ensures pools stores w),
-    )
+          (c.renumbered.ensures pools stores w)
 
 pub returns : goal.returns
 returns c =
