@@ -1,28 +1,19 @@
 -- Arrays of amounts place by place.
 -- Assumes nothing.
-use Prim.Native.Nat.{ℕ, ◌+◌, ◌-◌, ◌<◌, ◌≤◌}
+use Prim.Native.Nat.{ℕ, ◌+◌, ◌-◌, ◌≤◌}
 use mathlib.Core.Path.{◌≡◌, refl, sym, ap, ap₂, ◌∙◌}
 use mathlib.Core.Bool.{Bool, true, false, not, ◌&&◌, ◌||◌}
 use mathlib.Core.List.{List, [], ◌∷◌, ◌++◌}
 use native.Mathlib.Omega.{arith}
 use lib.Dec.{eqb}
-use lib.ListN.{length, get_or, take, drop, replicate, get_or-eq_default}
+use lib.ListN.{length, get_or, take, drop, replicate}
 use lib.Pointwise.{pointwise}
 use Rattle.std.proofs.lemmas.List.{get_or-take, length-take, drop-replicate}
 use Rattle.lists.specs.Lists.{tabulate, firsts, filled, any_below}
 use Rattle.lists.proofs.Below.{below_front, below_same}
-use Rattle.lists.proofs.Tabulate.{length_tabulate, tabulate_same, get_d_tabulate, firsts_all}
+use Rattle.lists.proofs.Tabulate.{length_tabulate, tabulate_same, firsts_all}
 use Rattle.pooling.specs.Pooled.{plus}
 use Rattle.pooling.proofs.Sums.{length_plus, get_d_plus, get_d_filled, length_filled}
-
--- of the first n, one that is there, and 0 behind them
-pub firsts_at : (n : ℕ) (xs : List ℕ) (k : ℕ) → k < n → get_or xs k 0 ≡ get_or (firsts n 0 xs) k 0
-firsts_at n xs k l = sym (get_d_tabulate n (λ i. get_or xs i 0) k 0 l)
-
-pub firsts_behind : (n : ℕ) (xs : List ℕ) (k : ℕ) → n ≤ k → 0 ≡ get_or (firsts n 0 xs) k 0
-firsts_behind n xs k l =
-    let e = length_tabulate n (λ i. get_or xs i 0) in
-    sym (get_or-eq_default (firsts n 0 xs) 0 {n = k} (omega arith))
 
 -- filled with zeros, it is the list by its places
 pub filled_by_place : (n : ℕ) (xs : List ℕ) → length xs ≤ n → tabulate n (λ k. get_or xs k 0) ≡ filled n 0 xs

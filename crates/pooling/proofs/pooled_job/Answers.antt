@@ -8,13 +8,7 @@ use Rattle.pooling.specs.Pooled.{pooled, shortest_in, shortest_lengths}
 use Rattle.pooling.proofs.PoolTests.{few_facts}
 use Rattle.pooling.proofs.PassingActions.{behind_word}
 use Rattle.pooling.proofs.PooledValues.{counts_of_pooled, value_by_parts}
-use native.Mathlib.Omega.{arith}
 use Rattle.pooling.proofs.pooled_job.Goals as goal
-
-pub overflow_add-result : goal.overflow_add-result
-overflow_add-result c =
-    let few = few_facts (job_in c.args.first) (job_in c.args.second) c.requires.not_too_large in
-    omega arith
 
 pub joined-requires : goal.joined-requires
 joined-requires c =

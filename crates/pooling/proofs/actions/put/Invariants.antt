@@ -1,5 +1,5 @@
 -- `put` meets its contract: the first i actions stand behind those of the array.
-use Prim.Native.Nat.{ℕ, ◌-◌, ◌≤◌}
+use Prim.Native.Nat.{ℕ}
 use mathlib.Core.Path.{◌≡◌}
 use mathlib.Core.List.{List, ◌++◌, map}
 use lib.ListN.{length}

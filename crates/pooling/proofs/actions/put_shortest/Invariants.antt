@@ -1,5 +1,5 @@
 -- `put_shortest` meets its contract: the first i lengths stand behind those of the array.
-use Prim.Native.Nat.{ℕ, ◌-◌, ◌≤◌}
+use Prim.Native.Nat.{ℕ}
 use mathlib.Core.Path.{◌≡◌}
 use mathlib.Core.List.{List, ◌++◌}
 use lib.ListN.{length}

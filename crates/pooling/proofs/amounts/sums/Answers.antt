@@ -1,24 +1,10 @@
 -- `sums` meets its contract: place by place.
-use Rattle.std.proofs.Common.{ℕ, ◌+◌, ◌≡◌, arith, get_or, sym, ap, ap₂, ◌∙◌}
+use Rattle.std.proofs.Common.{ℕ, ◌+◌, arith, sym, ap, ap₂, ◌∙◌}
 use Rattle.lists.specs.Lists.{firsts}
 use Rattle.lists.proofs.Tabulate.{firsts_all, tabulate_same}
-use Rattle.pooling.proofs.Sums.{get_d_at_most, get_d_filled}
+use Rattle.pooling.proofs.Sums.{get_d_filled}
 use Rattle.pooling.proofs.Arrays.{sums_by_place, length_firsts}
 use Rattle.pooling.proofs.amounts.sums.Goals as goal
-
-pub overflow_add-sums : goal.overflow_add-sums
-overflow_add-sums c =
-    let a = c.args in
-    let k = c.loop-place.place in
-    let xs = firsts a.n 0 a.a in
-    let ys = firsts a.m 0 a.b in
-    let one = get_d_at_most 1000000 xs c.requires.2 k in
-    let two = get_d_at_most 1000000 ys c.requires.3 k in
-    let mine : get_or c.counted-mine.result k 0 ≡ get_or xs k 0
-    = rw c.counted-mine.ensures (get_d_filled 4 xs k) in
-    let other : get_or c.counted-other.result k 0 ≡ get_or ys k 0
-    = rw c.counted-other.ensures (get_d_filled 4 ys k) in
-    omega arith
 
 pub returns : goal.returns
 returns c =
