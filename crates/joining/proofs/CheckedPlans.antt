@@ -1,7 +1,7 @@
 -- Two plans that pass 12 to 15, by what the checker tells of them: numbers that fit, and the joined plan.
 -- Assumes nothing.
 use Rattle.job.specs.declared.refusal.Refusal.{Refusal}
-use Rattle.std.specs.Prelude.{Result, Ok, Err}
+use Rattle.std.specs.Prelude.{Ok, Err}
 use Prim.Native.Nat.{ℕ, zero, suc, ◌+◌, ◌/◌, ◌≤◌}
 use mathlib.Core.Path.{◌≡◌, sym, ap, ◌∙◌}
 use mathlib.Core.Bool.{Bool, ◌||◌}
@@ -13,7 +13,7 @@ use Rattle.lists.proofs.Tabulate.{length_tabulate, each_at}
 use Rattle.encoding.specs.Bytes.{overwrite}
 use Rattle.job.specs.Job.{Job}
 use Rattle.job.specs.Passed.{Passed}
-use Rattle.job.specs.Refusal.{verdict_of, first}
+use Rattle.job.specs.Refusal.{first}
 use Rattle.job.specs.Resources.{handover}
 use Rattle.job.specs.Valid.{over}
 use Rattle.job.specs.Refusal.{Verdict}
@@ -21,7 +21,7 @@ use Rattle.job.specs.Refusal.{pass}
 use Rattle.timeline.specs.Step.{steps_in, plan_bytes}
 use Rattle.timeline.specs.Timeline.{end, largest_below}
 use Rattle.timeline.specs.Accepted.{shape_rows}
-use Rattle.timeline.specs.Day.{told_of, day_of}
+use Rattle.timeline.specs.Day.{told_of, day_of, told}
 use Rattle.timeline.specs.declared.Day.{Day}
 use Rattle.timeline.proofs.DayLaws.{verdict_of_day}
 use Rattle.timeline.proofs.Tests.{le_or_lt}
@@ -53,22 +53,24 @@ offset_small wait zero last l m = omega arith
 offset_small wait (suc n) last l m = omega arith
 
 -- ---- one plan
-module _ (J : Job) (bytes : List ℕ) (x : Result Day Refusal) (checked : x ≡ shape_day J bytes) where
-  pub shape_verdict : verdict_of x ≡ first (shape_rows J bytes)
+module _ (J : Job) (bytes : List ℕ) where
+  pub shape_refused : (why : Refusal) → Err why ≡ shape_day J bytes → first (shape_rows J bytes) ≡ Err why
   unfolding shape_day
-  shape_verdict = verdict_of_day (first (shape_rows J bytes)) J (steps_in J bytes) x checked
+  shape_refused why checked = sym (verdict_of_day _ J (steps_in J bytes) (Err why) checked)
 
-  module _ (passes : verdict_of x ≡ pass) where
+  module _ (x : Day) (checked : Ok x ≡ shape_day J bytes) where
     pub shape_passes : first (shape_rows J bytes) ≡ pass
-    shape_passes = sym shape_verdict ∙ passes
-
-    shape_told : x ≡ Ok (told_of J (steps_in J bytes))
     unfolding shape_day
-    shape_told = checked ∙ ap (λ (v : Verdict). day_of v J (steps_in J bytes)) shape_passes
+    shape_passes = sym (verdict_of_day _ J (steps_in J bytes) (Ok x) checked)
+
+    shape_told : x ≡ told_of J (steps_in J bytes)
+    unfolding shape_day
+    shape_told =
+        ap told (checked ∙ ap (λ (v : Verdict). day_of v J (steps_in J bytes)) shape_passes)
 
     pub shape_ends : Passed J → x.end ≤ 1440
     shape_ends passed =
-        let same = ap (λ (d : Result Day Refusal). d.end) shape_told in
+        let same = ap (λ (d : Day). d.end) shape_told in
         let late = ends_of_shape J bytes shape_passes in
         let deadline = passed.deadline in
         omega arith
@@ -77,28 +79,26 @@ module _ (J : Job) (bytes : List ℕ) (x : Result Day Refusal) (checked : x ≡ 
     unfolding steps_in
     shape_steps =
         let count : length (steps_in J bytes) ≡ length bytes / 3 = length_tabulate _ _ in
-        ap (λ (d : Result Day Refusal). d.steps) shape_told ∙ count
+        ap (λ (d : Day). d.steps) shape_told ∙ count
 
     pub shape_few : x.steps ≤ 32
     shape_few =
-        let same = ap (λ (d : Result Day Refusal). d.steps) shape_told in
+        let same = ap (λ (d : Day). d.steps) shape_told in
         let few = few_of_shape J bytes shape_passes in
         omega arith
 
 -- ---- both
-module _ (J : Job) (a b : List ℕ) (x y d : Result Day Refusal) (minutes : ℕ) (passed : Passed J)
-    (first_told : x ≡ shape_day J a) (IsFirst-passes : verdict_of x ≡ pass)
-    (second_told : y ≡ shape_day J b) (second_passes : verdict_of y ≡ pass)
+module _ (J : Job) (a b : List ℕ) (x y d : Day) (minutes : ℕ) (passed : Passed J)
+    (first_told : Ok x ≡ shape_day J a) (second_told : Ok y ≡ shape_day J b)
     (starts : minutes ≡ offset (largest_handover J) x.steps x.end) where
   starts_after : minutes ≡ offset (largest_handover J) (length (steps_in J a)) (end (steps_in J a))
   starts_after =
-      starts
-      ∙ ap (λ (z : Result Day Refusal). offset (largest_handover J) z.steps z.end) (shape_told J a x first_told IsFirst-passes)
+      starts ∙ ap (λ (z : Day). offset (largest_handover J) z.steps z.end) (shape_told J a x first_told)
 
   pub minutes_small : minutes ≤ 2000
   minutes_small =
       let l = offset_small (largest_handover J) x.steps x.end (largest_handover_small J passed)
-      (shape_ends J a x first_told IsFirst-passes passed) in
+      (shape_ends J a x first_told passed) in
       omega arith
 
   -- the plan written is the joined one
@@ -110,28 +110,27 @@ module _ (J : Job) (a b : List ℕ) (x y d : Result Day Refusal) (minutes : ℕ)
       starts_after
       ∙ ap (overwrite old 0) (sym (joined_bytes (largest_handover J) (steps_in J a) (steps_in J b)))
 
-  module _ (told : d ≡ both_days x y minutes) where
+  module _ (told_both : d ≡ both_days x y minutes) where
     -- what is told is told of the joined plan
-    pub joined_told : d ≡ Ok (told_of J (joined_steps J a b))
+    pub joined_told : d ≡ told_of J (joined_steps J a b)
     joined_told =
-        told
-        ∙ ap (λ (z : Result Day Refusal). both_days z y minutes) (shape_told J a x first_told IsFirst-passes)
-        ∙ ap (λ (z : Result Day Refusal). both_days (Ok (told_of J (steps_in J a))) z minutes)
-        (shape_told J b y second_told second_passes)
-        ∙ ap (both_days (Ok (told_of J (steps_in J a))) (Ok (told_of J (steps_in J b)))) starts_after
+        told_both
+        ∙ ap (λ (z : Day). both_days z y minutes) (shape_told J a x first_told)
+        ∙ ap (λ (z : Day). both_days (told_of J (steps_in J a)) z minutes) (shape_told J b y second_told)
+        ∙ ap (both_days (told_of J (steps_in J a)) (told_of J (steps_in J b))) starts_after
         ∙ told_joined J passed.few_pools (steps_in J a) (steps_in J b)
 
     pub long_told : (t r : Bool) → t ≡ (over 32 d.steps || over J.deadline d.end) → t ≡ r
         → too_long J (joined_steps J a b) ≡ r
     long_told t r test is =
-        sym (ap (λ (z : Result Day Refusal). over 32 z.steps || over J.deadline z.end) joined_told) ∙ sym test ∙ is
+        sym (ap (λ (z : Day). over 32 z.steps || over J.deadline z.end) joined_told) ∙ sym test ∙ is
 
     -- a joined plan that is not too long has room in a slice of 96 bytes
     pub room_for_both : (d.steps ≤ 32) → length a + length b ≤ 96
     room_for_both few =
-        let steps = ap (λ (z : Result Day Refusal). z.steps) told in
-        let n = shape_steps J a x first_told IsFirst-passes in
-        let m = shape_steps J b y second_told second_passes in
-        let p = whole_steps J a (shape_passes J a x first_told IsFirst-passes) in
-        let q = whole_steps J b (shape_passes J b y second_told second_passes) in
+        let steps = ap (λ (z : Day). z.steps) told_both in
+        let n = shape_steps J a x first_told in
+        let m = shape_steps J b y second_told in
+        let p = whole_steps J a (shape_passes J a x first_told) in
+        let q = whole_steps J b (shape_passes J b y second_told) in
         omega arith

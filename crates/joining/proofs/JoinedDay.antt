@@ -1,6 +1,5 @@
 -- What is told of two plans joined is what is told of the joined plan.
 -- Assumes nothing.
-use Rattle.std.specs.Prelude.{Result, Ok, Err}
 use Prim.Native.Nat.{ℕ, ◌+◌, ◌≤◌}
 use mathlib.Core.Path.{◌≡◌, refl, sym}
 use mathlib.Core.List.{List, [], ◌∷◌, map}
@@ -10,6 +9,7 @@ use Rattle.job.specs.Job.{Job}
 use Rattle.timeline.specs.Step.{Step}
 use Rattle.timeline.specs.Timeline.{end, peaks}
 use Rattle.timeline.specs.Day.{told_of}
+use Rattle.timeline.specs.declared.Day.{Day}
 use Rattle.joining.specs.Join.{later_by, largest_handover, join_steps}
 use Rattle.joining.specs.Inner.{offset, last_end, both_days}
 use Rattle.joining.proofs.Associates.{end_joined}
@@ -34,13 +34,13 @@ ends_joined wait (x ∷ A) (y ∷ B) = end_joined wait x y A B
 
 -- by what is told of each of the two
 pub told_joined : (J : Job) → length J.pools ≤ 4 → (A B : List Step)
-    → both_days (Ok (told_of J A)) (Ok (told_of J B)) (offset (largest_handover J) (length A) (end A))
-    ≡ Ok (told_of J (join_steps (largest_handover J) A B))
+    → both_days (told_of J A) (told_of J B) (offset (largest_handover J) (length A) (end A))
+    ≡ told_of J (join_steps (largest_handover J) A B)
 told_joined J few A B =
     let P = join_steps (largest_handover J) A B in
     sym (same (end P) _ (length P) _ (peaks J P) _ (ends_joined (largest_handover J) A B)
     (steps_joined (largest_handover J) A B) (peaks_joined J few A B))
   where
     same : (e f n m : ℕ) (p q : List ℕ) → e ≡ f → n ≡ m → p ≡ q
-        → Ok (record { end = e; steps = n; peaks = p }) ≡ Ok (record { end = f; steps = m; peaks = q })
+        → ◌≡◌ {A = Day} (record { end = e; steps = n; peaks = p }) (record { end = f; steps = m; peaks = q })
     same e f n m p q x y z = rw (x, y, z)

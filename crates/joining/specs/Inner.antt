@@ -1,7 +1,5 @@
 -- What inner functions of the join promise. Inner functions and laws alone cite these.
 -- Assumes nothing.
-use Rattle.job.specs.declared.refusal.Refusal.{Refusal}
-use Rattle.std.specs.Prelude.{Result, Ok, Err}
 use Rattle.std.specs.Prelude.{ℕ, zero, suc, ◌+◌, max, ◌≡◌, List, ◌++◌, map, get_or}
 use Rattle.lists.specs.Lists.{tabulate}
 use Rattle.encoding.specs.Bytes.{overwrite}
@@ -25,14 +23,13 @@ abbrev pub larger_peaks : List ℕ → List ℕ → List ℕ
 larger_peaks a b = tabulate 4 (λ pool. max (get_or a pool 0) (get_or b pool 0))
 
 -- what is told of two plans joined, the second so many minutes later, by what is told of each
-abbrev pub both_days : Result Day Refusal → Result Day Refusal → ℕ → Result Day Refusal
+abbrev pub both_days : Day → Day → ℕ → Day
 both_days a b minutes =
-    Ok
-    (record {
+    record {
       end = last_end a.end minutes b.steps b.end;
       steps = a.steps + b.steps;
       peaks = larger_peaks a.peaks b.peaks;
-    })
+    }
 
 -- the plan's steps, so many minutes later, stand at the front, in every job
 abbrev pub WritesLater : ℕ → List ℕ → List ℕ → List ℕ → Type 0

@@ -6,9 +6,9 @@ use Rattle.std.specs.Prelude.{ℕ, ◌*◌, true, false, List, take}
 use Rattle.job.specs.Job.{Job}
 use Rattle.job.specs.Refusal.{verdict_of, Verdict}
 use Rattle.std.specs.Prelude.{Ok, Err}
-use Rattle.job.specs.Refusal.{pass}
 use Rattle.timeline.specs.Step.{Step}
 use Rattle.timeline.specs.declared.Day.{Day}
+use Rattle.timeline.specs.Day.{told}
 use Rattle.joining.specs.Join.{join_steps, too_long}
 use Rattle.joining.specs.Answer.{join_answer, left_by_join}
 
@@ -38,7 +38,7 @@ join_call J a b slice = record { answer = join_answer J a b slice; after = left_
 
 -- the plan that a call has put at the front of its slice, three bytes a step
 abbrev pub plan_in : Called → List ℕ
-plan_in call = take (3 * call.answer.steps) call.after
+plan_in call = take (3 * (told call.answer).steps) call.after
 
 -- a call made with the plan of another call; where that one was refused, its refusal, and the slice of the second call
 -- as it was

@@ -16,7 +16,7 @@ fn write_step(out: &mut [u8], plan: &[u8], at: usize, minutes: u32)
     let number = read_number(plan, at, 1);
     let start = read_number(plan, at + 1, 2);
     write_number(out, at, 1, number);
-    write_number(out, at + 1, 2, minutes as u64 + start);
+    write_number(out, at + 1, 2, u64::from(minutes) + start);
 }
 
 // Writes the steps of a plan, each so many minutes later, to the front of the slice.
@@ -24,11 +24,8 @@ fn write_later(out: &mut [u8], plan: &[u8], minutes: u32)
     requires { length plan.now ≤ length out.old }
     ensures { WritesLater minutes plan.now out.old out.new }
 {
-    let count = plan.len() / Plan::STEP;
-    let mut i = 0;
-    while i < count {
+    for i in 0..plan.len() / Plan::STEP {
         write_step(out, plan, i * Plan::STEP, minutes);
-        i += 1;
     }
 }
 

@@ -10,38 +10,27 @@ ghost use Rattle.joining.specs.Answer.{Joins};
 
 use checker::check_shape;
 use job::Job;
-use job::refusal::{Refusal, Verdict};
+use job::refusal::Refusal;
 use job::validate::validate;
 use timeline::{Day, Plan};
 
 // Writes the joined plan to the front of the slice, and returns its end, its number of steps and its peaks, whether or
 // not it passes 16 to 20. A refusal changes no byte.
-pub fn join(job: Job, first: &[u8], second: &[u8], out: &mut [u8]) -> Day
+pub fn join(job: Job, first: &[u8], second: &[u8], out: &mut [u8]) -> Result<Day, Refusal>
     ensures { Joins (job_in job) first.now second.now out.old result
         out.new }
 {
-    let verdict = validate(job);
-    if let Verdict::Refused(why) = verdict {
-        return Day::refused(why);
-    }
-    let morning = check_shape(job, first);
-    let first_shape = morning.verdict;
-    if let Verdict::Refused(why) = first_shape {
-        return Day::refused(why);
-    }
-    let afternoon = check_shape(job, second);
-    let second_shape = afternoon.verdict;
-    if let Verdict::Refused(why) = second_shape {
-        return Day::refused(why);
-    }
+    validate(job)?;
+    let morning = check_shape(job, first)?;
+    let afternoon = check_shape(job, second)?;
     if out.len() < Plan::BYTES {
-        return Day::refused(Refusal::PlanSlice);
+        return Err(Refusal::PlanSlice);
     }
     let minutes = told::starts_at(job, morning.steps, morning.end);
     let day = told::both(morning, afternoon, minutes);
     if told::too_long(job, day) {
-        return Day::refused(Refusal::JoinedTooLong);
+        return Err(Refusal::JoinedTooLong);
     }
     later::write_both(out, first, second, minutes);
-    day
+    Ok(day)
 }

@@ -7,18 +7,15 @@ use mathlib.Core.List.{[], ◌∷◌}
 use Rattle.job.specs.declared.Job as held
 use Rattle.job.specs.declared.refusal.Refusal.{Refusal}
 use Rattle.job.specs.declared.refusal.Refusal.TheVariants.{PoolTooLarge, PoolUnlike}
-use Rattle.job.specs.Refusal.{verdict_of, Verdict}
 use Rattle.std.specs.Prelude.{Ok, Err}
-use Rattle.job.specs.Refusal.{pass}
 use Rattle.job.specs.Job.{Job, job_in, job_value}
-use Rattle.job.specs.Refusal.{◌when◌, first, reply_by}
+use Rattle.job.specs.Refusal.{Verdict, pass, ◌when◌, first, verdict_of, reply_of, reply_by}
 use Rattle.job.specs.Valid.{job_rows}
 use Rattle.job.proofs.Passed.{passed}
 use Rattle.job.proofs.Rows.{fits_of_pass}
 use Rattle.job.proofs.Table.{first_here, first_next, first_none, first_append_pass, first_append_refused}
 use Rattle.job.proofs.Values.{job_in_shape}
-use Rattle.pooling.specs.declared.Pooled.{Pooled}
-use Rattle.pooling.specs.Pooled.{pooled, too_large, unlike, pool_rows, pooled_of, pool_jobs, pooled_reply, Pools}
+use Rattle.pooling.specs.Pooled.{Pooled, pooled, too_large, unlike, pool_rows, pooled_of, pool_jobs, Pools}
 use Rattle.pooling.specs.Inner.{BothPass, Poolable}
 use Rattle.pooling.proofs.PoolTests.{too_large_other_order, unlike_other_order}
 use Rattle.pooling.proofs.PooledForm.{value_holds_pooled}
@@ -85,25 +82,18 @@ pub verdict_of_pooling : (A B : Job) → verdict_of (pool_jobs A B) ≡ first (p
 unfolding pool_jobs
 verdict_of_pooling A B = verdict_of_rows (first (pool_rows A B)) (pooled A B)
 
-reply_of_rows : (v : Verdict) (J : Job) → pooled_reply (pooled_of v J) ≡ reply_by v (job_value J)
+reply_of_rows : (v : Verdict) (J : Job) → reply_of (pooled_of v J) ≡ reply_by v (job_value J)
 reply_of_rows (Ok _) J = refl
 reply_of_rows (Err why) J = refl
 
-module _ (A B : Job) (r : Pooled) where
-  answer_when : (v : Verdict) → verdict_of r ≡ v → r.job ≡ (pooled_of v (pooled A B)).job → r ≡ pooled_of v (pooled A B)
-  answer_when (Ok _) verdict job =
-      ap₂ {C = Pooled} (λ (v : Verdict) (j : held.Job). record { verdict = v; job = j }) verdict job
-  answer_when (Err why) verdict job =
-      ap₂ {C = Pooled} (λ (v : Verdict) (j : held.Job). record { verdict = v; job = j }) verdict job
-
-  -- what is promised, for a verdict that the rows have
-  pub pools_when : (v : Verdict) → first (pool_rows A B) ≡ v → verdict_of r ≡ v → r.job ≡ (pooled_of v (pooled A B)).job
-      → Pools A B r
-  unfolding pool_jobs
-  pools_when v rows verdict job =
-      let same : r ≡ pooled_of (first (pool_rows A B)) (pooled A B)
-      = answer_when v verdict job ∙ ap (λ (w : Verdict). pooled_of w (pooled A B)) (sym rows) in
-      record { answers = same; replies = ap pooled_reply same ∙ reply_of_rows (first (pool_rows A B)) (pooled A B) }
+-- what is promised, for a verdict that the rows have
+pub pools_when : (A B : Job) (r : Pooled) (v : Verdict) → first (pool_rows A B) ≡ v → r ≡ pooled_of v (pooled A B)
+    → Pools A B r
+unfolding pool_jobs
+pools_when A B r v rows answer =
+    let same : r ≡ pooled_of (first (pool_rows A B)) (pooled A B)
+    = answer ∙ ap (λ (w : Verdict). pooled_of w (pooled A B)) (sym rows) in
+    record { answers = same; replies = ap reply_of same ∙ reply_of_rows (first (pool_rows A B)) (pooled A B) }
 
 -- ---- what inner functions ask
 module _ (one other : held.Job) (a : first (job_rows (job_in one)) ≡ pass) (b : first (job_rows (job_in other)) ≡ pass)
@@ -121,16 +111,24 @@ module _ (one other : held.Job) (a : first (job_rows (job_in one)) ≡ pass) (b 
         → Poolable one other
     poolable small alike = record { both = both_pass; not_too_large = small; not_unlike = alike }
 
--- ---- where two values are pooled, the answer's value holds the pooled job, and every call takes it
-module _ (one other : held.Job) (rows : first (pool_rows (job_in one) (job_in other)) ≡ pass) where
-  pub answer_holds_pooled : job_in (pool_jobs (job_in one) (job_in other)).job ≡ pooled (job_in one) (job_in other)
-  unfolding pool_jobs
+-- ---- where two values are pooled, the answer is a value that holds the pooled job, and every call takes it
+pub pooled_answer : (A B : Job) → first (pool_rows A B) ≡ pass → pool_jobs A B ≡ Ok (job_value (pooled A B))
+unfolding pool_jobs
+pooled_answer A B rows = ap (λ (v : Verdict). pooled_of v (pooled A B)) rows
+
+module _ (one other job : held.Job) (answer : pool_jobs (job_in one) (job_in other) ≡ Ok job) where
+  pub rows_pass : first (pool_rows (job_in one) (job_in other)) ≡ pass
+  rows_pass = sym (verdict_of_pooling (job_in one) (job_in other)) ∙ ap (λ (r : Pooled). verdict_of r) answer
+
+  pub answer_holds_pooled : job_in job ≡ pooled (job_in one) (job_in other)
   answer_holds_pooled =
-      ap (λ (v : Verdict). job_in (pooled_of v (pooled (job_in one) (job_in other))).job) rows
+      let same = sym (pooled_answer (job_in one) (job_in other) rows_pass) ∙ answer in
+      let value : job_value (pooled (job_in one) (job_in other)) ≡ job = cc in
+      ap job_in (sym value)
       ∙ value_holds_pooled (job_in one) (job_in other) (job_in_shape one) (job_in_shape other)
 
-  pub answer_passes : first (job_rows (job_in (pool_jobs (job_in one) (job_in other)).job)) ≡ pass
+  pub answer_passes : first (job_rows (job_in job)) ≡ pass
   answer_passes =
       ap (λ (J : Job). first (job_rows J)) answer_holds_pooled
       ∙ pooled_passes (job_in one) (job_in other)
-      (pooling_of_rows (job_in one) (job_in other) (job_in_shape one) (job_in_shape other) rows)
+      (pooling_of_rows (job_in one) (job_in other) (job_in_shape one) (job_in_shape other) rows_pass)

@@ -10,7 +10,7 @@ use Rattle.job.specs.declared.Form.TheVariants.{Four, Five}
 use Rattle.job.specs.declared.StoreRule.{StoreRule}
 use Rattle.job.specs.declared.StoreRule.TheVariants.{PerStep, PerHour}
 use Rattle.job.specs.declared.refusal.Refusal.TheVariants.{PoolTooLarge, PoolUnlike}
-use Rattle.std.specs.Prelude.{Ok, Err}
+use Rattle.std.specs.Prelude.{Err}
 use Rattle.job.specs.Refusal.{pass}
 use Rattle.job.specs.Job.{Job}
 use Rattle.job.specs.Lengths.{shortest_of}

@@ -1,21 +1,18 @@
 -- Two jobs pooled to one, sentence by sentence of document 02, i, and tests 32 and 33.
 -- Assumes nothing.
-use Rattle.std.specs.Prelude.{ℕ, ◌+◌, ◌*◌, ◌^◌, max, min, ◌≡◌, Bool, cond, not, ◌||◌, List, [], ◌∷◌, ◌++◌, map, eqb, ltb, length}
+use Rattle.std.specs.Prelude.{ℕ, ◌+◌, ◌*◌, ◌^◌, max, min, ◌≡◌, Bool, cond, not, ◌||◌, List, [], ◌∷◌, ◌++◌, map, eqb, ltb, length, Result}
 use Rattle.lists.specs.Lists.{tabulate, filled, any, any_below}
 use Rattle.facts.specs.FactSet.{union}
 use Rattle.job.specs.declared.Form.{Form}
 use Rattle.job.specs.declared.Form.TheVariants.{Four, Five, Six}
 use Rattle.job.specs.declared.Job as held
+use Rattle.job.specs.declared.refusal.Refusal.{Refusal}
 use Rattle.job.specs.declared.refusal.Refusal.TheVariants.{PoolTooLarge, PoolUnlike}
-use Rattle.job.specs.Refusal.{verdict_of, Verdict}
-use Rattle.std.specs.Prelude.{Ok, Err}
-use Rattle.job.specs.Refusal.{pass}
-use Rattle.job.specs.Job.{Action, Job, entries, handover_count, head_size, job_value, zero_value}
+use Rattle.job.specs.Job.{Action, Job, entries, handover_count, head_size, job_value}
 use Rattle.job.specs.Lengths.{shortest_of}
-use Rattle.job.specs.Refusal.{Row, ◌when◌, first, Reply, reply_by}
+use Rattle.job.specs.Refusal.{Verdict, Row, ◌when◌, first, answer_by, reply_of, reply_by}
 use Rattle.job.specs.Resources.{handover}
 use Rattle.job.specs.Valid.{over, job_rows}
-use Rattle.pooling.specs.declared.Pooled.{Pooled}
 
 -- "The second's facts and actions are numbered behind the first's": the set with each fact so much higher
 unfoldable pub behind : ℕ → ℕ → ℕ
@@ -105,20 +102,19 @@ unlike A B =
 unfoldable pub pool_rows : Job → Job → List Row
 pool_rows A B = job_rows A ++ (job_rows B ++ (PoolTooLarge when too_large A B ∷ PoolUnlike when unlike A B ∷ []))
 
--- the pooled job, or a refusal: "a job or number standing beside it is all zero"
-abbrev pub pooled_of : Verdict → Job → Pooled
-pooled_of (Ok _) J = Ok (job_value J)
-pooled_of (Err why) J = record { verdict = Err why; job = zero_value }
+-- what pooling answers: a job that passes every test, or the refusal
+abbrev pub Pooled : Type 0
+Pooled = Result held.Job Refusal
 
--- what pooling answers: the first refusal, or the pooled job
+-- the pooled job, or a refusal: "a job or number standing beside it is all zero": beside one none stands
+abbrev pub pooled_of : Verdict → Job → Pooled
+pooled_of v J = answer_by v (job_value J)
+
+-- the first refusal, or the pooled job
 unfoldable pub pool_jobs : Job → Job → Pooled
 pool_jobs A B = pooled_of (first (pool_rows A B)) (pooled A B)
-
--- the papers' reply: the number of the refusal, or the job
-abbrev pub pooled_reply : Pooled → Reply held.Job
-pooled_reply r = reply_by (verdict_of r) r.job
 
 -- what pooling promises of two jobs
 pub record Pools (A B : Job) (r : Pooled) : Type 0 where
   pub answers : r ≡ pool_jobs A B
-  pub replies : pooled_reply r ≡ reply_by (first (pool_rows A B)) (job_value (pooled A B))
+  pub replies : reply_of r ≡ reply_by (first (pool_rows A B)) (job_value (pooled A B))

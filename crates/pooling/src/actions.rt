@@ -35,17 +35,13 @@ fn renumbered(action: Action, counts: Counts, facts: u8) -> Action
     requires { Fits counts × FitsBehind facts action }
     ensures { BehindValue counts facts action result }
 {
-    let held = action.pools;
-    let used = action.stores;
-    let pools = counted(held, counts.pools);
-    let stores = counted(used, counts.stores);
     Action {
         duration: action.duration,
         needs: behind(facts, action.needs),
         adds: behind(facts, action.adds),
         deletes: behind(facts, action.deletes),
-        pools,
-        stores,
+        pools: counted(action.pools, counts.pools),
+        stores: counted(action.stores, counts.stores),
     }
 }
 
@@ -57,11 +53,8 @@ fn put(out: [Action; Job::ACTIONS], at: usize, job: Job, facts: u8) -> [Action; 
 {
     let counts = job.counts;
     let mut all = out;
-    let mut i = 0;
-    while i < counts.actions {
-        let action = job.actions[i];
-        all[at + i] = renumbered(action, counts, facts);
-        i += 1;
+    for i in 0..counts.actions {
+        all[at + i] = renumbered(job.actions[i], counts, facts);
     }
     all
 }
@@ -86,11 +79,9 @@ fn put_shortest(out: [u8; Job::ACTIONS], at: usize, job: Job) -> [u8; Job::ACTIO
     let form = job.form;
     let counts = job.counts;
     let mut all = out;
-    let mut i = 0;
-    while i < counts.actions {
+    for i in 0..counts.actions {
         let action = job.actions[i];
         all[at + i] = shortest_of(form, job.shortest[i], action.duration);
-        i += 1;
     }
     all
 }

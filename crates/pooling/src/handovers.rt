@@ -37,11 +37,11 @@ pub fn pooled(first: Job, second: Job) -> [u8; Job::POOLS]
     let b = second.counts;
     let mine = resources::handovers(first);
     let other = resources::handovers(second);
-    let h0 = handover_at(mine, a.pools, other, b.pools, 0);
-    let h1 = handover_at(mine, a.pools, other, b.pools, 1);
-    let h2 = handover_at(mine, a.pools, other, b.pools, 2);
-    let h3 = handover_at(mine, a.pools, other, b.pools, 3);
-    [h0, h1, h2, h3]
+    let mut handovers = [0u8; Job::POOLS];
+    for place in 0..Job::POOLS {
+        handovers[place] = handover_at(mine, a.pools, other, b.pools, place);
+    }
+    handovers
 }
 
 // Whether one of the first n handovers differs.
@@ -49,11 +49,5 @@ pub fn any_differs(n: usize, a: [u8; Job::POOLS], b: [u8; Job::POOLS]) -> bool
     requires { n ≤ 4 }
     ensures { result ≡ any_below n (λ k. not (eqb (get_or a k 0) (get_or b k 0))) }
 {
-    let mut found = false;
-    let mut k = 0;
-    while k < Job::POOLS {
-        found = found | ((k < n) & (a[k] != b[k]));
-        k += 1;
-    }
-    found
+    a[..n] != b[..n]
 }

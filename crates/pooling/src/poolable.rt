@@ -20,12 +20,8 @@ pub fn too_large(first: Job, second: Job) -> bool
     let stores = amounts::stores(first, second);
     (Job::FACTS < first.facts + second.facts)
         | (Job::ACTIONS < a.actions + b.actions)
-        | any_over(Job::AVAILABILITY, pools, amounts::larger(a.pools, b.pools))
-        | any_over(
-            Job::AVAILABILITY,
-            stores,
-            amounts::larger(a.stores, b.stores),
-        )
+        | any_over(Job::AVAILABILITY, pools, a.pools.max(b.pools))
+        | any_over(Job::AVAILABILITY, stores, a.stores.max(b.stores))
 }
 
 // Test 33: whether handovers of a shared pool, head forms or reserves differ.
@@ -37,7 +33,7 @@ pub fn unlike(first: Job, second: Job) -> bool
     let b = second.counts;
     let mine = first.rule;
     let other = second.rule;
-    let shared = amounts::smaller(a.pools, b.pools);
+    let shared = a.pools.min(b.pools);
     any_differs(
         shared,
         resources::handovers(first),

@@ -8,7 +8,7 @@ use mathlib.Core.List.{List, []}
 use lib.ListN.{length}
 use Rattle.job.specs.declared.refusal.Refusal.{Refusal}
 use Rattle.job.specs.declared.refusal.Refusal.TheVariants.{TrueLengths}
-use Rattle.job.specs.Refusal.{reply_of, Verdict}
+use Rattle.job.specs.Refusal.{Verdict}
 use Rattle.std.specs.Prelude.{Ok, Err}
 use Rattle.job.specs.Refusal.{pass}
 use Rattle.job.specs.Job.{Job}
@@ -69,5 +69,5 @@ module _ (J : Job) (bytes lengths : List ℕ) (r : Result Day Refusal) where
 
 -- what is told of steps, by numbers that are theirs
 pub told_of_steps : (J : Job) (P Q : List Step) (e n : ℕ) (most : List ℕ) → Q ≡ P → e ≡ end Q → n ≡ length Q
-    → most ≡ peaks J Q → Ok (record { end = e; steps = n; peaks = most }) ≡ Ok (told_of J P)
+    → most ≡ peaks J Q → ◌≡◌ {A = Day} (record { end = e; steps = n; peaks = most }) (told_of J P)
 told_of_steps J P Q e n most same ends count peak = rw (ends, count, peak, same)

@@ -1,7 +1,7 @@
 -- What a day was once its steps have run their true lengths, sentence by sentence of document 02, g.
 -- Assumes nothing.
 use Rattle.job.specs.declared.refusal.Refusal.{Refusal}
-use Rattle.std.specs.Prelude.{Result, Ok, Err}
+use Rattle.std.specs.Prelude.{Result}
 use Rattle.std.specs.Prelude.{ℕ, ◌≡◌, List, [], ◌∷◌, ◌++◌}
 use Rattle.job.specs.Job.{Job}
 use Rattle.job.specs.Refusal.{reply_of, Row, ◌when◌, first, reply_by}

@@ -16,7 +16,7 @@ use checker::pools::peaks;
 use checker::rules::end;
 use job::Job;
 use job::lengths::shortest;
-use job::refusal::{Refusal, Verdict};
+use job::refusal::Refusal;
 use job::validate::validate;
 use timeline::{Day, Plan, Step};
 
@@ -26,10 +26,9 @@ fn outside_range(job: Job, step: Step, length: u8) -> bool
         × (step.action.duration ≡ longest_of (job_in job) step.number) }
     ensures { result ≡ outside_range (job_in job) (step_of_value job.counts step) length }
 {
-    let form = job.form;
     let action = step.action;
-    let number = step.number as usize;
-    let least = shortest(form, job.shortest[number], action.duration);
+    let number = usize::from(step.number);
+    let least = shortest(job.form, job.shortest[number], action.duration);
     (length < least) | (action.duration < length)
 }
 
@@ -41,13 +40,10 @@ fn wrong_lengths(job: Job, plan: Plan, lengths: &[u8]) -> bool
     if lengths.len() != plan.length {
         return true;
     }
-    let mut i = 0;
-    while i < plan.length {
-        let step = plan.steps[i];
-        if outside_range(job, step, lengths[i]) {
+    for i in 0..plan.length {
+        if outside_range(job, plan.steps[i], lengths[i]) {
             return true;
         }
-        i += 1;
     }
     false
 }
@@ -57,9 +53,10 @@ fn with_length(step: Step, length: u8) -> Step
     requires { step.start + length < 2 ^ 32 }
     ensures { (n : Counts) → step_of_value n result ≡ with_length (step_of_value n step) length }
 {
-    let mut other = step;
-    other.stop = step.start + length as u32;
-    other
+    Step {
+        stop: step.start + u32::from(length),
+        ..step
+    }
 }
 
 // The plan with another length for each step.
@@ -68,46 +65,28 @@ fn with_lengths(plan: Plan, lengths: &[u8]) -> Plan
     ensures { (result.length ≡ plan.length) × (result.counts ≡ plan.counts)
         × (steps_of result ≡ with_lengths (steps_of plan) lengths.now) }
 {
-    let unused = Step::unused();
-    let mut steps = [unused; Plan::STEPS];
-    let mut i = 0;
-    while i < plan.length {
-        let step = plan.steps[i];
-        steps[i] = with_length(step, lengths[i]);
-        i += 1;
+    let mut steps = plan.steps;
+    for i in 0..plan.length {
+        steps[i] = with_length(plan.steps[i], lengths[i]);
     }
-    let counts = plan.counts;
-    Plan {
-        counts,
-        length: plan.length,
-        steps,
-    }
+    Plan { steps, ..plan }
 }
 
 // What the day of an accepted plan was: its true end, its number of steps and its true peaks, or the first refusal of
 // the job, of 12 to 20 and of 30.
-pub fn true_day(job: Job, plan: &[u8], lengths: &[u8]) -> Day
+pub fn true_day(job: Job, plan: &[u8], lengths: &[u8]) -> Result<Day, Refusal>
     ensures { TellsTrueDay (job_in job) plan.now lengths.now result }
 {
-    let verdict = validate(job);
-    if let Verdict::Refused(why) = verdict {
-        return Day::refused(why);
-    }
-    let checked = checked_plan(job, job.goal, plan);
-    let day = checked.day;
-    let accepted = day.verdict;
-    if let Verdict::Refused(why) = accepted {
-        return Day::refused(why);
-    }
+    validate(job)?;
+    let checked = checked_plan(job, job.goal, plan)?;
     let planned = checked.plan;
     if wrong_lengths(job, planned, lengths) {
-        return Day::refused(Refusal::TrueLengths);
+        return Err(Refusal::TrueLengths);
     }
     let run = with_lengths(planned, lengths);
-    Day {
-        verdict: Verdict::Pass,
+    Ok(Day {
         end: end(run),
         steps: run.length,
         peaks: peaks(run, job),
-    }
+    })
 }

@@ -8,13 +8,7 @@ use Rattle.pooling.specs.Pooled.{pooled, shortest_in, shortest_lengths}
 use Rattle.pooling.proofs.PoolTests.{few_facts}
 use Rattle.pooling.proofs.PassingActions.{behind_word}
 use Rattle.pooling.proofs.PooledValues.{counts_of_pooled, value_by_parts}
-use native.Mathlib.Omega.{arith}
 use Rattle.pooling.proofs.pooled_job.Goals as goal
-
-pub overflow_add-result : goal.overflow_add-result
-overflow_add-result c =
-    let few = few_facts (job_in c.args.first) (job_in c.args.second) c.requires.not_too_large in
-    omega arith
 
 pub joined-requires : goal.joined-requires
 joined-requires c =
@@ -34,9 +28,9 @@ returns c =
     let A = job_in a.first in
     let B = job_in a.second in
     let form = c.more_entries-form.ensures in
-    value_by_parts (pooled A B) _ _ _ _ _ _ _ _ _ _ _ c.later.ensures c.joined.ensures
+    value_by_parts (pooled A B) _ _ _ _ _ _ _ _ _ _ _ c.max-3.ensures c.joined.ensures
     c.joined-2.ensures c.reserve.ensures form
-    (counts_of_pooled a.first a.second _ _ c.larger.ensures c.larger-2.ensures)
+    (counts_of_pooled a.first a.second _ _ c.max.ensures c.max-2.ensures)
     c.pools-pools.ensures c.pooled-handovers.ensures c.stores-stores.ensures
     (c.shortest-shortest.ensures
     ∙ ap (λ (f : Form). filled 64 0 (shortest_in f (shortest_lengths A ++ shortest_lengths B))) form)

@@ -17,4 +17,4 @@ returns c =
     let longest = ap (shortest_by a.job.form (get_or a.job.shortest i 0))
     (c.requires.2 ∙ sym (longest_is a.job i known)) in
     ap (λ (n : ℕ). ltb a.length n || ltb d a.length)
-    (c.shortest-least.ensures ∙ longest ∙ shortest_is a.job i known)
+    ((rw c.from-number.ensures at c.shortest-least.ensures) ∙ longest ∙ shortest_is a.job i known)

@@ -1,5 +1,5 @@
 -- `true_day` meets its contract: the tests of the job, of the plan and of the lengths, then the day as it was.
-use mathlib.Core.Path.{sym, ap, ◌∙◌}
+use Rattle.std.proofs.Common.{rules, Ok, Err, ◌≡◌, refl, sym, ap, ◌∙◌}
 use mathlib.Core.List.{List}
 use Rattle.lists.proofs.Tabulate.{length_tabulate}
 use Rattle.job.specs.Job.{job_in}
@@ -15,38 +15,37 @@ use Rattle.true_day.proofs.WaysOut.{told_of_steps}
 use native.Mathlib.Omega.{arith}
 use Rattle.true_day.proofs.true_day.Goals as goal
 
-pub returns-in-Refused : goal.returns-in-Refused
-returns-in-Refused c =
-    tells_refused_job (job_in c.args.job) c.args.plan.now c.args.lengths.now _ _ c.refused.ensures
-    (sym c.validate-verdict.ensures ∙ c.in-Refused.is)
+pub returns-in_err-validate : goal.returns-in_err-validate
+returns-in_err-validate c =
+    let e : c.from_residual.result ≡ Err c.in_err-validate.field-0.0 = search rules in
+    tells_refused_job (job_in c.args.job) c.args.plan.now c.args.lengths.now _ _ e
+    (sym c.validate.ensures ∙ c.in_err-validate.was)
 
-pub checked_plan-checked-requires : goal.checked_plan-checked-requires
-checked_plan-checked-requires c = limits_of_pass _ (sym c.validate-verdict.ensures ∙ c.in_default.is)
+pub checked_plan-requires : goal.checked_plan-requires
+checked_plan-requires c = limits_of_pass _ (sym c.validate.ensures ∙ c.in_ok-validate.was)
 
-pub returns-in-Refused-accepted : goal.returns-in-Refused-accepted
-returns-in-Refused-accepted c =
-    let valid = sym c.validate-verdict.ensures ∙ c.in_default.is in
-    let day = verdict_of_day _ _ _ _ c.checked_plan-checked.ensures.day in
-    tells_refused_plan (job_in c.args.job) c.args.plan.now c.args.lengths.now _ valid _ c.refused-in-Refused-accepted.ensures
-    (sym day ∙ c.in-Refused-accepted.is)
+pub returns-in_err-checked : goal.returns-in_err-checked
+returns-in_err-checked c =
+    let e : c.from_residual-in_err-checked.result ≡ Err c.in_err-checked.field-0.0 = search rules in
+    let valid = sym c.validate.ensures ∙ c.in_ok-validate.was in
+    let day = verdict_of_day _ _ _ _ (rw c.in_err-checked.was at c.checked_plan.ensures.day) in
+    tells_refused_plan (job_in c.args.job) c.args.plan.now c.args.lengths.now _ valid _ e (sym day)
 
 pub wrong_lengths-requires : goal.wrong_lengths-requires
 wrong_lengths-requires c =
-    let valid = sym c.validate-verdict.ensures ∙ c.in_default.is in
-    let passes = c.in_default-accepted.is in
-    let day = verdict_of_day _ _ _ _ c.checked_plan-checked.ensures.day in
-    own_plan c.args.job c.args.job.goal c.args.plan.now _ valid (sym day ∙ passes)
-    (c.checked_plan-checked.ensures.plan passes)
+    let valid = sym c.validate.ensures ∙ c.in_ok-validate.was in
+    let accepted = sym (verdict_of_day _ _ _ _ (rw c.in_ok-checked.was at c.checked_plan.ensures.day)) in
+    own_plan c.args.job c.args.job.goal c.args.plan.now _ valid accepted
+    (c.checked_plan.ensures.plan _ c.in_ok-checked.was)
 
 pub returns-then-wrong_lengths : goal.returns-then-wrong_lengths
 returns-then-wrong_lengths c =
     let J = job_in c.args.job in
-    let valid = sym c.validate-verdict.ensures ∙ c.in_default.is in
-    let passes = c.in_default-accepted.is in
-    let day = verdict_of_day _ _ _ _ c.checked_plan-checked.ensures.day in
-    let decodes = c.checked_plan-checked.ensures.plan passes in
+    let valid = sym c.validate.ensures ∙ c.in_ok-validate.was in
+    let accepted = sym (verdict_of_day _ _ _ _ (rw c.in_ok-checked.was at c.checked_plan.ensures.day)) in
+    let decodes = c.checked_plan.ensures.plan _ c.in_ok-checked.was in
     let lengths = c.args.lengths.now in
-    tells_wrong_lengths J c.args.plan.now lengths _ valid (sym day ∙ passes) c.refused-then-wrong_lengths.ensures
+    tells_wrong_lengths J c.args.plan.now lengths _ valid accepted refl
     (sym (ap (λ (P : List Step). wrong_lengths J P lengths) decodes.steps)
     ∙ sym c.wrong_lengths.ensures
     ∙ c.if-wrong_lengths.true)
@@ -54,11 +53,9 @@ returns-then-wrong_lengths c =
 pub with_lengths-run-requires : goal.with_lengths-run-requires
 with_lengths-run-requires c =
     let job = c.args.job in
-    let valid = sym c.validate-verdict.ensures ∙ c.in_default.is in
-    let passes = c.in_default-accepted.is in
-    let day = verdict_of_day _ _ _ _ c.checked_plan-checked.ensures.day in
-    let decodes = c.checked_plan-checked.ensures.plan passes in
-    let accepted = sym day ∙ passes in
+    let valid = sym c.validate.ensures ∙ c.in_ok-validate.was in
+    let accepted = sym (verdict_of_day _ _ _ _ (rw c.in_ok-checked.was at c.checked_plan.ensures.day)) in
+    let decodes = c.checked_plan.ensures.plan _ c.in_ok-checked.was in
     let right = sym c.wrong_lengths.ensures ∙ c.if-wrong_lengths.false in
     let bytes = c.args.plan.now in
     let lengths = c.args.lengths.now in (
@@ -67,20 +64,12 @@ with_lengths-run-requires c =
       in_bits job job.goal bytes _ valid accepted decodes lengths right,
     )
 
-pub end-requires : goal.end-requires
-end-requires c =
-    let passes = c.in_default-accepted.is in
-    let few = (c.checked_plan-checked.ensures.plan passes).few in
-    let same = c.with_lengths-run.ensures.0 in
-    omega arith
-
 pub peaks-requires : goal.peaks-requires
 peaks-requires c =
     let job = c.args.job in
-    let valid = sym c.validate-verdict.ensures ∙ c.in_default.is in
-    let passes = c.in_default-accepted.is in
-    let day = verdict_of_day _ _ _ _ c.checked_plan-checked.ensures.day in
-    let decodes = c.checked_plan-checked.ensures.plan passes in
+    let valid = sym c.validate.ensures ∙ c.in_ok-validate.was in
+    let accepted = sym (verdict_of_day _ _ _ _ (rw c.in_ok-checked.was at c.checked_plan.ensures.day)) in
+    let decodes = c.checked_plan.ensures.plan _ c.in_ok-checked.was in
     let few = decodes.few in
     let run = c.with_lengths-run.ensures in
     let same = run.0 in
@@ -88,7 +77,7 @@ peaks-requires c =
       omega arith,
       run.1 ∙ decodes.counts,
       fits_of_pass job valid,
-      small_true_peaks job job.goal c.args.plan.now c.checked_plan-checked.result.plan valid (sym day ∙ passes) decodes
+      small_true_peaks job job.goal c.args.plan.now _ valid accepted decodes
           c.args.lengths.now right c.with_lengths-run.result run.2,
     )
 
@@ -97,15 +86,14 @@ returns c =
     let J = job_in c.args.job in
     let bytes = c.args.plan.now in
     let lengths = c.args.lengths.now in
-    let valid = sym c.validate-verdict.ensures ∙ c.in_default.is in
-    let passes = c.in_default-accepted.is in
-    let day = verdict_of_day _ _ _ _ c.checked_plan-checked.ensures.day in
-    let decodes = c.checked_plan-checked.ensures.plan passes in
+    let valid = sym c.validate.ensures ∙ c.in_ok-validate.was in
+    let accepted = sym (verdict_of_day _ _ _ _ (rw c.in_ok-checked.was at c.checked_plan.ensures.day)) in
+    let decodes = c.checked_plan.ensures.plan _ c.in_ok-checked.was in
     let right = sym (ap (λ (P : List Step). wrong_lengths J P lengths) decodes.steps)
     ∙ sym c.wrong_lengths.ensures
     ∙ c.if-wrong_lengths.false in
     let run = c.with_lengths-run.result in
     let steps = c.with_lengths-run.ensures.2 ∙ ap (λ (P : List Step). with_lengths P lengths) decodes.steps in
-    tells_day J bytes lengths _ valid (sym day ∙ passes) right
-    (told_of_steps J (true_steps J bytes lengths) (steps_of run) _ _ _ steps c.end.ensures
-    (sym (length_tabulate run.length (step_at run))) c.peaks.ensures)
+    tells_day J bytes lengths _ valid accepted right
+    (ap Ok (told_of_steps J (true_steps J bytes lengths) (steps_of run) _ _ _ steps c.end.ensures
+    (sym (length_tabulate run.length (step_at run))) c.peaks.ensures))

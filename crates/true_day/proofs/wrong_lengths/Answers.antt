@@ -3,7 +3,6 @@ use Prim.Native.Nat.{ℕ}
 use mathlib.Core.Path.{◌≡◌, sym, ap, ◌∙◌}
 use mathlib.Core.Bool.{Bool, true}
 use lib.ListN.{get_or}
-use borrow.Author.Count.{below_none, below_more}
 use Rattle.lists.proofs.Below.{below_found, none_below}
 use Rattle.lists.proofs.Tabulate.{length_tabulate}
 use Rattle.job.specs.declared.Counts.{Counts}
@@ -20,30 +19,6 @@ returns-then-lengths-plan c =
     sym (wrong_number (job_in c.args.job) (steps_of c.args.plan) c.args.lengths.now
     (λ e. c.if-lengths-plan.true (e ∙ count)))
 
-pub loop-i-init : goal.loop-i-init
-loop-i-init c = (omega arith, below_none _)
-
-pub offset_bounds-plan-i : goal.offset_bounds-plan-i
-offset_bounds-plan-i c =
-    let few = c.requires.few in
-    omega arith
-
-pub bounds-plan-i : goal.bounds-plan-i
-bounds-plan-i c =
-    let few = c.requires.few in
-    omega arith
-
-pub bounds-lengths-i : goal.bounds-lengths-i
-bounds-lengths-i c =
-    let same = c.if-lengths-plan.false in
-    omega arith
-
-pub outside_range-requires : goal.outside_range-requires
-outside_range-requires c =
-    let own = c.requires in
-    let i = c.loop-i.i in
-    (own.fits, own.known i c.loop-i-test.true, own.longest i c.loop-i-test.true)
-
 pub returns-then-outside_range : goal.returns-then-outside_range
 returns-then-outside_range c =
     let a = c.args in
@@ -57,19 +32,10 @@ returns-then-outside_range c =
     sym (wrong_by_place (job_in a.job) n (step_at a.plan) a.lengths.now c.if-lengths-plan.false
     ∙ below_found n test i c.loop-i-test.true here)
 
-pub loop-i-preserved : goal.loop-i-preserved
-loop-i-preserved c =
-    let a = c.args in
-    let i = c.loop-i.i in
-    let here = ap (λ (m : Counts). outside_range (job_in a.job) (step_of_value m (get_or a.plan.steps i beyond_step))
-    (get_or a.lengths.now i 0)) c.requires.counts
-    ∙ sym c.outside_range.ensures ∙ c.if-outside_range.false in
-    (omega arith, below_more _ _ c.loop-i.invariant.1 here)
-
 pub returns : goal.returns
 returns c =
     let a = c.args in
     let n = a.plan.length in
     let test : ℕ → Bool = λ k. outside_range (job_in a.job) (step_at a.plan k) (get_or a.lengths.now k 0) in
     sym (wrong_by_place (job_in a.job) n (step_at a.plan) a.lengths.now c.if-lengths-plan.false
-    ∙ none_below n test (λ k l. c.loop-i.invariant.1 k (omega arith)))
+    ∙ none_below n test (λ k l. c.loop-i.invariant k (omega arith)))

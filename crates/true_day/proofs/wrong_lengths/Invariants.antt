@@ -1,5 +1,5 @@
 -- `wrong_lengths` meets its contract: the first i lengths are within their ranges.
-use Prim.Native.Nat.{ℕ, ◌-◌, ◌<◌, ◌≤◌}
+use Prim.Native.Nat.{ℕ, ◌<◌}
 use mathlib.Core.Path.{◌≡◌}
 use mathlib.Core.Bool.{false}
 use lib.ListN.{get_or}
@@ -10,7 +10,4 @@ use Rattle.true_day.proofs.wrong_lengths.Given as goal
 
 abbrev pub invariant-loop-i : goal.invariant-loop-i
 invariant-loop-i l =
-    (l.i ≤ l.plan.length) × ((k : ℕ) → k < l.i → outside_range (job_in l.job) (step_at l.plan k) (get_or l.lengths k 0) ≡ false)
-
-abbrev pub decreases-loop-i : goal.decreases-loop-i
-decreases-loop-i l = l.plan.length - l.i
+    ((k : ℕ) → k < l.i → outside_range (job_in l.job) (step_at l.plan k) (get_or l.lengths k 0) ≡ false)

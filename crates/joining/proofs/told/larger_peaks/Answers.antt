@@ -1,10 +1,12 @@
--- `larger_peaks` meets its contract: four numbers, each the larger of two.
-use Rattle.lists.specs.Lists.{tabulate}
+-- `larger_peaks` meets its contract: at each place the larger of two.
+use Rattle.std.proofs.Common.{ℕ, arith, ap, sym, ◌∙◌}
+use Rattle.lists.specs.Lists.{firsts}
+use Rattle.lists.proofs.Tabulate.{firsts_all, tabulate_same}
 use Rattle.joining.proofs.told.larger_peaks.Goals as goal
 
 pub returns : goal.returns
-unfolding tabulate
 returns c =
-    let one = c.larger-first.ensures in
-    let two = c.larger-second.ensures in
-    rw (one, two, c.larger-third.ensures, c.larger-fourth.ensures)
+    let xs = c.loop-pool.larger in
+    sym (firsts_all xs 0)
+    ∙ ap (λ (m : ℕ). firsts m 0 xs) c.loop-pool.invariant.0
+    ∙ tabulate_same 4 _ _ (λ k l. c.loop-pool.invariant.1 k (omega arith))

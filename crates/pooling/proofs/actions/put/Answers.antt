@@ -1,5 +1,4 @@
 -- `put` meets its contract: the first i actions stand behind those of the array.
-use mathlib.Core.Path.{◌≡◌}
 use Rattle.job.specs.Job.{action_at}
 use Rattle.pooling.specs.Pooled.{renumbered}
 use Rattle.pooling.proofs.PooledArrays.{actions_start, actions_next}
@@ -8,31 +7,15 @@ use Rattle.pooling.proofs.actions.put.Goals as goal
 
 pub loop-i-init : goal.loop-i-init
 loop-i-init c =
-    let a = c.args in (
-      omega arith,
-      λ xs pools stores e h w. actions_start xs (renumbered a.facts pools stores) (action_at a.job) a.out h,
-    )
-
-pub renumbered-requires : goal.renumbered-requires
-renumbered-requires c =
-    let l = c.loop-i in
-    (c.requires.0, c.requires.2 l.i (omega arith))
+    let a = c.args in
+    λ xs pools stores e h w. actions_start xs (renumbered a.facts pools stores) (action_at a.job) a.out h
 
 pub loop-i-preserved : goal.loop-i-preserved
 loop-i-preserved c =
     let a = c.args in
     let l = c.loop-i in
-    let most = c.requires.1 in (
-      omega arith,
-      λ xs pools stores e h w.
-          actions_next xs (renumbered a.facts pools stores) (action_at a.job) l.i a.at l.all
-          c.renumbered.result e (omega arith) (l.invariant.1 xs pools stores e h w)
-          (c.renumbered.ensures pools stores w),
-    )
-
-pub returns : goal.returns
-returns c =
-    let a = c.args in
-    let l = c.loop-i in
-    let e : l.i ≡ a.job.counts.actions = omega arith in
-    rw e at l.invariant.1
+    let most = c.requires.1 in
+    λ xs pools stores e h w.
+    actions_next xs (renumbered a.facts pools stores) (action_at a.job) l.i a.at l.all
+    c.renumbered.result e (omega arith) (l.invariant xs pools stores e h w)
+    (c.renumbered.ensures pools stores w)

@@ -1,5 +1,5 @@
 -- `put` meets its contract: the first i actions stand behind those of the array.
-use Prim.Native.Nat.{ℕ, ◌-◌, ◌≤◌}
+use Prim.Native.Nat.{ℕ}
 use mathlib.Core.Path.{◌≡◌}
 use mathlib.Core.List.{List, ◌++◌, map}
 use lib.ListN.{length}
@@ -11,9 +11,5 @@ use Rattle.pooling.proofs.actions.put.Given as goal
 
 abbrev pub invariant-loop-i : goal.invariant-loop-i
 invariant-loop-i l =
-    (l.i ≤ l.counts.actions)
-    × ((xs : List Action) (pools stores : ℕ) → length xs ≡ l.at → HasActions l.initial.all xs → Widens l.counts pools stores
-    → HasActions l.all (xs ++ map (renumbered l.facts pools stores) (tabulate l.i (action_at l.job))))
-
-abbrev pub decreases-loop-i : goal.decreases-loop-i
-decreases-loop-i l = l.counts.actions - l.i
+    (xs : List Action) (pools stores : ℕ) → length xs ≡ l.at → HasActions l.initial.all xs → Widens l.counts pools stores
+    → HasActions l.all (xs ++ map (renumbered l.facts pools stores) (tabulate l.i (action_at l.job)))

@@ -14,21 +14,17 @@ use Rattle.pooling.proofs.actions.put_shortest.Goals as goal
 
 pub loop-i-init : goal.loop-i-init
 loop-i-init c =
-    let a = c.args in (
-      omega arith,
-      λ xs e h. h ∙ ap (λ (ys : List ℕ). filled 64 0 ys) (nothing_behind xs (shortest_of (job_in a.job))),
-    )
+    let a = c.args in
+    λ xs e h. h ∙ ap (λ (ys : List ℕ). filled 64 0 ys) (nothing_behind xs (shortest_of (job_in a.job)))
 
 pub loop-i-preserved : goal.loop-i-preserved
 loop-i-preserved c =
     let a = c.args in
     let l = c.loop-i in
-    let most = c.requires.1 in (
-      omega arith,
-      λ xs e h.
-          put_behind 64 0 xs (shortest_of (job_in a.job)) l.i a.at l.all c.shortest.result e (omega arith)
-          (l.invariant.1 xs e h) (c.shortest.ensures ∙ shortest_is a.job l.i (omega arith)),
-    )
+    let most = c.requires.1 in
+    λ xs e h.
+    put_behind 64 0 xs (shortest_of (job_in a.job)) l.i a.at l.all c.shortest.result e (omega arith)
+    (l.invariant xs e h) (c.shortest.ensures ∙ shortest_is a.job l.i (omega arith))
 
 pub returns : goal.returns
 returns c =
@@ -36,4 +32,4 @@ returns c =
     let l = c.loop-i in
     let n = length_tabulate a.job.counts.actions (action_at a.job) in
     let e : l.i ≡ length (job_in a.job).actions = omega arith in
-    rw e at l.invariant.1
+    rw e at l.invariant

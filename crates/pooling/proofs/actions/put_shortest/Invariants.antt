@@ -1,5 +1,5 @@
 -- `put_shortest` meets its contract: the first i lengths stand behind those of the array.
-use Prim.Native.Nat.{ℕ, ◌-◌, ◌≤◌}
+use Prim.Native.Nat.{ℕ}
 use mathlib.Core.Path.{◌≡◌}
 use mathlib.Core.List.{List, ◌++◌}
 use lib.ListN.{length}
@@ -10,9 +10,5 @@ use Rattle.pooling.proofs.actions.put_shortest.Given as goal
 
 abbrev pub invariant-loop-i : goal.invariant-loop-i
 invariant-loop-i l =
-    (l.i ≤ l.counts.actions)
-    × ((xs : List ℕ) → length xs ≡ l.at → l.initial.all ≡ filled 64 0 xs
-    → l.all ≡ filled 64 0 (xs ++ tabulate l.i (shortest_of (job_in l.job))))
-
-abbrev pub decreases-loop-i : goal.decreases-loop-i
-decreases-loop-i l = l.counts.actions - l.i
+    (xs : List ℕ) → length xs ≡ l.at → l.initial.all ≡ filled 64 0 xs
+    → l.all ≡ filled 64 0 (xs ++ tabulate l.i (shortest_of (job_in l.job)))

@@ -17,8 +17,8 @@ returns c =
       c.behind.ensures,
       c.behind-2.ensures,
       c.behind-3.ensures,
-      c.counted-pools.ensures
+      c.counted.ensures
           ∙ filled_twice 4 pools (firsts a.counts.pools 0 a.action.pools) (omega arith) w.few_pools,
-      c.counted-stores.ensures
+      c.counted-2.ensures
           ∙ filled_twice 4 stores (firsts a.counts.stores 0 a.action.stores) (omega arith) w.few_stores,
     )

@@ -1,18 +1,11 @@
--- `counted` meets its contract: place by place.
-use Rattle.lists.specs.Lists.{tabulate, firsts}
-use Rattle.pooling.proofs.Arrays.{filled_by_place, length_firsts}
-use native.Mathlib.Omega.{arith}
+-- `counted` meets its contract: the first n are copied, and zeros stay behind them.
+use Rattle.std.proofs.Common.{rules, ◌≡◌, List, ℕ, ◌++◌, length, drop, replicate, ap, ◌∙◌}
+use Rattle.pooling.proofs.Arrays.{zeros_behind}
 use Rattle.pooling.proofs.amounts.counted.Goals as goal
 
 pub returns : goal.returns
-unfolding tabulate
 returns c =
-    let a = c.args in
-    let n = length_firsts a.n a.amounts in
-    rw (
-      c.amount_at-first.ensures,
-      c.amount_at-second.ensures,
-      c.amount_at-third.ensures,
-      c.amount_at-fourth.ensures,
-    )
-    (filled_by_place 4 (firsts a.n 0 a.amounts) (omega arith))
+    let n = c.args.n in
+    let four : length c.args.amounts ≡ 4 = search rules in
+    ap (λ (xs : List ℕ). xs ++ drop n (replicate 4 0)) c.copy_from_slice.ensures.after
+    ∙ zeros_behind n c.args.amounts c.requires four

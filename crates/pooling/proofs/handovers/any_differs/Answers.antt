@@ -1,31 +1,10 @@
--- `any_differs` meets its contract: found among the first k handovers, of those that count.
-use mathlib.Core.Path.{◌≡◌, refl, ap, sym, ◌∙◌}
-use mathlib.Core.Bool.{Bool, not, ◌||◌, or_comm}
-use lib.Dec.{eqb}
-use lib.ListN.{get_or}
-use Rattle.lists.specs.Lists.{any_below}
-use Rattle.lists.proofs.Below.{below_more, below_cut}
-use native.Mathlib.Omega.{arith}
-use Rattle.pooling.proofs.handovers.any_differs.Invariants.{counts_at}
+-- `any_differs` meets its contract: two fronts differ where they differ at a place.
+use Rattle.std.proofs.Common.{rules, arith, ◌≡◌, length, ◌∙◌}
+use Rattle.pooling.proofs.Arrays.{fronts_differ}
 use Rattle.pooling.proofs.handovers.any_differs.Goals as goal
-
-pub loop-k-init : goal.loop-k-init
-loop-k-init c = (omega arith, refl)
-
-pub loop-k-preserved : goal.loop-k-preserved
-loop-k-preserved c =
-    let a = c.args in
-    let l = c.loop-k in
-    let test = counts_at a.n a.a a.b in (
-      omega arith,
-      ap (λ (b : Bool). b || test l.k) l.invariant.1
-          ∙ or_comm (any_below l.k test) (test l.k)
-          ∙ sym (below_more l.k test),
-    )
 
 pub returns : goal.returns
 returns c =
-    let a = c.args in
-    let l = c.loop-k in
-    let e : l.k ≡ 4 = omega arith in
-    (rw e at l.invariant.1) ∙ below_cut a.n 4 (λ k. not (eqb (get_or a.a k 0) (get_or a.b k 0))) (omega arith)
+    let one : length c.args.a ≡ 4 = search rules in
+    let two : length c.args.b ≡ 4 = search rules in
+    c.ne.ensures ∙ fronts_differ c.args.n c.args.a c.args.b (omega arith) (omega arith)

@@ -20,11 +20,10 @@ returns c =
     too_large_parts A B n.actions m.actions c.any_over.result c.any_over-2.result
     (length_tabulate n.actions (action_at a.first)) (length_tabulate m.actions (action_at a.second))
     (c.any_over.ensures
-    ∙ ap₂ (λ (k : ℕ) (xs : List ℕ). any (over 1000000) (firsts k 0 xs)) c.larger.ensures c.pools-pools.ensures
+    ∙ ap₂ (λ (k : ℕ) (xs : List ℕ). any (over 1000000) (firsts k 0 xs)) c.max.ensures c.pools-pools.ensures
     ∙ any_of_sums A.pools B.pools n.pools m.pools (length_firsts n.pools a.first.pools)
     (length_firsts m.pools a.second.pools))
     (c.any_over-2.ensures
-    ∙ ap₂ (λ (k : ℕ) (xs : List ℕ). any (over 1000000) (firsts k 0 xs))
-    c.larger-2.ensures c.stores-stores.ensures
+    ∙ ap₂ (λ (k : ℕ) (xs : List ℕ). any (over 1000000) (firsts k 0 xs)) c.max-2.ensures c.stores-stores.ensures
     ∙ any_of_sums A.stores B.stores n.stores m.stores (length_firsts n.stores a.first.stores)
     (length_firsts m.stores a.second.stores))

@@ -17,6 +17,6 @@ returns c =
     (ap₂ ◌||◌
     (c.any_differs.ensures
     ∙ handovers_differ_by (job_in a.first) (job_in a.second) c.handovers.result c.handovers-2.result
-    c.smaller-shared.result c.handovers.ensures c.handovers-2.ensures (c.smaller-shared.ensures ∙ ap₂ min (sym n) (sym m)))
+    _ c.handovers.ensures c.handovers-2.ensures (c.min-shared.ensures ∙ ap₂ min (sym n) (sym m)))
     (ap not (ap₂ eqb c.head.ensures c.head-2.ensures)))
     (ap not (ap₂ eqb c.reserve.ensures c.reserve-2.ensures))
