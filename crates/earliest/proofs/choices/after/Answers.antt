@@ -7,4 +7,4 @@ pub returns-then-time-gt-LATEST : goal.returns-then-time-gt-LATEST
 returns-then-time-gt-LATEST c = (rw (lt-ltb 530400 c.args.time (omega arith)), omega arith)
 
 pub returns : goal.returns
-returns c = (rw (le-ltb 530400 c.args.time (omega arith)), omega arith)
+returns c = (rw (c.from.ensures, le-ltb 530400 c.args.time (omega arith)), omega arith)

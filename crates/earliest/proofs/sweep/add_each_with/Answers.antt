@@ -16,7 +16,7 @@ count_of-count-requires c = c.requires.1
 pub loop-j-init : goal.loop-j-init
 loop-j-init c =
     let J = with_extra c.args.job c.args.extra in
-    (omega arith, c.requires.0, λ able. below_at_first J (JoinedSettled J c.args.i) _ able.kept)
+    (c.requires.0, λ able. below_at_first J (JoinedSettled J c.args.i) _ able.kept)
 
 pub bounds-job-j : goal.bounds-job-j
 bounds-job-j c =
@@ -34,17 +34,17 @@ bounds-extra-j c =
 
 pub add_pair-changed-requires : goal.add_pair-changed-requires
 add_pair-changed-requires c =
-    (c.loop-j.invariant.1, c.requires.1.facts, c.requires.1.counts.0)
+    (c.loop-j.invariant.0, c.requires.1.facts, c.requires.1.counts.0)
 
 pub shape_of-table : goal.shape_of-table
 shape_of-table c =
-    c.loop-j.invariant.1 ∙ sym c.requires.0
+    c.loop-j.invariant.0 ∙ sym c.requires.0
 
 pub returns : goal.returns
 returns c =
     let count = c.count_of-count.ensures in
     let all : c.loop-j.j ≡ length (with_extra c.args.job c.args.extra).actions = omega arith in
-    (c.loop-j.invariant.1, λ able. rw all at (c.loop-j.invariant.2 able))
+    (c.loop-j.invariant.0, λ able. rw all at (c.loop-j.invariant.1 able))
 
 pub loop-j-preserved : goal.loop-j-preserved
 loop-j-preserved c =
@@ -61,10 +61,9 @@ loop-j-preserved c =
       | then-j-counts w ↦ rw w.b-is (is_own_action job extra j w.if-j-counts.true)
       | else-j-counts w ↦ rw w.b-is (is_extra_action job extra j w.if-j-counts.false (omega arith))
     ] in (
-      omega arith,
       lowers.0,
       λ able.
-          let before = c.loop-j.invariant.2 able in
+          let before = c.loop-j.invariant.1 able in
           below_next J (JoinedSettled J i) j _ xs _ _ _ before
           (lowers.1 J job.counts (lowerable_on J _ _ xs _ able before) (has_pools job extra) c.requires.2 is),
     )
