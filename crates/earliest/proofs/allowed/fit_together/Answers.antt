@@ -1,5 +1,5 @@
 -- `fit_together` meets its contract: none of the pools is exceeded.
-use Rattle.std.proofs.Common.{ℕ, zero, suc, ◌+◌, ◌-◌, ◌≡◌, Bool, not, ◌||◌, ap, ap₂, sym, ◌∙◌, get_or, refl, rules, arith}
+use Rattle.std.proofs.Common.{ℕ, zero, suc, ◌+◌, ◌≡◌, Bool, not, ◌||◌, ap, ap₂, sym, ◌∙◌, get_or, refl, rules, arith}
 use Rattle.std.specs.List.{list_any, range_with_len}
 use Rattle.std.proofs.lemmas.Iterator.{YieldsList-from_range}
 use Rattle.std.proofs.lemmas.Iterator.Search.{any_from_yields_List}
