@@ -21,13 +21,6 @@ use job::{Action, Job};
 use tables::Steps;
 use timeline::{Plan, Step};
 
-// A minute of 16 bits as a number of 32.
-fn wide(minute: u16) -> u32
-    ensures { (result ≡ minute) × (result < 65536) }
-{
-    minute as u32
-}
-
 // The kept steps as a plan by value, the last first.
 pub fn kept_plan(job: Job, kept: Steps) -> Plan
     requires { Fits job.counts × Known job.counts.actions kept }
@@ -35,11 +28,9 @@ pub fn kept_plan(job: Job, kept: Steps) -> Plan
 {
     let unused = Step::unused();
     let mut steps = [unused; Plan::STEPS];
-    let mut i = 0;
-    while i < kept.count {
+    for i in 0..kept.count {
         let k = kept.count - 1 - i;
-        steps[i] = decode::step(job, kept.numbers[k], wide(kept.starts[k]));
-        i += 1;
+        steps[i] = decode::step(job, kept.numbers[k], u32::from(kept.starts[k]));
     }
     let counts = job.counts;
     Plan {
@@ -54,9 +45,8 @@ pub fn held_at(plan: Plan, start: u64, minute: u16) -> u64
     requires { plan.length ≤ 32 }
     ensures { result ≡ held start (steps_of plan) minute }
 {
-    let last = minute as u32;
     let mut clock = Clock::new(start);
-    while clock.minute < last {
+    for _ in 0..minute {
         clock = clock.tick(plan);
     }
     clock.facts
@@ -67,14 +57,10 @@ pub fn at_hand(plan: Plan, held: u64, minute: u16) -> u64
     requires { plan.length ≤ 32 }
     ensures { result ≡ union held (union_of (λ x. x.action.adds) (running minute (steps_of plan))) }
 {
-    let now = minute as u32;
-    let mut added: u64 = 0;
-    let mut i = 0;
-    while i < plan.length {
-        let step = plan.steps[i];
-        let action = step.action;
-        added = facts::union(added, facts::when(now < step.stop, action.adds));
-        i += 1;
+    let now = u32::from(minute);
+    let mut added = 0;
+    for step in &plan.steps[..plan.length] {
+        added = facts::union(added, facts::when(now < step.stop, step.action.adds));
     }
     facts::union(held, added)
 }
@@ -111,13 +97,10 @@ pub fn rest_actions(plan: Plan, minute: u16) -> Extra
     ensures { (result.count ≤ 32) × (length result.actions ≡ 32)
         × (extra_actions plan.counts result ≡ map (rest_action minute) (running minute (steps_of plan))) }
 {
-    let now = minute as u32;
+    let now = u32::from(minute);
     let mut extra = Extra::none();
-    let mut i = 0;
-    while i < plan.length {
-        let step = plan.steps[i];
-        extra = with_rest(extra, step, now);
-        i += 1;
+    for step in &plan.steps[..plan.length] {
+        extra = with_rest(extra, *step, now);
     }
     extra
 }

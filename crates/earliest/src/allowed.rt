@@ -9,7 +9,7 @@ use job::{Action, Job};
 fn exceeded(available: u32, first: u32, second: u32) -> bool
     ensures { result ≡ over available (first + second) }
 {
-    (available as u64) < first as u64 + second as u64
+    u64::from(available) < u64::from(first) + u64::from(second)
 }
 
 // Whether the two use no more of each pool than there is.
@@ -17,14 +17,7 @@ fn fit_together(pools: usize, available: [u32; Job::POOLS], a: Action, b: Action
     requires { pools ≤ 4 }
     ensures { result ≡ fit_together_in pools available a b }
 {
-    let mut k = 0;
-    while k < pools {
-        if exceeded(available[k], a.pools[k], b.pools[k]) {
-            return false;
-        }
-        k += 1;
-    }
-    true
+    !(0..pools).any(|k| exceeded(available[k], a.pools[k], b.pools[k]))
 }
 
 // Whether the action uses no more of each pool than there is: it fits together with one that uses nothing.
@@ -40,10 +33,7 @@ pub fn fits_alone(pools: usize, available: [u32; Job::POOLS], a: Action) -> bool
 fn is_longer(duration: u8, other: u8, i: usize, j: usize) -> bool
     ensures { result ≡ is_longer duration other i j }
 {
-    if duration == other {
-        return j < i;
-    }
-    other < duration
+    (other, j) < (duration, i)
 }
 
 // Whether actions i and j are a choice, i the longer one.

@@ -13,7 +13,7 @@ fn after(minutes: u8, time: u32) -> u32
     if set_time::LATEST < time {
         return set_time::NONE;
     }
-    minutes as u32 + time
+    u32::from(minutes) + time
 }
 
 // When an action ends that starts as soon as its needs are there.
@@ -58,10 +58,8 @@ pub fn add_one(table: &mut [u32], facts: u8, action: Action) -> bool
         × LowersOne facts action table.old table.new result }
 {
     let mut changed = false;
-    let mut q: u8 = 0;
-    while q < facts {
+    for q in 0..facts {
         changed = carry(table, facts, action, q) | changed;
-        q += 1;
     }
     changed
 }

@@ -10,10 +10,7 @@ fn place(p: u8, q: u8) -> usize
     requires { (p < 64) × (q < 64) }
     ensures { (result ≡ entry_of (min p q) (max p q)) × (result < 2080) }
 {
-    if p <= q {
-        return pairs::entry(p, q);
-    }
-    pairs::entry(q, p)
+    pairs::entry(p.min(q), p.max(q))
 }
 
 // Lowers the entry of two facts. Whether it was later.

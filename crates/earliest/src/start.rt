@@ -21,11 +21,9 @@ pub fn begin(table: &mut [u32], facts: u8, start: u64)
     ensures { StartTimes start (entry_of 0 facts) table.new }
 {
     let count = Pair::count(facts);
-    let mut entry = 0;
-    while entry < count {
+    for entry in 0..count {
         if both_in(start, entry) {
             table[entry] = 0;
         }
-        entry += 1;
     }
 }

@@ -41,15 +41,13 @@ fn add_each_with(table: &mut [u32], job: Job, extra: Extra, i: usize, a: Action)
     let available = job.pools;
     let count = count_of(job, extra);
     let mut changed = false;
-    let mut j = 0;
-    while j < count {
+    for j in 0..count {
         let b = if j < counts.actions {
             job.actions[j]
         } else {
             extra.actions[j - counts.actions]
         };
         changed = add_pair(table, job.facts, counts.pools, available, i, j, a, b) | changed;
-        j += 1;
     }
     changed
 }
@@ -83,10 +81,8 @@ fn sweep(table: &mut [u32], job: Job, extra: Extra) -> bool
 {
     let count = count_of(job, extra);
     let mut changed = false;
-    let mut i = 0;
-    while i < count {
+    for i in 0..count {
         changed = by_action(table, job, extra, i) | changed;
-        i += 1;
     }
     changed
 }

@@ -2,7 +2,7 @@
 #![tactic(auto)]
 
 ghost use Rattle.std.specs.Prelude.{◌≡◌, ◌≤◌, ◌<◌};
-ghost use Rattle.pairs.specs.Pairs.{entry_of, PairAt};
+ghost use Rattle.pairs.specs.Pairs.{entry_of, IsRowOf, PairAt};
 
 // Two facts, or one fact twice: low ≤ high.
 #[derive(Clone, Copy)]
@@ -23,46 +23,43 @@ impl Pair {
         requires { facts ≤ 64 }
         ensures { (result ≡ entry_of 0 facts) × (result ≤ 2080) }
     {
-        let row = facts as usize;
+        let row = usize::from(facts);
         row * (row + 1) / 2
     }
 }
 
 // The entry at which each row starts. Row q has the pairs of fact q with the facts up to it.
-const ROW_STARTS: [u16; Pair::ROWS] = [
+static ROW_STARTS: [u16; Pair::ROWS] = [
     0, 1, 3, 6, 10, 15, 21, 28, 36, 45, 55, 66, 78, 91, 105, 120, 136, 153, 171, 190, 210, 231,
     253, 276, 300, 325, 351, 378, 406, 435, 465, 496, 528, 561, 595, 630, 666, 703, 741, 780, 820,
     861, 903, 946, 990, 1035, 1081, 1128, 1176, 1225, 1275, 1326, 1378, 1431, 1485, 1540, 1596,
     1653, 1711, 1770, 1830, 1891, 1953, 2016,
 ];
 
-// The facts of an entry. Its row, found by halving, is the last that starts at the entry or before it.
+// The row of an entry: the last that starts at the entry or before it.
+fn row_of(entry: usize) -> usize
+    requires { entry < 2080 }
+    ensures { IsRowOf entry result }
+{
+    ROW_STARTS.partition_point(|start| usize::from(*start) <= entry) - 1
+}
+
+// The facts of an entry.
 pub fn pair_at(entry: usize) -> Pair
     requires { entry < 2080 }
     ensures { PairAt entry result.low result.high }
 {
-    let starts = ROW_STARTS;
-    let mut row = 0; // starts at the entry or before it
-    let mut behind = Pair::ROWS; // starts behind the entry
-    while row + 1 < behind {
-        let middle = (row + behind) / 2;
-        if entry < starts[middle] as usize {
-            behind = middle;
-        } else {
-            row = middle;
-        }
-    }
+    let row = row_of(entry);
     Pair {
-        low: (entry - starts[row] as usize) as u8,
+        low: (entry - usize::from(ROW_STARTS[row])) as u8,
         high: row as u8,
     }
 }
 
-// The entry of two facts below 64. The row's start is computed: each use of ROW_STARTS would write all of it to the
-// stack.
+// The entry of two facts below 64.
 pub fn entry(low: u8, high: u8) -> usize
     requires { (low ≤ high) × (high < 64) }
     ensures { (result ≡ entry_of low high) × (result < 2080) }
 {
-    Pair::count(high) + low as usize
+    Pair::count(high) + usize::from(low)
 }

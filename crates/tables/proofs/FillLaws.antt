@@ -1,6 +1,6 @@
 -- Filling the tables of a job: the set of clashing actions, and entries put one after the other.
 -- Assumes nothing.
-use Prim.Native.Nat.{ℕ, zero, suc, ◌+◌, ◌*◌, ◌≤◌, ◌<◌}
+use Prim.Native.Nat.{ℕ, ◌+◌, ◌*◌, ◌≤◌, ◌<◌}
 use mathlib.Core.Path.{◌≡◌, refl, sym, ap, ap₂, ◌∙◌}
 use mathlib.Core.Bool.{Bool, true, false, cond, ◌&&◌, ◌||◌, and-true, and-false, or-false}
 use mathlib.Core.Logic.{⊎_elim}
@@ -180,13 +180,3 @@ module _ (J : Job) (n : ℕ) (xs ys : List ℕ) where
         pools = λ p m. same (k * 9 + 1 + p) (omega arith) ∙ old.pools p m;
         stores = λ p m small. same (k * 9 + 5 + p) (omega arith) ∙ old.stores p m small;
       }) (le_or_lt n k)
-
--- four numbers, each cut
-pub four_cut : (xs : List ℕ) (a b c d : ℕ) → (get_or xs 0 0 < 4294967296 → a ≡ get_or xs 0 0)
-    → (get_or xs 1 0 < 4294967296 → b ≡ get_or xs 1 0) → (get_or xs 2 0 < 4294967296 → c ≡ get_or xs 2 0)
-    → (get_or xs 3 0 < 4294967296 → d ≡ get_or xs 3 0) → CutTo xs (a ∷ b ∷ c ∷ d ∷ [])
-four_cut xs a b c d ha hb hc hd zero l = ha
-four_cut xs a b c d ha hb hc hd (suc zero) l = hb
-four_cut xs a b c d ha hb hc hd (suc (suc zero)) l = hc
-four_cut xs a b c d ha hb hc hd (suc (suc (suc zero))) l = hd
-four_cut xs a b c d ha hb hc hd (suc (suc (suc (suc k)))) l = absurd (omega arith)

@@ -7,14 +7,11 @@ ghost use Rattle.tables.specs.Filled.{Clash, ClashSet, SameBefore, ValuesPut, Cu
 use crate::layout::{NumberTable, SetTable};
 use job::{Action, Job, resources};
 
-// The greatest number of 32 bits.
-const GREATEST: u64 = u32::MAX as u64;
-
-// A duration as a number of 32 bits.
+// A duration as a number of 32 bits. The proof knows the range of a parameter, and not that of an action's field.
 fn minutes(duration: u8) -> u32
     ensures { (result ≡ duration) × (result < 256) }
 {
-    duration as u32
+    u32::from(duration)
 }
 
 // Whether actions i and j clash, which are a and b.
@@ -32,12 +29,10 @@ fn clash_set(job: Job, i: usize) -> u64
     let counts = job.counts;
     let a = job.actions[i];
     let mut set = 0;
-    let mut j = 0;
-    while j < counts.actions {
+    for j in 0..counts.actions {
         let b = job.actions[j];
         let member = facts::when(clash(i, j, a, b), facts::single(j as u8));
         set = facts::union(set, member);
-        j += 1;
     }
     set
 }
@@ -57,50 +52,26 @@ fn put_sets(sets: &mut [u64], job: Job, i: usize)
     sets[at + SetTable::CLASHES] = clashing;
 }
 
-// Puts the sets of all actions into the table.
-fn fill_sets(sets: &mut [u64], job: Job)
-    requires { (length sets.old ≡ 384) × Fits job.counts }
-    ensures { (length sets.new ≡ 384)
-        × EachFilled SetsFilled job sets.new }
-{
-    let counts = job.counts;
-    let mut i = 0;
-    while i < counts.actions {
-        put_sets(sets, job, i);
-        i += 1;
-    }
-}
-
 // Puts four amounts into the table, from place `at` on, and leaves the entries before them.
 fn put_amounts(numbers: &mut [u32], at: usize, amounts: [u32; Job::AMOUNTS])
     requires { at + 4 ≤ length numbers.old }
     ensures { ValuesPut numbers.old at 4 amounts numbers.new }
 {
-    let mut k = 0;
-    while k < Job::AMOUNTS {
-        numbers[at + k] = amounts[k];
-        k += 1;
-    }
+    numbers[at..at + Job::AMOUNTS].copy_from_slice(&amounts);
 }
 
-// Amounts of 64 bits as numbers of 32; the greatest stands for what is more, which no job that passes its tests has.
-fn cut(amounts: [u64; Job::AMOUNTS]) -> [u32; Job::AMOUNTS]
-    ensures { CutTo amounts result }
-{
-    let first = cut_one(amounts[0]);
-    let second = cut_one(amounts[1]);
-    let third = cut_one(amounts[2]);
-    let fourth = cut_one(amounts[3]);
-    [first, second, third, fourth]
-}
-
+// An amount of 64 bits as a number of 32; the greatest stands for what is more, which no job that passes its tests has.
 fn cut_one(amount: u64) -> u32
     ensures { amount < 4294967296 → result ≡ amount }
 {
-    if GREATEST < amount {
-        return u32::MAX;
-    }
-    amount as u32
+    u32::try_from(amount).unwrap_or(u32::MAX)
+}
+
+// Four of them.
+fn cut(amounts: [u64; Job::AMOUNTS]) -> [u32; Job::AMOUNTS]
+    ensures { CutTo amounts result }
+{
+    amounts.map(cut_one)
 }
 
 // Puts the numbers of action i into the table, and leaves the entries before them.
@@ -118,25 +89,14 @@ fn put_numbers(numbers: &mut [u32], job: Job, i: usize)
     put_amounts(numbers, at + NumberTable::STORES, cut(stores));
 }
 
-// Puts the numbers of all actions into the table.
-fn fill_numbers(numbers: &mut [u32], job: Job)
-    requires { (length numbers.old ≡ 1220) × Fits job.counts }
-    ensures { (length numbers.new ≡ 1220)
-        × EachFilled NumbersFilled job numbers.new }
-{
-    let counts = job.counts;
-    let mut i = 0;
-    while i < counts.actions {
-        put_numbers(numbers, job, i);
-        i += 1;
-    }
-}
-
 // Puts the sets and numbers of all actions into the tables. What the entries behind them hold is not promised.
 pub fn fill(sets: &mut [u64], numbers: &mut [u32], job: Job)
     requires { (length sets.old ≡ 384) × (length numbers.old ≡ 1220) × Fits job.counts }
     ensures { Filled job sets.new numbers.new }
 {
-    fill_sets(sets, job);
-    fill_numbers(numbers, job);
+    let counts = job.counts;
+    for i in 0..counts.actions {
+        put_sets(sets, job, i);
+        put_numbers(numbers, job, i);
+    }
 }

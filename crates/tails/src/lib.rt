@@ -2,9 +2,9 @@
 // for it. The table is found by any loop and held to a test; where that fails, every tail is 0.
 #![tactic(auto)]
 
-ghost use Rattle.std.specs.Prelude.{◌≡◌, true, ◌+◌, ◌≤◌, ◌<◌, min, length};
+ghost use Rattle.std.specs.Prelude.{◌≡◌, true, ◌+◌, ◌≤◌, length};
 ghost use Rattle.tables.specs.Tables.{Lent};
-ghost use Rattle.tails.specs.Tails.{AtMostEach, EachAtMost, Through, ClosedAt, TailTable, AllAre};
+ghost use Rattle.tails.specs.Tails.{AtMostEach, EachAtMost, Through, ClosedAt, TailTable};
 
 use job::Job;
 use tables::layout::{NumberTable, SetTable};
@@ -15,16 +15,6 @@ pub const ENTRIES: usize = Job::FACTS as usize;
 // More minutes than any day has.
 const NEVER: u32 = 100_000;
 
-// The lesser of two numbers of minutes.
-fn lesser(a: u32, b: u32) -> u32
-    ensures { result ≡ min a b }
-{
-    if a < b {
-        return a;
-    }
-    b
-}
-
 // The least tail of the facts of a set, NEVER for none.
 pub fn least(tails: &[u32], set: u64) -> u32
     requires { length tails.now ≡ 64 }
@@ -33,7 +23,7 @@ pub fn least(tails: &[u32], set: u64) -> u32
     let mut all = NEVER;
     let mut p = facts::next(set, 0);
     while p < facts::BITS {
-        all = lesser(tails[p as usize], all);
+        all = all.min(tails[usize::from(p)]);
         p = facts::next(set, p + 1);
     }
     all
@@ -46,7 +36,7 @@ fn none_over(tails: &[u32], set: u64, most: u32) -> bool
 {
     let mut p = facts::next(set, 0);
     while p < facts::BITS {
-        if most < tails[p as usize] {
+        if most < tails[usize::from(p)] {
             return false;
         }
         p = facts::next(set, p + 1);
@@ -81,26 +71,12 @@ fn closed(sets: &[u64], numbers: &[u32], tails: &[u32], actions: usize, goal: u6
     if !none_over(tails, goal, 0) {
         return false;
     }
-    let mut i = 0;
-    while i < actions {
+    for i in 0..actions {
         if !closed_at(sets, numbers, tails, i) {
             return false;
         }
-        i += 1;
     }
     true
-}
-
-// Makes every tail so long.
-fn put(tails: &mut [u32], minutes: u32)
-    requires { length tails.old ≡ 64 }
-    ensures { AllAre tails.new minutes }
-{
-    let mut p = 0;
-    while p < ENTRIES {
-        tails[p] = minutes;
-        p += 1;
-    }
 }
 
 // Makes the tails of the facts of a set no longer than so much.
@@ -110,8 +86,8 @@ fn lower(tails: &mut [u32], set: u64, most: u32)
 {
     let mut p = facts::next(set, 0);
     while p < facts::BITS {
-        let at = p as usize;
-        tails[at] = lesser(most, tails[at]);
+        let at = usize::from(p);
+        tails[at] = tails[at].min(most);
         p = facts::next(set, p + 1);
     }
 }
@@ -121,11 +97,9 @@ fn sweep(tails: &mut [u32], sets: &[u64], numbers: &[u32], actions: usize)
     requires { Lent sets.now numbers.now actions × (length tails.old ≡ 64) }
     ensures { length tails.new ≡ 64 }
 {
-    let mut i = 0;
-    while i < actions {
+    for i in 0..actions {
         let most = through(sets, numbers, tails, i);
         lower(tails, sets[i * SetTable::ROW], most);
-        i += 1;
     }
 }
 
@@ -134,12 +108,10 @@ fn find(tails: &mut [u32], sets: &[u64], numbers: &[u32], actions: usize, goal: 
     requires { Lent sets.now numbers.now actions × (length tails.old ≡ 64) }
     ensures { length tails.new ≡ 64 }
 {
-    put(tails, NEVER);
+    tails.fill(NEVER);
     lower(tails, goal, 0);
-    let mut round = 0;
-    while round < ENTRIES {
+    for _ in 0..ENTRIES {
         sweep(tails, sets, numbers, actions);
-        round += 1;
     }
 }
 
@@ -150,6 +122,6 @@ pub fn fill(tails: &mut [u32], sets: &[u64], numbers: &[u32], actions: usize, go
 {
     find(tails, sets, numbers, actions, goal);
     if !closed(sets, numbers, tails, actions, goal) {
-        put(tails, 0);
+        tails.fill(0);
     }
 }

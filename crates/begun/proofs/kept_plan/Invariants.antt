@@ -1,5 +1,5 @@
 -- `kept_plan` meets its contract: the first i steps of the plan are the last i kept ones.
-use Prim.Native.Nat.{ℕ, ◌-◌, ◌≤◌, ◌<◌}
+use Prim.Native.Nat.{ℕ, ◌-◌, ◌<◌}
 use mathlib.Core.Path.{◌≡◌}
 use lib.ListN.{length, get_or}
 use Rattle.job.specs.Job.{job_in}
@@ -9,9 +9,6 @@ use Rattle.begun.proofs.kept_plan.Given as goal
 
 abbrev pub invariant-loop-i : goal.invariant-loop-i
 invariant-loop-i l =
-    (l.i ≤ l.kept.count) × (length l.steps ≡ 32)
+    (length l.steps ≡ 32)
     × ((k : ℕ) → k < l.i
     → step_of_value l.job.counts (get_or l.steps k beyond_step) ≡ kept_at (job_in l.job) l.kept (l.kept.count - 1 - k))
-
-abbrev pub decreases-loop-i : goal.decreases-loop-i
-decreases-loop-i l = l.kept.count - l.i

@@ -1,12 +1,7 @@
 -- `with_rest` meets its contract: a stopped step leaves nothing, a running one its rest.
-use Rattle.begun.proofs.RestActions.{rest_when_stopped, rest_when_running}
+use Rattle.begun.proofs.RestActions.{rest_when_running}
 use native.Mathlib.Omega.{arith}
 use Rattle.begun.proofs.with_rest.Goals as goal
-
-pub returns-then-step-minute : goal.returns-then-step-minute
-returns-then-step-minute c =
-    let at = c.args in
-    rest_when_stopped at.extra at.step at.minute c.requires.1 (omega arith)
 
 pub returns : goal.returns
 returns c =

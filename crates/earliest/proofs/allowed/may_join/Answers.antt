@@ -2,15 +2,9 @@
 use mathlib.Core.Path.{sym, ap₂, ◌∙◌}
 use mathlib.Core.Bool.{◌||◌}
 use Rattle.times.specs.Earliest.{fit_together}
-use Rattle.earliest.proofs.AllowedActions.{fit_together_in_lem, not_joined_shorter}
+use Rattle.earliest.proofs.AllowedActions.{fit_together_in_lem}
 use Rattle.earliest.proofs.AllowedActions.{not_joined_clashing, joined_when_fitting}
 use Rattle.earliest.proofs.allowed.may_join.Goals as goal
-
-pub returns-then-not-is_longer : goal.returns-then-not-is_longer
-returns-then-not-is_longer c =
-    λ J n has is-a is_b.
-    sym (not_joined_shorter J c.args.i c.args.j (rw (is-a, is_b)
-    (sym c.is_longer.ensures ∙ c.if-not-is_longer.true)))
 
 pub returns-then-hinders : goal.returns-then-hinders
 returns-then-hinders c =

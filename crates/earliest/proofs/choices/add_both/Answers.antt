@@ -2,13 +2,6 @@
 use Rattle.earliest.proofs.Lowers.{both_lowers}
 use Rattle.earliest.proofs.choices.add_both.Goals as goal
 
-pub end-time-requires : goal.end-time-requires
-end-time-requires c = c.requires
-
-pub lower_all-requires : goal.lower_all-requires
-lower_all-requires c =
-    c.requires
-
 pub returns : goal.returns
 returns c =
     let lowers = c.lower_all.ensures in

@@ -12,24 +12,12 @@ returns-then-only_a-only_b c =
     c.difference-only_b.ensures.0 c.if-only_a-only_b.true in
     (c.requires.0, nothing)
 
-pub set_time-both_ready-requires : goal.set_time-both_ready-requires
-set_time-both_ready-requires c =
-    c.requires
-
 pub returns-then-both_ready-gt-LATEST : goal.returns-then-both_ready-gt-LATEST
 returns-then-both_ready-gt-LATEST c =
     let at = c.args in
     let both = same_time_as at.table.now at.facts _ _ _ c.union.ensures.0
     c.set_time-both_ready.ensures in
     (c.requires.0, pair_late at.facts at.table.now at.a at.b _ both c.if-both_ready-gt-LATEST.true)
-
-pub end-requires : goal.end-requires
-end-requires c =
-    c.requires
-
-pub lower_all-requires : goal.lower_all-requires
-lower_all-requires c =
-    c.requires
 
 pub returns : goal.returns
 returns c =

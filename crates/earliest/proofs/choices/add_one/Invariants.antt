@@ -1,5 +1,5 @@
 -- `add_one` meets its contract: the facts below `q` are done.
-use Prim.Native.Nat.{ℕ, ◌-◌, ◌≤◌}
+use Prim.Native.Nat.{ℕ}
 use mathlib.Core.Path.{◌≡◌}
 use mathlib.Core.Bool.{true}
 use lib.ListN.{length}
@@ -13,9 +13,6 @@ use Rattle.earliest.proofs.choices.add_one.Given as goal
 
 abbrev pub invariant-loop-q : goal.invariant-loop-q
 invariant-loop-q l =
-    (l.q ≤ l.facts) × (length l.table ≡ 2080)
+    (length l.table ≡ 2080)
     × ((J : Job) (i : ℕ) (n : Counts) → Lowerable J l.initial.table → IsAction J l.facts i n l.action
     → fits_alone J (action_of J i) ≡ true → Lowering J (Below (CarriedSettled J i) l.q) l.initial.table l.table l.changed)
-
-abbrev pub decreases-loop-q : goal.decreases-loop-q
-decreases-loop-q l = l.facts - l.q

@@ -3,23 +3,8 @@ use Prim.Native.Nat.{ℕ}
 use mathlib.Core.Path.{◌≡◌, sym, ap, ◌∙◌}
 use Rattle.facts.specs.FactSet.{has, union, single}
 use Rattle.earliest.proofs.SetTimes.{same_time_as}
-use Rattle.earliest.proofs.Lowers.{carried_lowers, carries_nothing}
+use Rattle.earliest.proofs.Lowers.{carried_lowers}
 use Rattle.earliest.proofs.choices.carry.Goals as goal
-
-pub returns-then-has : goal.returns-then-has
-returns-then-has c =
-    let at = c.args in
-    let touched = ap (λ (s : ℕ). has s at.q) (sym c.union.ensures.0)
-    ∙ sym c.has.ensures ∙ c.if-has.true in
-    (c.requires.0, carries_nothing at.facts at.table.now at.action at.q touched)
-
-pub set_time-ready-requires : goal.set_time-ready-requires
-set_time-ready-requires c =
-    let h = c.requires in (h.0, h.1)
-
-pub lower_row-requires : goal.lower_row-requires
-lower_row-requires c =
-    c.requires
 
 pub returns : goal.returns
 returns c =

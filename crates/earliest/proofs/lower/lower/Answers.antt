@@ -1,18 +1,9 @@
 -- `lower` meets its contract: the entry stays, or is lowered.
 use mathlib.Core.Path.{◌∙◌}
 use lib.ListN.{length-set}
-use Rattle.earliest.proofs.LoweringLaws.{entry_stays, entry_lowered}
+use Rattle.earliest.proofs.LoweringLaws.{entry_lowered}
 use native.Mathlib.Omega.{arith}
 use Rattle.earliest.proofs.lower.lower.Goals as goal
-
-pub returns-then-table-at : goal.returns-then-table-at
-returns-then-table-at c =
-    let h = c.requires in
-    let at = c.place-at.ensures in (
-      h.0,
-      entry_stays c.args.table.now c.args.p c.args.q c.args.time c.place-at.result at.0
-          (omega arith) (omega arith),
-    )
 
 pub returns : goal.returns
 returns c =

@@ -1,6 +1,5 @@
 -- `lower_all` meets its contract: the entries of the facts of the set below `p` are lowered.
-use mathlib.Core.Path.{sym, ◌∙◌}
-use Rattle.earliest.proofs.Loops.{swept_at_first, swept_on, swept_all}
+use Rattle.earliest.proofs.Loops.{swept_on, swept_all}
 use Rattle.earliest.proofs.Members.{all_step}
 use Rattle.earliest.proofs.Unreachable.{all_unreachable}
 use native.Mathlib.Omega.{arith}
@@ -13,18 +12,6 @@ returns-then-time-eq-NONE c =
       all_unreachable at.facts at.set at.other at.time at.table.now
           c.if-time-eq-NONE.true,
     )
-
-pub loop-p-init : goal.loop-p-init
-loop-p-init c =
-    swept_at_first _ _ _ _ _ _ c.next-p.ensures c.requires.0 (λ J able. able.0.kept)
-
-pub lower_row-changed-requires : goal.lower_row-changed-requires
-lower_row-changed-requires c =
-    let h = c.requires in let inv = c.loop-p.invariant in (inv.2, h.1, omega arith)
-
-pub loop-p-smaller : goal.loop-p-smaller
-loop-p-smaller c =
-    let h = c.requires in let onward = c.next-p-in-loop-p.ensures.onward (omega arith) in omega arith
 
 pub loop-p-preserved : goal.loop-p-preserved
 loop-p-preserved c =
@@ -39,10 +26,6 @@ loop-p-preserved c =
     lowers.0
     (λ J able. all_step at.facts at.set at.time _ at.other p xs _ b _ member (omega arith)
     lowers.1 J able _)
-
-pub shape_of-table : goal.shape_of-table
-shape_of-table c =
-    let h = c.requires in let inv = c.loop-p.invariant in inv.2 ∙ sym h.0
 
 pub returns : goal.returns
 returns c =

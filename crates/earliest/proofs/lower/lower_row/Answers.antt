@@ -1,6 +1,5 @@
 -- `lower_row` meets its contract: the entries with the facts of the set below `q` are lowered.
-use mathlib.Core.Path.{sym, ◌∙◌}
-use Rattle.earliest.proofs.Loops.{swept_at_first, swept_on, swept_all}
+use Rattle.earliest.proofs.Loops.{swept_on, swept_all}
 use Rattle.earliest.proofs.Members.{row_step}
 use Rattle.earliest.proofs.Unreachable.{row_unreachable}
 use native.Mathlib.Omega.{arith}
@@ -14,18 +13,6 @@ returns-then-time-eq-NONE c =
           c.if-time-eq-NONE.true,
     )
 
-pub loop-q-init : goal.loop-q-init
-loop-q-init c =
-    swept_at_first _ _ _ _ _ _ c.next-q.ensures c.requires.0 (λ J able. able.0.kept)
-
-pub lower-changed-requires : goal.lower-changed-requires
-lower-changed-requires c =
-    let h = c.requires in let inv = c.loop-q.invariant in (inv.2, h.2, omega arith)
-
-pub loop-q-smaller : goal.loop-q-smaller
-loop-q-smaller c =
-    let h = c.requires in let onward = c.next-q-in-loop-q.ensures.onward (omega arith) in omega arith
-
 pub loop-q-preserved : goal.loop-q-preserved
 loop-q-preserved c =
     let h = c.requires in
@@ -38,10 +25,6 @@ loop-q-preserved c =
     swept_on _ _ _ _ _ q c.next-q-in-loop-q.result xs _ b _ c.loop-q.invariant (omega arith) (omega arith) c.next-q-in-loop-q.ensures
     lowers.0
     (λ J able. row_step at.facts at.set at.time _ at.p q xs _ b _ member (omega arith) lowers.1 J able _)
-
-pub shape_of-table : goal.shape_of-table
-shape_of-table c =
-    let h = c.requires in let inv = c.loop-q.invariant in inv.2 ∙ sym h.0
 
 pub returns : goal.returns
 returns c =

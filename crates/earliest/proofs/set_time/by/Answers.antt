@@ -1,18 +1,10 @@
 -- `by` meets its contract: a row that is later makes the set later.
 use Prim.Native.Nat.{suc}
-use mathlib.Core.Bool.{true≢false}
 use Rattle.earliest.specs.Numbers.{row_number}
-use Rattle.earliest.proofs.FactsLeft.{all_left, member_left, fewer_left, left_on}
+use Rattle.earliest.proofs.FactsLeft.{member_left, fewer_left}
 use Rattle.earliest.proofs.Latest.{member_at_most_latest}
 use native.Mathlib.Omega.{arith}
 use Rattle.earliest.proofs.set_time.by.Goals as goal
-
-pub loop-high-init : goal.loop-high-init
-loop-high-init c = all_left c.args.set c.next-high.result c.next-high.ensures
-
-pub row_by-requires : goal.row_by-requires
-row_by-requires c =
-    let h = c.requires in (h.0, omega arith)
 
 pub returns-then-not-row_by : goal.returns-then-not-row_by
 returns-then-not-row_by c =
@@ -24,20 +16,8 @@ returns-then-not-row_by c =
     c.loop-high.high (omega arith) member in
     λ e. omega arith
 
-pub single-requires : goal.single-requires
-single-requires c =
-    let h = c.requires in omega arith
-
 pub loop-high-smaller : goal.loop-high-smaller
 loop-high-smaller c =
     let h = c.requires in
     fewer_left c.args.set c.loop-high.left c.loop-high.high c.loop-high.invariant c.single.result c.difference-left.result
     c.single.ensures c.difference-left.ensures.0 (omega arith)
-
-pub loop-high-preserved : goal.loop-high-preserved
-loop-high-preserved c =
-    left_on c.args.set c.loop-high.left c.loop-high.high c.loop-high.invariant c.single.result c.difference-left.result
-    c.single.ensures c.difference-left.ensures.0 c.next-high-in-loop-high.result c.next-high-in-loop-high.ensures
-
-pub returns : goal.returns
-returns c = λ e. absurd (true≢false e)

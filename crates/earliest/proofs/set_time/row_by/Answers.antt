@@ -1,26 +1,13 @@
 -- `row_by` meets its contract: an entry that is later makes the row later.
 use Prim.Native.Nat.{suc}
-use mathlib.Core.Bool.{true≢false}
 use lib.ListN.{get_or}
 use Rattle.pairs.specs.Pairs.{entry_of}
 use Rattle.times.specs.Numbers.{none}
-use Rattle.earliest.proofs.Entries.{entry_read, entry_within}
-use Rattle.earliest.proofs.FactsLeft.{all_left, member_left, fewer_left, left_on}
+use Rattle.earliest.proofs.Entries.{entry_read}
+use Rattle.earliest.proofs.FactsLeft.{member_left, fewer_left}
 use Rattle.earliest.proofs.Latest.{member_at_most_latest}
 use native.Mathlib.Omega.{arith}
 use Rattle.earliest.proofs.set_time.row_by.Goals as goal
-
-pub entry-first-requires : goal.entry-first-requires
-entry-first-requires c = let h = c.requires in (omega arith, omega arith)
-
-pub loop-low-init : goal.loop-low-init
-loop-low-init c = all_left c.args.set c.next-low.result c.next-low.ensures
-
-pub bounds-table-first : goal.bounds-table-first
-bounds-table-first c =
-    let h = c.requires in
-    let at = c.args in
-    entry_within at.table.now c.entry-first.result c.loop-low.low at.high h.0 c.entry-first.ensures.0 (omega arith) h.1
 
 pub returns-then-limit-table : goal.returns-then-limit-table
 returns-then-limit-table c =
@@ -33,20 +20,8 @@ returns-then-limit-table c =
     (suc at.high) c.loop-low.low (omega arith) member in
     λ e. omega arith
 
-pub single-requires : goal.single-requires
-single-requires c =
-    let h = c.requires in omega arith
-
 pub loop-low-smaller : goal.loop-low-smaller
 loop-low-smaller c =
     let h = c.requires in
     fewer_left c.args.set c.loop-low.left c.loop-low.low c.loop-low.invariant c.single.result c.difference-left.result
     c.single.ensures c.difference-left.ensures.0 (omega arith)
-
-pub loop-low-preserved : goal.loop-low-preserved
-loop-low-preserved c =
-    left_on c.args.set c.loop-low.left c.loop-low.low c.loop-low.invariant c.single.result c.difference-left.result
-    c.single.ensures c.difference-left.ensures.0 c.next-low-in-loop-low.result c.next-low-in-loop-low.ensures
-
-pub returns : goal.returns
-returns c = λ e. absurd (true≢false e)

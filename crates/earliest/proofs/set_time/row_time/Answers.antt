@@ -1,20 +1,12 @@
 -- `row_time` meets its contract: the facts of the set below `low` are counted, and none is late.
 use mathlib.Core.Logic.{inl}
-use Rattle.earliest.proofs.Entries.{entry_read, entry_within}
+use Rattle.earliest.proofs.Entries.{entry_read}
 use Rattle.earliest.proofs.Latest.{counted_at_first, counted_on, counted_late, counted_all}
 use native.Mathlib.Omega.{arith}
 use Rattle.earliest.proofs.set_time.row_time.Goals as goal
 
-pub entry-first-requires : goal.entry-first-requires
-entry-first-requires c = let h = c.requires in (omega arith, omega arith)
-
 pub loop-low-init : goal.loop-low-init
 loop-low-init c = counted_at_first _ _ _ _ c.next-low.ensures
-
-pub bounds-table-first : goal.bounds-table-first
-bounds-table-first c =
-    entry_within c.args.table.now c.entry-first.result c.loop-low.low c.args.high
-    c.requires.0 c.entry-first.ensures.0 (omega arith) c.requires.1
 
 pub returns-then-latest-gt-LATEST : goal.returns-then-latest-gt-LATEST
 returns-then-latest-gt-LATEST c =
@@ -24,12 +16,6 @@ returns-then-latest-gt-LATEST c =
     counted_late _ _ _ c.loop-low.low c.loop-low.latest _ c.later-latest.result c.loop-low.invariant (omega arith) (omega arith)
     (inl value)
     c.later-latest.ensures c.if-latest-gt-LATEST.true
-
-pub loop-low-smaller : goal.loop-low-smaller
-loop-low-smaller c =
-    let onward = c.next-low-in-loop-low.ensures.onward in
-    let k = onward (omega arith) in
-    omega arith
 
 pub loop-low-preserved : goal.loop-low-preserved
 loop-low-preserved c =

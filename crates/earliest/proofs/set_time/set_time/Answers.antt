@@ -7,19 +7,11 @@ use Rattle.earliest.proofs.set_time.set_time.Goals as goal
 pub loop-high-init : goal.loop-high-init
 loop-high-init c = counted_at_first _ _ _ _ c.next-high.ensures
 
-pub row_time-requires : goal.row_time-requires
-row_time-requires c =
-    let h = c.requires in (h.0, omega arith)
-
 pub returns-then-latest-gt-LATEST : goal.returns-then-latest-gt-LATEST
 returns-then-latest-gt-LATEST c =
     let h = c.requires in
     counted_late _ _ _ c.loop-high.high c.loop-high.latest _ c.later-latest.result c.loop-high.invariant (omega arith) (omega arith)
     c.row_time.ensures c.later-latest.ensures c.if-latest-gt-LATEST.true
-
-pub loop-high-smaller : goal.loop-high-smaller
-loop-high-smaller c =
-    let h = c.requires in let onward = c.next-high-in-loop-high.ensures.onward (omega arith) in omega arith
 
 pub loop-high-preserved : goal.loop-high-preserved
 loop-high-preserved c =

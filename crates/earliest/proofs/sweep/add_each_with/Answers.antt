@@ -1,26 +1,12 @@
 -- `add_each_with` meets its contract: the actions below j are done.
-use mathlib.Core.Path.{◌≡◌, sym, ◌∙◌}
-use lib.ListN.{length}
 use Rattle.earliest.specs.Extra.{with_extra}
 use Rattle.earliest.specs.Sweep.{IsAction, JoinedSettled}
 use Rattle.earliest.proofs.LoweringLaws.{lowerable_on}
-use Rattle.earliest.proofs.Loops.{below_at_first, below_next}
+use Rattle.earliest.proofs.Loops.{below_next}
 use Rattle.earliest.proofs.WithExtra.{is_own_action, extra_place, is_extra_action, has_pools}
 use native.Mathlib.Omega.{arith}
 use Rattle.earliest.proofs.sweep.add_each_with.Goals as goal
 use Rattle.earliest.proofs.sweep.add_each_with.Goals.{then-j-counts, else-j-counts}
-
-pub count_of-count-requires : goal.count_of-count-requires
-count_of-count-requires c = c.requires.1
-
-pub loop-j-init : goal.loop-j-init
-loop-j-init c =
-    let J = with_extra c.args.job c.args.extra in
-    (omega arith, c.requires.0, λ able. below_at_first J (JoinedSettled J c.args.i) _ able.kept)
-
-pub bounds-job-j : goal.bounds-job-j
-bounds-job-j c =
-    let fits = c.requires.1.counts in omega arith
 
 pub offset_bounds-extra-j : goal.offset_bounds-extra-j
 offset_bounds-extra-j c =
@@ -31,20 +17,6 @@ pub bounds-extra-j : goal.bounds-extra-j
 bounds-extra-j c =
     let count = c.count_of-count.ensures in
     extra_place c.args.job c.args.extra c.requires.1 c.loop-j.j (omega arith)
-
-pub add_pair-changed-requires : goal.add_pair-changed-requires
-add_pair-changed-requires c =
-    (c.loop-j.invariant.1, c.requires.1.facts, c.requires.1.counts.0)
-
-pub shape_of-table : goal.shape_of-table
-shape_of-table c =
-    c.loop-j.invariant.1 ∙ sym c.requires.0
-
-pub returns : goal.returns
-returns c =
-    let count = c.count_of-count.ensures in
-    let all : c.loop-j.j ≡ length (with_extra c.args.job c.args.extra).actions = omega arith in
-    (c.loop-j.invariant.1, λ able. rw all at (c.loop-j.invariant.2 able))
 
 pub loop-j-preserved : goal.loop-j-preserved
 loop-j-preserved c =
@@ -61,10 +33,9 @@ loop-j-preserved c =
       | then-j-counts w ↦ rw w.b-is (is_own_action job extra j w.if-j-counts.true)
       | else-j-counts w ↦ rw w.b-is (is_extra_action job extra j w.if-j-counts.false (omega arith))
     ] in (
-      omega arith,
       lowers.0,
       λ able.
-          let before = c.loop-j.invariant.2 able in
+          let before = c.loop-j.invariant.1 able in
           below_next J (JoinedSettled J i) j _ xs _ _ _ before
           (lowers.1 J job.counts (lowerable_on J _ _ xs _ able before) (has_pools job extra) c.requires.2 is),
     )

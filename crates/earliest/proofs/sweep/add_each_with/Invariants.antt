@@ -1,5 +1,4 @@
 -- `add_each_with` meets its contract: the actions below j are done.
-use Prim.Native.Nat.{◌-◌, ◌≤◌}
 use mathlib.Core.Path.{◌≡◌}
 use lib.ListN.{length}
 use Rattle.earliest.specs.Extra.{with_extra}
@@ -10,9 +9,6 @@ use Rattle.earliest.proofs.sweep.add_each_with.Given as goal
 
 abbrev pub invariant-loop-j : goal.invariant-loop-j
 invariant-loop-j l =
-    (l.j ≤ l.count) × (length l.table ≡ 2080)
+    (length l.table ≡ 2080)
     × (Lowerable (with_extra l.job l.extra) l.initial.table
     → Lowering (with_extra l.job l.extra) (Below (JoinedSettled (with_extra l.job l.extra) l.i) l.j) l.initial.table l.table l.changed)
-
-abbrev pub decreases-loop-j : goal.decreases-loop-j
-decreases-loop-j l = l.count - l.j

@@ -1,5 +1,4 @@
 -- `sweep` meets its contract: the actions below i are done.
-use Prim.Native.Nat.{◌-◌, ◌≤◌}
 use mathlib.Core.Path.{◌≡◌}
 use lib.ListN.{length}
 use Rattle.earliest.specs.Extra.{with_extra}
@@ -10,9 +9,6 @@ use Rattle.earliest.proofs.sweep.sweep.Given as goal
 
 abbrev pub invariant-loop-i : goal.invariant-loop-i
 invariant-loop-i l =
-    (l.i ≤ l.count) × (length l.table ≡ 2080)
+    (length l.table ≡ 2080)
     × (Lowerable (with_extra l.job l.extra) l.initial.table
     → Lowering (with_extra l.job l.extra) (Below (ActionDone (with_extra l.job l.extra)) l.i) l.initial.table l.table l.changed)
-
-abbrev pub decreases-loop-i : goal.decreases-loop-i
-decreases-loop-i l = l.count - l.i

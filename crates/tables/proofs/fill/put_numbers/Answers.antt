@@ -1,26 +1,7 @@
 -- `put_numbers` meets its contract: the duration, then what the action uses of pools and stores.
-use Prim.Native.Nat.{◌*◌}
-use mathlib.Core.Path.{◌∙◌}
-use lib.ListN.{length-set}
-use lib.Seq.{get_or-set_other}
+use Rattle.std.proofs.Common.{◌∙◌, ◌*◌, arith, get_or-set_other, length-set}
 use Rattle.tables.proofs.FillLaws.{numbers_put}
-use native.Mathlib.Omega.{arith}
 use Rattle.tables.proofs.fill.put_numbers.Goals as goal
-
-pub put_amounts-requires : goal.put_amounts-requires
-put_amounts-requires c =
-    simp length-set (let h = c.requires in omega arith)
-
-pub put_amounts-requires-2 : goal.put_amounts-requires-2
-put_amounts-requires-2 c =
-    let h = c.requires in
-    let whole = simp length-set at c.put_amounts.ensures.size in
-    omega arith
-
-pub shape_of-numbers : goal.shape_of-numbers
-shape_of-numbers c =
-    c.put_amounts-2.ensures.size ∙ c.put_amounts.ensures.size
-    ∙ length-set c.args.numbers.now (c.args.i * 9) c.minutes.result
 
 pub returns : goal.returns
 returns c =

@@ -1,19 +1,9 @@
 -- `put_sets` meets its contract: four values, one after the other.
 use Prim.Native.Nat.{◌*◌}
 use mathlib.Core.Path.{◌∙◌}
-use lib.ListN.{length-set}
 use Rattle.tables.proofs.FillLaws.{four_values, sets_put}
 use native.Mathlib.Omega.{arith}
 use Rattle.tables.proofs.fill.put_sets.Goals as goal
-
-pub bounds-sets-at-2 : goal.bounds-sets-at-2
-bounds-sets-at-2 c = simp length-set (let h = c.requires in omega arith)
-
-pub bounds-sets-at-3 : goal.bounds-sets-at-3
-bounds-sets-at-3 c = simp length-set (let h = c.requires in omega arith)
-
-pub bounds-sets-at-4 : goal.bounds-sets-at-4
-bounds-sets-at-4 c = simp length-set (let h = c.requires in omega arith)
 
 pub returns : goal.returns
 returns c =
