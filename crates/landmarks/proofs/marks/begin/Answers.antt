@@ -1,29 +1,15 @@
 -- `begin` meets its contract: the sets of the first q facts are put.
-use mathlib.Core.Path.{◌≡◌, ap, ◌∙◌}
+use mathlib.Core.Path.{ap, ◌∙◌}
 use mathlib.Core.Bool.{Bool, cond, not}
 use Rattle.landmarks.proofs.TableLaws.{put_at_first, put_on}
 use native.Mathlib.Omega.{arith}
 use Rattle.landmarks.proofs.marks.begin.Goals as goal
 
 pub loop-q-init : goal.loop-q-init
-loop-q-init c = (omega arith, put_at_first _ _ _ _ c.requires)
-
-pub bounds-sets-q : goal.bounds-sets-q
-bounds-sets-q c = let n = c.loop-q.invariant.1.kept.size in omega arith
+loop-q-init c = put_at_first _ _ _ _ c.requires
 
 pub loop-q-preserved : goal.loop-q-preserved
 loop-q-preserved c =
-    let e = c.when.ensures ∙ ap (λ (b : Bool). cond (not b) c.args.all 0) c.has.ensures in (
-      omega arith,
-      put_on 256 384 64 _ (omega arith) (λ ys place v k entry behind below h. h) _ _ c.loop-q.q _ (omega arith) e
-          c.loop-q.invariant.1,
-    )
-
-pub shape_of-sets : goal.shape_of-sets
-shape_of-sets c =
-    let h = c.requires in let n = c.loop-q.invariant.1.kept.size in omega arith
-
-pub returns : goal.returns
-returns c =
-    let all : c.loop-q.q ≡ 64 = omega arith in
-    rw all at c.loop-q.invariant.1
+    let e = c.when.ensures ∙ ap (λ (b : Bool). cond (not b) c.args.all 0) c.has.ensures in
+    put_on 256 384 64 _ (omega arith) (λ ys place v k entry behind below h. h) _ _ c.loop-q.q _ (omega arith) e
+    c.loop-q.invariant

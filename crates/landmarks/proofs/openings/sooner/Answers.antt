@@ -3,10 +3,6 @@ use mathlib.Core.Logic.{⊎_elim}
 use native.Mathlib.Omega.{arith}
 use Rattle.landmarks.proofs.openings.sooner.Goals as goal
 
-pub returns-then-time-best : goal.returns-then-time-best
-returns-then-time-best c =
-    (omega arith, λ uses. ⊎_elim (λ same. omega arith) (λ late. omega arith) c.set_time-time.ensures)
-
 pub returns : goal.returns
 returns c =
-    (omega arith, λ uses. ⊎_elim (λ same. omega arith) (λ late. omega arith) c.set_time-time.ensures)
+    (omega arith, λ uses. ⊎_elim (λ same. omega arith) (λ late. omega arith) c.set_time.ensures)

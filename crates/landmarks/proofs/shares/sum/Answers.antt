@@ -20,9 +20,7 @@ bounds-numbers-at c =
 
 pub overflow_add-all : goal.overflow_add-all
 overflow_add-all c =
-    let small = c.wide-all.ensures.1 in
-    let inv = c.loop-p.invariant in
-    let most = inv.3 in omega arith
+    let most = c.loop-p.invariant.3 in omega (arith, c.type_inv.numbers (c.args.at + c.loop-p.p), c.from-all.ensures)
 
 pub loop-p-smaller : goal.loop-p-smaller
 loop-p-smaller c = let next = c.next-p-in-loop-p.ensures.onward (omega arith) in omega arith
@@ -31,13 +29,13 @@ pub loop-p-preserved : goal.loop-p-preserved
 loop-p-preserved c =
     let inv = c.loop-p.invariant in
     let most = inv.3 in
-    let small = c.wide-all.ensures.1 in
+    let small = c.type_inv.numbers (c.args.at + c.loop-p.p) in
     let next = c.next-p-in-loop-p.ensures in
     let onward = next.onward (omega arith) in (
       next.within,
       next.found,
-      ap₂ ◌+◌ c.wide-all.ensures.0 inv.2 ∙ sym (sum_on _ _ c.loop-p.p _ (omega arith) (inv.1 (omega arith)) next),
-      omega arith,
+      ap₂ ◌+◌ c.from-all.ensures inv.2 ∙ sym (sum_on _ _ c.loop-p.p _ (omega arith) (inv.1 (omega arith)) next),
+      omega (arith, small, c.from-all.ensures),
     )
 
 pub returns : goal.returns
