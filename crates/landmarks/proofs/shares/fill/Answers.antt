@@ -1,16 +1,8 @@
 -- `fill` meets its contract: the first rows are filled, and stay.
-use Rattle.landmarks.proofs.TableLaws.{kept_at_first, kept_again}
-use Rattle.landmarks.proofs.ShareLaws.{numbers_kept, kept_less, rows_on}
+use Rattle.landmarks.proofs.TableLaws.{kept_again}
+use Rattle.landmarks.proofs.ShareLaws.{kept_less, rows_on}
 use native.Mathlib.Omega.{arith}
 use Rattle.landmarks.proofs.shares.fill.Goals as goal
-
-pub loop-row-init : goal.loop-row-init
-loop-row-init c = (kept_at_first 576 1220 _ c.requires.1.number_count, λ k l. absurd (omega arith))
-
-pub fill_row-requires : goal.fill_row-requires
-fill_row-requires c =
-    let h = c.requires in
-    (h.0, numbers_kept 576 _ _ _ (omega arith) c.loop-row.invariant.0 h.1, omega arith)
 
 pub loop-row-preserved : goal.loop-row-preserved
 loop-row-preserved c =

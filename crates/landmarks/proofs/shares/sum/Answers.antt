@@ -1,6 +1,6 @@
 -- `sum` meets its contract: the numbers of the facts below p are added up.
 use Prim.Native.Nat.{◌+◌}
-use mathlib.Core.Path.{◌≡◌, sym, ap₂, ◌∙◌}
+use mathlib.Core.Path.{sym, ap₂, ◌∙◌}
 use Rattle.landmarks.proofs.TableLaws.{sum_at_first, sum_on}
 use native.Mathlib.Omega.{arith}
 use Rattle.landmarks.proofs.shares.sum.Goals as goal
@@ -9,21 +9,6 @@ pub loop-p-init : goal.loop-p-init
 loop-p-init c =
     let next = c.next-p.ensures in
     (next.within, next.found, sym (sum_at_first _ _ _ next), omega arith)
-
-pub overflow_add-at : goal.overflow_add-at
-overflow_add-at c =
-    let h = c.requires in omega arith
-
-pub bounds-numbers-at : goal.bounds-numbers-at
-bounds-numbers-at c =
-    let h = c.requires in omega arith
-
-pub overflow_add-all : goal.overflow_add-all
-overflow_add-all c =
-    let most = c.loop-p.invariant.3 in omega (arith, c.type_inv.numbers (c.args.at + c.loop-p.p), c.from-all.ensures)
-
-pub loop-p-smaller : goal.loop-p-smaller
-loop-p-smaller c = let next = c.next-p-in-loop-p.ensures.onward (omega arith) in omega arith
 
 pub loop-p-preserved : goal.loop-p-preserved
 loop-p-preserved c =
@@ -37,11 +22,3 @@ loop-p-preserved c =
       ap₂ ◌+◌ c.from-all.ensures inv.2 ∙ sym (sum_on _ _ c.loop-p.p _ (omega arith) (inv.1 (omega arith)) next),
       omega (arith, small, c.from-all.ensures),
     )
-
-pub returns : goal.returns
-returns c =
-    let inv = c.loop-p.invariant in
-    let l = inv.0 in
-    let most = inv.3 in
-    let all : c.loop-p.p ≡ 64 = omega arith in
-    (rw all at inv.2, omega arith)
