@@ -5,6 +5,7 @@ ghost use Rattle.landmarks.specs.Marked.{WithinLimits};
 ghost use Rattle.cliques.specs.Cliques.{Exceeded, Unreached, Exclude, Outside, Lessened, ApartTo};
 
 use earliest::set_time;
+use landmarks::members::Members;
 use tables::Frame;
 use tables::layout::{NumberTable, SetTable};
 
@@ -72,11 +73,9 @@ fn lessen(sets: &mut [u64], from: u64, away: u64)
     requires { length sets.old ≡ 384 }
     ensures { Lessened 64 from away sets.old sets.new }
 {
-    let mut q = facts::next(from, 0);
-    while q < facts::BITS {
+    for q in Members::of(from) {
         let old = sets[SetTable::APART + q as usize];
         sets[SetTable::APART + q as usize] = facts::difference(old, away);
-        q = facts::next(from, q + 1);
     }
 }
 

@@ -13,6 +13,7 @@ ghost use Rattle.cliques.specs.Cliques.{Remaining, CliqueMinutes};
 ghost use Rattle.cliques.specs.Marked.{MarkedTables};
 
 use job::Job;
+use landmarks::members::Members;
 use tables::Frame;
 use tables::layout::{NumberTable, SetTable};
 use tables::longer::longer;
@@ -37,13 +38,14 @@ fn longest(numbers: &[u32], set: u64) -> Option<u8>
     requires { length numbers.now ≡ 1220 }
     ensures { IfSome result (λ q. (q < 64) × (has set q ≡ true)) }
 {
-    let mut best = facts::next(set, 0);
-    let mut q = best;
-    while q < facts::BITS {
-        best = longer(numbers, NumberTable::LEAST, 1, best, q);
-        q = facts::next(set, q + 1);
+    let mut best = None;
+    for q in Members::of(set) {
+        best = Some(match best {
+            Some(first) => longer(numbers, NumberTable::LEAST, 1, first, q),
+            None => q,
+        });
     }
-    (best < facts::BITS).then_some(best)
+    best
 }
 
 // The allowed fact to be taken next, none where none is left or the sum is above a day.

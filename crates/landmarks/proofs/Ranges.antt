@@ -1,4 +1,4 @@
--- What `all` and `any` over a range of numbers tell, where each call that answers true shows something of its number.
+-- What `all` over a range of numbers tells, where each call that answers true shows something of its number.
 -- Assumes nothing.
 use Prim.Native.Nat.{ℕ, ◌<◌}
 use mathlib.Core.Path.{◌≡◌, refl}
@@ -12,11 +12,10 @@ use Rattle.std.specs.Iterator.{YieldsThen}
 use Rattle.std.specs.List.{FoldsTo, AllWithin, HoldsAt, range_with_len}
 use Rattle.std.specs.Option.{MatchOption}
 use Rattle.std.proofs.iter.Yields.{nat_range_steps}
-use Rattle.std.proofs.lemmas.Iterator.{YieldsList-from_range, cases_from_all, cases_from_any}
+use Rattle.std.proofs.lemmas.Iterator.{YieldsList-from_range, cases_from_all}
 use Rattle.std.proofs.lemmas.List.FromFn.{length-range_with_len, get_or-range_with_len}
 use Rattle.std.proofs.Common.{Option, List, length, get_or, zero-add, ◌∙◌}
 
--- the closure answers true for each number below b; or for some number below b
 module _ {F : Type 0} {g : Mut F (ℕ × Unit {0}) Bool} (b : ℕ) (u : Range ℕ) (f : F) (r : Bool)
     (Shown : ℕ → Type 0) where
   pub each_when_all : (xs : List ℕ) × (o : Option ℕ) × (j : F)
@@ -26,10 +25,10 @@ module _ {F : Type 0} {g : Mut F (ℕ × Unit {0}) Bool} (b : ℕ) (u : Range �
       → ((x : ℕ) (q : F) → Called g f (x, tt) true q → (q ≡ f) × Shown x)
       → r ≡ true → (k : ℕ) → k < b → Shown k
   each_when_all ran shows e k below =
-      let numbers = range_with_len 0 b in
-      let cases = cases_from_all u f r Shown (λ x. Unit {0}) ran
-      (YieldsList-from_range 0 b b refl (omega arith)) shows (λ x q no. tt) in
-      told r cases e
+      told r
+      (cases_from_all u f r Shown (λ x. Unit {0}) ran (YieldsList-from_range 0 b b refl (omega arith)) shows
+      (λ x q no. tt))
+      e
     where
       told : (r : Bool) → MatchBool r (AllWithin Shown (range_with_len 0 b) 0 (length (range_with_len 0 b)))
           ((k : ℕ) × (k < length (range_with_len 0 b)) × HoldsAt (λ x. Unit {0}) (range_with_len 0 b) k)
@@ -38,25 +37,3 @@ module _ {F : Type 0} {g : Mut F (ℕ × Unit {0}) Bool} (b : ℕ) (u : Range �
           let same : get_or (range_with_len 0 b) k 0 ≡ k = get_or-range_with_len 0 b k 0 below ∙ zero-add k in
           rw same at (each k 0 (omega arith) (rw length-range_with_len below))
       told false each e = cc
-
-  pub one_when_any : (xs : List ℕ) × (o : Option ℕ) × (j : F)
-      × YieldsThen nat_range_steps (record { start = 0; end = b }) xs o u
-      × FoldsTo (λ p x q. Called g p (x, tt) false q) f xs j
-      × MatchOption o (r ≡ false) (λ x. (r ≡ true) × ((h : F) × Called g j (x, tt) true h))
-      → ((x : ℕ) (q : F) → Called g f (x, tt) false q → q ≡ f)
-      → ((x : ℕ) (q : F) → Called g f (x, tt) true q → Shown x)
-      → r ≡ true → (k : ℕ) × (k < b) × Shown k
-  one_when_any ran pure shows e = told r
-      (cases_from_any u f r Shown (λ x. Unit {0}) ran (YieldsList-from_range 0 b b refl (omega arith)) shows
-      (λ x q no. (pure x q no, tt))) e
-    where
-      told : (r : Bool) → MatchBool r
-          ((k : ℕ) × (k < length (range_with_len 0 b)) × HoldsAt Shown (range_with_len 0 b) k)
-          (AllWithin (λ x. Unit {0}) (range_with_len 0 b) 0 (length (range_with_len 0 b)))
-          → r ≡ true → (k : ℕ) × (k < b) × Shown k
-      told true some e =
-          let below : some.0 < b = rw length-range_with_len at some.1 in
-          let same : get_or (range_with_len 0 b) some.0 0 ≡ some.0
-          = get_or-range_with_len 0 b some.0 0 below ∙ zero-add some.0 in
-          (some.0, below, rw same at (some.2 0))
-      told false some e = cc

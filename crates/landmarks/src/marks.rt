@@ -4,6 +4,7 @@ ghost use Rattle.std.specs.Prelude.{◌≡◌, true, ◌≤◌, ◌<◌, length}
 ghost use Rattle.landmarks.specs.Landmarks.{marks_of};
 ghost use Rattle.landmarks.specs.Tables.{mark_at, KeptBefore, Begun, Through, ByAdders, ClosedAt, Closed};
 
+use crate::members::Members;
 use tables::layout::SetTable;
 
 // Rounds end when nothing changes; after so many the table is tested as it is.
@@ -15,10 +16,8 @@ pub fn of_set(sets: &[u64], set: u64) -> u64
     ensures { result ≡ marks_of (mark_at sets.now) 64 set }
 {
     let mut all: u64 = 0;
-    let mut q = facts::next(set, 0);
-    while q < facts::BITS {
+    for q in Members::of(set) {
         all = facts::union(sets[SetTable::MARKS + q as usize], all);
-        q = facts::next(set, q + 1);
     }
     all
 }

@@ -7,6 +7,7 @@ ghost use Rattle.landmarks.specs.Landmarks.{sum_over};
 ghost use Rattle.landmarks.specs.Tables.{KeptBefore, PutFrom, share_from, row_at, weight_at};
 ghost use Rattle.landmarks.specs.Tables.{WithinAt, Within, WithinAll};
 
+use crate::members::Members;
 use job::Job;
 use tables::layout::{NumberTable, SetTable};
 
@@ -19,10 +20,8 @@ pub fn sum(numbers: &[u32], at: usize, set: u64) -> u64
     ensures { (result ≡ sum_over (share_from numbers.now at) 64 set) × (result ≤ 2 ^ 38) }
 {
     let mut all: u64 = 0;
-    let mut p = facts::next(set, 0);
-    while p < facts::BITS {
-        all = u64::from(numbers[at + p as usize]) + all;
-        p = facts::next(set, p + 1);
+    for p in Members::of(set) {
+        all += u64::from(numbers[at + p as usize]);
     }
     all
 }
@@ -76,11 +75,9 @@ fn lower(numbers: &mut [u32], at: usize, set: u64, share: u32)
     requires { (length numbers.old ≡ 1220) × (at + 64 ≤ 1220) }
     ensures { KeptBefore at 1220 numbers.old numbers.new }
 {
-    let mut p = facts::next(set, 0);
-    while p < facts::BITS {
+    for p in Members::of(set) {
         let entry = at + p as usize;
         numbers[entry] = numbers[entry].min(share);
-        p = facts::next(set, p + 1);
     }
 }
 
