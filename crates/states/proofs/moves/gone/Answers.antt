@@ -6,7 +6,7 @@ use native.Mathlib.Omega.{arith}
 use Rattle.states.proofs.moves.gone.Goals as goal
 
 pub loop-k-init : goal.loop-k-init
-loop-k-init c = (omega arith, λ J described. refl)
+loop-k-init c = λ J described. refl
 
 pub bounds-steps-k : goal.bounds-steps-k
 bounds-steps-k c =
@@ -26,15 +26,13 @@ gone_of-requires c =
 pub loop-k-preserved : goal.loop-k-preserved
 loop-k-preserved c =
     let next : c.loop-k.k + 1 ≡ suc c.loop-k.k = omega arith in
-    let below = c.requires.1.known c.loop-k.k c.loop-k-test.true in (
-      omega arith,
-      λ J described.
-          rw next
-          (c.union-set.ensures.0
-          ∙ ap₂ union (c.gone_of.ensures J (described _ below)) (c.loop-k.invariant.1 J described)),
-    )
+    let below = c.requires.1.known c.loop-k.k c.loop-k-test.true in
+    λ J described.
+    rw next
+    (c.union-set.ensures.0
+    ∙ ap₂ union (c.gone_of.ensures J (described _ below)) (c.loop-k.invariant J described))
 
 pub returns : goal.returns
 returns c =
     let all : c.loop-k.k ≡ c.args.steps.count = omega arith in
-    λ J described. rw all at (c.loop-k.invariant.1 J described)
+    λ J described. rw all at (c.loop-k.invariant J described)

