@@ -5,7 +5,7 @@ ghost use Rattle.states.specs.Amounts.{Small};
 ghost use Rattle.states.specs.Moves.{Taken, NoStartBetween, NoEventBetween, GoneOf, Gone, Back};
 
 use crate::state::State;
-use crate::{amounts, minute};
+use crate::{amounts, minute, union};
 use job::Job;
 use tables::layout::{NumberTable, SetTable};
 use tables::{Frame, Steps};
@@ -106,14 +106,7 @@ pub fn gone(sets: &[u64], numbers: &[u32], actions: usize, steps: Steps, s: u32,
     requires { Lent sets.now numbers.now actions × Known actions steps }
     ensures { Gone sets.now numbers.now actions steps s t result }
 {
-    let mut set: u64 = 0;
-    for k in 0..steps.count {
-        set = facts::union(
-            gone_of(sets, numbers, steps.numbers[k], steps.starts[k], s, t),
-            set,
-        );
-    }
-    set
+    union::over(steps, |i, start| gone_of(sets, numbers, i, start, s, t))
 }
 
 // The state at minute s, the event before.
