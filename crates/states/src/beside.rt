@@ -9,12 +9,12 @@ use job::Job;
 use tables::Frame;
 use tables::layout::{NumberTable, SetTable};
 
-// Whether the handover of some pool after `until` is later than the minute.
-fn waits(frame: Frame, until: u32, minute: u32) -> bool
-    requires { (frame.pools ≤ 4) × (until < 131072) }
-    ensures { result ≡ false → (pool : ℕ) → pool < frame.pools → until + get_or frame.handovers pool 0 ≤ minute }
+// Whether one of the handovers after `until` is later than the minute.
+fn waits(handovers: &[u8], until: u32, minute: u32) -> bool
+    requires { until < 131072 }
+    ensures { result ≡ false → (pool : ℕ) → pool < length handovers.now → until + get_or handovers.now pool 0 ≤ minute }
 {
-    frame.handovers[..frame.pools]
+    handovers
         .iter()
         .any(|handover| minute < until + u32::from(*handover))
 }
@@ -63,7 +63,7 @@ fn beside(sets: &[u64], numbers: &[u32], frame: Frame, st: State, i: u8, k: usiz
     if (minute < last) & facts::has(sets[i as usize * SetTable::ROW + SetTable::CLASHES], number) {
         return false;
     }
-    if !waits(frame, last, minute) {
+    if !waits(&frame.handovers[..frame.pools], last, minute) {
         return true;
     }
     let uses = amounts::look(numbers, frame, steps, stop);

