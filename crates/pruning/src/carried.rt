@@ -5,8 +5,8 @@ ghost use Rattle.states.specs.Moves.{NoEventBetween};
 ghost use Rattle.pruning.specs.Carried.{FitAll, AddsOf, LatestStart, DeadUnlessCarried};
 
 use earliest::set_time;
+use states::moves;
 use states::state::State;
-use states::{minute, moves};
 use tables::Frame;
 use tables::layout::SetTable;
 
@@ -58,7 +58,7 @@ pub fn in_time(
         → DeadUnlessCarried sets.now numbers.now times.now frame st left result }
 {
     let event = latest_start(numbers, frame, st, left, last);
-    let minute = minute::wide(event);
+    let minute = u32::from(event);
     let kept = frame.kept;
     let given = moves::gone(
         sets,
@@ -66,7 +66,7 @@ pub fn in_time(
         frame.actions,
         kept,
         minute,
-        minute::wide(st.minute),
+        u32::from(st.minute),
     );
     let now = facts::union(st.at.added, adds_of(sets, left));
     let added = facts::union(now, given);
@@ -75,6 +75,6 @@ pub fn in_time(
         times,
         frame.facts,
         carried,
-        minute - minute::wide(frame.origin),
+        minute - u32::from(frame.origin),
     )
 }

@@ -8,7 +8,6 @@ ghost use Rattle.tables.specs.Tables.{Numbers, Known};
 use crate::pool_minutes;
 use job::Job;
 use landmarks::{marks, shares};
-use states::minute;
 use states::state::State;
 use tables::Frame;
 use tables::layout::NumberTable;
@@ -35,13 +34,11 @@ fn stores_suffice(numbers: &[u32], frame: Frame, st: State, missing: u64) -> boo
 {
     let spent = st.uses.spent;
     let stocks = frame.stocks;
-    let mut k = 0;
-    while k < frame.stores {
-        let stock = job::wide(stocks[k]);
+    for k in 0..frame.stores {
+        let stock = u64::from(stocks[k]);
         if !fits(numbers, k, missing, spent[k], stock) {
             return false;
         }
-        k += 1;
     }
     true
 }
@@ -55,16 +52,14 @@ fn pools_suffice(numbers: &[u32], frame: Frame, st: State, missing: u64) -> bool
 {
     let steps = st.steps;
     let available = frame.available;
-    let t = job::wide(minute::wide(st.minute));
-    let mut k = 0;
-    while k < frame.pools {
+    let t = u64::from(st.minute);
+    for k in 0..frame.pools {
         let from = pool_minutes::opening(numbers, k, frame.origin);
         let used = pool_minutes::used(numbers, frame.actions, steps, k, from, t);
         let most = pool_minutes::supply(available[k], from, t);
         if !fits(numbers, Job::STORES + k, missing, used, most) {
             return false;
         }
-        k += 1;
     }
     true
 }
@@ -86,7 +81,7 @@ fn minutes_suffice(sets: &[u64], numbers: &[u32], frame: Frame, st: State, missi
         → DeadUnlessSuffices sets.now numbers.now frame st result }
 {
     let minutes = cliques::minutes(sets, numbers, missing);
-    minutes <= job::wide(minute::wide(st.minute) - minute::wide(frame.first))
+    minutes <= u64::from(st.minute - frame.first)
 }
 
 // Whether steps, stores, pools and minutes suffice for what is missing.

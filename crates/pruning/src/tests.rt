@@ -5,8 +5,8 @@ ghost use Rattle.tables.specs.Tables.{adds_at, duration_at, Known, Lent};
 ghost use Rattle.pruning.specs.Tests.{DeadUnless, NeedOf, NeedsAt, DeadUnlessReached, DeadUnlessTimely};
 
 use earliest::set_time;
-use states::minute;
 use states::state::State;
+use states::{minute, union};
 use tables::layout::SetTable;
 use tables::{Frame, Steps};
 
@@ -29,12 +29,10 @@ pub fn all_needed(sets: &[u64], actions: usize, st: State) -> bool
 {
     let steps = st.steps;
     let provided = facts::union(st.at.held, st.twice);
-    let mut k = st.since;
-    while k < steps.count {
+    for k in st.since..steps.count {
         if !adds_alone(sets, steps.numbers[k], provided, st.wanted) {
             return false;
         }
-        k += 1;
     }
     true
 }
@@ -45,9 +43,11 @@ fn need_of(sets: &[u64], numbers: &[u32], i: u8, start: u16, t: u32) -> u64
         × (duration_at numbers.now i ≤ 255) }
     ensures { NeedOf sets.now numbers.now i start t result }
 {
-    let from = minute::wide(start);
     let stop = minute::stop(numbers, i, start);
-    facts::when((from <= t) & (t < stop), sets[i as usize * SetTable::ROW])
+    facts::when(
+        (u32::from(start) <= t) & (t < stop),
+        sets[i as usize * SetTable::ROW],
+    )
 }
 
 // What the chosen steps need that run in minute t.
@@ -55,16 +55,7 @@ fn needs_at(sets: &[u64], numbers: &[u32], actions: usize, steps: Steps, t: u32)
     requires { Lent sets.now numbers.now actions × Known actions steps }
     ensures { NeedsAt sets.now numbers.now actions steps t result }
 {
-    let mut set: u64 = 0;
-    let mut k = 0;
-    while k < steps.count {
-        set = facts::union(
-            need_of(sets, numbers, steps.numbers[k], steps.starts[k], t),
-            set,
-        );
-        k += 1;
-    }
-    set
+    union::over(steps, |i, start| need_of(sets, numbers, i, start, t))
 }
 
 // Whether what the steps that run at a start between two minutes need can be there by then.
@@ -83,19 +74,11 @@ fn reached(
         × (frame.first ≤ from) }
     ensures { DeadUnlessReached sets.now numbers.now times.now frame steps result }
 {
-    if start < from {
-        return true;
-    }
-    if until <= start {
+    if start < from || until <= start {
         return true;
     }
     let needs = needs_at(sets, numbers, frame.actions, steps, start);
-    set_time::by(
-        times,
-        frame.facts,
-        needs,
-        start - minute::wide(frame.origin),
-    )
+    set_time::by(times, frame.facts, needs, start - u32::from(frame.origin))
 }
 
 // Whether that is so at the start of each chosen step from a minute on.
@@ -113,15 +96,21 @@ pub fn all_reached(
     ensures { DeadUnlessTimely sets.now numbers.now times.now frame st result }
 {
     let steps = st.steps;
-    let first = minute::wide(from);
-    let until = minute::wide(st.minute);
-    let mut k = 0;
-    while k < steps.count {
-        let start = minute::wide(steps.starts[k]);
-        if !reached(sets, numbers, times, frame, steps, start, first, until) {
+    let first = u32::from(from);
+    let until = u32::from(st.minute);
+    for start in &steps.starts[..steps.count] {
+        if !reached(
+            sets,
+            numbers,
+            times,
+            frame,
+            steps,
+            u32::from(*start),
+            first,
+            until,
+        ) {
             return false;
         }
-        k += 1;
     }
     true
 }

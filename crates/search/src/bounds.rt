@@ -3,7 +3,6 @@ ghost use Rattle.std.specs.Prelude.{List, ◌≡◌, ℕ, ◌+◌, ◌≤◌, le
 ghost use Rattle.search.specs.Horizons.{Raised};
 
 use earliest::set_time;
-use states::minute;
 use tables::Frame;
 
 // A minute before which no plan ends, where none ends by the first free minute: the one after that, or the earliest
@@ -17,6 +16,6 @@ pub fn lowest(times: &[u32], frame: Frame) -> u32
     if set_time::LATEST < time {
         return time;
     }
-    let first = minute::wide(frame.first) + 1;
-    timeline::later(time + minute::wide(frame.origin), first)
+    let first = u32::from(frame.first) + 1;
+    first.max(time + u32::from(frame.origin))
 }

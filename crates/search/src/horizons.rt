@@ -10,12 +10,10 @@ use states::{amounts, minute};
 use tables::Frame;
 
 // The frame for another horizon.
-fn until(frame: Frame, horizon: u16) -> Frame
+pub fn until(frame: Frame, horizon: u16) -> Frame
     ensures { result ≡ until frame horizon }
 {
-    let mut other = frame;
-    other.horizon = horizon;
-    other
+    Frame { horizon, ..frame }
 }
 
 // A plan that ends by the frame's horizon. With no free minute left there are the kept steps; this second call of
@@ -55,10 +53,7 @@ fn next_horizon(horizon: u16, stride: u16, last: u16) -> u16
     requires { (horizon < last) × (1 ≤ stride) × (last ≤ 1440) }
     ensures { (horizon < result) × (result ≤ last) }
 {
-    if last - horizon < stride {
-        return last;
-    }
-    horizon + stride
+    horizon.saturating_add(stride).min(last)
 }
 
 // The longest stride, in minutes: the last power of two before the latest deadline.
@@ -69,10 +64,7 @@ fn longer(stride: u16) -> u16
     requires { 1 ≤ stride }
     ensures { 1 ≤ result }
 {
-    if LONGEST_STRIDE <= stride {
-        return stride;
-    }
-    stride * 2
+    stride.saturating_mul(2).min(LONGEST_STRIDE)
 }
 
 // From the minute `low` upwards with doubling strides, until a plan is found or the frame's horizon has none.

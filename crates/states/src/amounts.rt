@@ -1,5 +1,5 @@
 // What the chosen steps use of pools and stores.
-ghost use Rattle.std.specs.Prelude.{◌≡◌, false, cond, ◌&&◌, ℕ, ◌+◌, ◌^◌, ◌≤◌, ◌<◌, ltb, length, get_or};
+ghost use Rattle.std.specs.Prelude.{◌≡◌, Bool, false, cond, ◌&&◌, ℕ, ◌+◌, ◌^◌, ◌≤◌, ◌<◌, ltb, length, get_or};
 ghost use Rattle.tables.specs.Tables.{duration_at, Known, Numbers};
 ghost use Rattle.states.specs.Amounts.{Sums, Added, Small, UsesNothing, JoinsUses, LooksUses, exceeds};
 
@@ -20,58 +20,31 @@ pub struct Uses {
 fn amount(counts: bool, number: u32) -> u64
     ensures { (result ≡ cond counts number 0) × (result < 2 ^ 32) }
 {
-    if counts {
-        return number as u64;
-    }
-    0
-}
-
-// A handover as a number of 32 bits.
-pub fn minutes(handover: u8) -> u32
-    ensures { (result ≡ handover) × (result < 256) }
-{
-    handover as u32
+    if counts { u64::from(number) } else { 0 }
 }
 
 // Whether shares of some pool stay in use after their steps.
-pub fn waits(handovers: [u8; Job::POOLS]) -> bool
+fn waits(handovers: [u8; Job::POOLS]) -> bool
     ensures { result ≡ false → (pool : ℕ) → pool < 4 → get_or handovers pool 0 ≡ 0 }
 {
-    (0 < handovers[0]) | (0 < handovers[1]) | (0 < handovers[2]) | (0 < handovers[3])
+    handovers.iter().any(|minutes| 0 < *minutes)
 }
 
-// The sums with the table's four amounts from place `at` on, where they count.
-fn plus(numbers: &[u32], at: usize, counts: bool, sums: [u64; Job::AMOUNTS]) -> [u64; Job::AMOUNTS]
-    requires { (at + 4 ≤ length numbers.now) × (length numbers.now ≤ 1220) × Sums 32 sums }
-    ensures { Added numbers.now at (λ k. counts) sums result }
-{
-    let mut out = sums;
-    let mut k = 0;
-    while k < Job::AMOUNTS {
-        out[k] = amount(counts, numbers[at + k]) + out[k];
-        k += 1;
-    }
-    out
-}
-
-// The same, where each counts if the minute is before the limit put off by the pool's handover.
-fn plus_put_off(
+// The sums with the table's four amounts from place `at` on, each where it counts.
+fn plus<F: Fn(usize) -> bool>(
     numbers: &[u32],
     at: usize,
-    from: u32,
-    limit: u32,
-    handovers: [u8; Job::POOLS],
-    sums: [u64; Job::POOLS],
-) -> [u64; Job::POOLS]
-    requires { (at + 4 ≤ length numbers.now) × (length numbers.now ≤ 1220) × Sums 32 sums × (limit ≤ 65536) }
-    ensures { Added numbers.now at (λ k. ltb from (limit + get_or handovers k 0)) sums result }
+    counts: F,
+    sums: [u64; Job::AMOUNTS],
+) -> [u64; Job::AMOUNTS]
+    requires fits { (at + 4 ≤ length numbers.now) × (length numbers.now ≤ 1220) × Sums 32 sums }
+    requires asked { (k : ℕ) → k < 4 → F.pre counts k }
+    ensures { (test : ℕ → Bool) → ((k : ℕ) (b : Bool) → k < 4 → F.post counts k b → b ≡ test k)
+        → Added numbers.now at test sums result }
 {
     let mut out = sums;
-    let mut k = 0;
-    while k < Job::POOLS {
-        let until = limit + minutes(handovers[k]);
-        out[k] = amount(from < until, numbers[at + k]) + out[k];
-        k += 1;
+    for k in 0..Job::AMOUNTS {
+        out[k] = amount(counts(k), numbers[at + k]) + out[k];
     }
     out
 }
@@ -90,9 +63,15 @@ fn with_shares(
     ensures { Added numbers.now at (λ k. runs && ltb from (limit + get_or handovers k 0)) sums result }
 {
     if runs & (limit <= from) & waits(handovers) {
-        return plus_put_off(numbers, at, from, limit, handovers, sums);
+        return plus(
+            numbers,
+            at,
+            |k| from < limit + u32::from(handovers[k]),
+            sums,
+        );
     }
-    plus(numbers, at, runs & (from < limit), sums)
+    let counts = runs & (from < limit);
+    plus(numbers, at, |_| counts, sums)
 }
 
 // What is used with one more step of an action.
@@ -132,7 +111,7 @@ pub fn joined(
         handovers,
         now,
     );
-    let more_spent = plus(numbers, at + NumberTable::STORES, true, spent);
+    let more_spent = plus(numbers, at + NumberTable::STORES, |_| true, spent);
     Uses {
         before: more_before,
         now: more_now,
@@ -158,8 +137,7 @@ pub fn look(numbers: &[u32], frame: Frame, steps: Steps, t: u32) -> Uses
 {
     let handovers = frame.handovers;
     let mut uses = none();
-    let mut k = 0;
-    while k < steps.count {
+    for k in 0..steps.count {
         uses = joined(
             numbers,
             handovers,
@@ -168,7 +146,6 @@ pub fn look(numbers: &[u32], frame: Frame, steps: Steps, t: u32) -> Uses
             steps.numbers[k],
             steps.starts[k],
         );
-        k += 1;
     }
     uses
 }
@@ -184,12 +161,10 @@ pub fn exceeds(
     requires { (at + 4 ≤ length numbers.now) × (length numbers.now ≤ 1220) × Sums 32 sums × (count ≤ 4) }
     ensures { result ≡ exceeds numbers.now at sums limits count }
 {
-    let mut k = 0;
-    while k < count {
-        if job::wide(limits[k]) < sums[k] + job::wide(numbers[at + k]) {
+    for k in 0..count {
+        if u64::from(limits[k]) < sums[k] + u64::from(numbers[at + k]) {
             return true;
         }
-        k += 1;
     }
     false
 }

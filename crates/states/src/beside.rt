@@ -9,20 +9,14 @@ use job::Job;
 use tables::Frame;
 use tables::layout::{NumberTable, SetTable};
 
-// Whether the handover of some pool after `until` is later than the minute.
-fn waits(frame: Frame, until: u32, minute: u32) -> bool
-    requires { (frame.pools ≤ 4) × (until < 131072) }
-    ensures { result ≡ false → (pool : ℕ) → pool < frame.pools → until + get_or frame.handovers pool 0 ≤ minute }
+// Whether one of the handovers after `until` is later than the minute.
+fn waits(handovers: &[u8], until: u32, minute: u32) -> bool
+    requires { until < 131072 }
+    ensures { result ≡ false → (pool : ℕ) → pool < length handovers.now → until + get_or handovers.now pool 0 ≤ minute }
 {
-    let handovers = frame.handovers;
-    let mut k = 0;
-    while k < frame.pools {
-        if minute < until + amounts::minutes(handovers[k]) {
-            return true;
-        }
-        k += 1;
-    }
-    false
+    handovers
+        .iter()
+        .any(|handover| minute < until + u32::from(*handover))
 }
 
 // Whether the pools have enough for action i beside the sums: each pool whose handover after `until` is later than the
@@ -41,13 +35,11 @@ fn enough(
     let handovers = frame.handovers;
     let available = frame.available;
     let at = i as usize * NumberTable::ROW + NumberTable::POOLS;
-    let mut k = 0;
-    while k < frame.pools {
-        let shared = minute < until + amounts::minutes(handovers[k]);
-        if shared & (job::wide(available[k]) < sums[k] + job::wide(numbers[at + k])) {
+    for k in 0..frame.pools {
+        let shared = minute < until + u32::from(handovers[k]);
+        if shared && u64::from(available[k]) < sums[k] + u64::from(numbers[at + k]) {
             return false;
         }
-        k += 1;
     }
     true
 }
@@ -71,7 +63,7 @@ fn beside(sets: &[u64], numbers: &[u32], frame: Frame, st: State, i: u8, k: usiz
     if (minute < last) & facts::has(sets[i as usize * SetTable::ROW + SetTable::CLASHES], number) {
         return false;
     }
-    if !waits(frame, last, minute) {
+    if !waits(&frame.handovers[..frame.pools], last, minute) {
         return true;
     }
     let uses = amounts::look(numbers, frame, steps, stop);
@@ -84,12 +76,5 @@ pub fn beside_kept(sets: &[u64], numbers: &[u32], frame: Frame, st: State, i: u8
     requires { Safe sets.now numbers.now frame st × (i < frame.actions) }
     ensures { result ≡ false → BarredBy sets.now numbers.now frame st i }
 {
-    let mut k = 0;
-    while (k < frame.kept.count) & (k < st.steps.count) {
-        if !beside(sets, numbers, frame, st, i, k) {
-            return false;
-        }
-        k += 1;
-    }
-    true
+    (0..frame.kept.count.min(st.steps.count)).all(|k| beside(sets, numbers, frame, st, i, k))
 }

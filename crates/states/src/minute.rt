@@ -25,7 +25,7 @@ pub const MINUTES: u32 = 65_536;
 pub fn wide(minute: u16) -> u32
     ensures { (result ≡ minute) × (result < 65536) }
 {
-    minute as u32
+    u32::from(minute)
 }
 
 // The stop of action i that starts then.
@@ -94,10 +94,8 @@ pub fn look(sets: &[u64], numbers: &[u32], actions: usize, steps: Steps, t: u32)
     ensures { LooksAt sets.now numbers.now actions steps t result }
 {
     let mut m = empty();
-    let mut k = 0;
-    while k < steps.count {
+    for k in 0..steps.count {
         m = joined(sets, numbers, m, t, steps.numbers[k], steps.starts[k]);
-        k += 1;
     }
     m
 }

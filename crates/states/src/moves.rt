@@ -5,7 +5,7 @@ ghost use Rattle.states.specs.Amounts.{Small};
 ghost use Rattle.states.specs.Moves.{Taken, NoStartBetween, NoEventBetween, GoneOf, Gone, Back};
 
 use crate::state::State;
-use crate::{amounts, minute};
+use crate::{amounts, minute, union};
 use job::Job;
 use tables::layout::{NumberTable, SetTable};
 use tables::{Frame, Steps};
@@ -49,35 +49,17 @@ pub fn later_start(m: u16, start: u16, t: u16) -> u16
     requires { m < t }
     ensures { (m ≤ result) × (result < t) × (start < t → start ≤ result) }
 {
-    if t <= start {
-        return m;
-    }
-    if start < m {
-        return m;
-    }
-    start
+    if start < t { m.max(start) } else { m }
 }
 
-// The start less the handover; 0 where that is before minute 0.
-fn before_handover(start: u16, handover: u16) -> u16
-    ensures { result ≡ start - handover }
-{
-    if start < handover {
-        return 0;
-    }
-    start - handover
-}
-
-// The latest of minute m and of the starts of chosen steps, each less the handover, before minute t.
+// The latest of minute m and of the starts of chosen steps, each less the handover, before minute t. Less than 0 is 0.
 fn last_start(steps: Steps, handover: u16, m: u16, t: u16) -> u16
     requires { (steps.count ≤ 32) × (m < t) }
     ensures { (m ≤ result) × (result < t) × NoStartBetween handover steps result t }
 {
     let mut r = m;
-    let mut k = 0;
-    while k < steps.count {
-        r = later_start(r, before_handover(steps.starts[k], handover), t);
-        k += 1;
+    for start in &steps.starts[..steps.count] {
+        r = later_start(r, start.saturating_sub(handover), t);
     }
     r
 }
@@ -90,7 +72,7 @@ fn later_event(steps: Steps, handover: u8, m: u16, t: u16) -> u16
     if handover == 0 {
         return m;
     }
-    last_start(steps, handover as u16, m, t)
+    last_start(steps, u16::from(handover), m, t)
 }
 
 // The last event of the chosen steps before minute t: a start, or a start less the handover of a pool. The first
@@ -99,12 +81,9 @@ pub fn event(steps: Steps, frame: Frame, t: u16) -> u16
     requires { (steps.count ≤ 32) × (frame.first < t) × (frame.pools ≤ 4) }
     ensures { (frame.first ≤ result) × (result < t) × NoEventBetween frame.handovers frame.pools steps result t }
 {
-    let handovers = frame.handovers;
     let mut m = last_start(steps, 0, frame.first, t);
-    let mut k = 0;
-    while k < frame.pools {
-        m = later_event(steps, handovers[k], m, t);
-        k += 1;
+    for handover in &frame.handovers[..frame.pools] {
+        m = later_event(steps, *handover, m, t);
     }
     m
 }
@@ -127,16 +106,7 @@ pub fn gone(sets: &[u64], numbers: &[u32], actions: usize, steps: Steps, s: u32,
     requires { Lent sets.now numbers.now actions × Known actions steps }
     ensures { Gone sets.now numbers.now actions steps s t result }
 {
-    let mut set: u64 = 0;
-    let mut k = 0;
-    while k < steps.count {
-        set = facts::union(
-            gone_of(sets, numbers, steps.numbers[k], steps.starts[k], s, t),
-            set,
-        );
-        k += 1;
-    }
-    set
+    union::over(steps, |i, start| gone_of(sets, numbers, i, start, s, t))
 }
 
 // The state at minute s, the event before.

@@ -37,16 +37,14 @@ pub fn needs_allow(
         return false;
     }
     let new = facts::difference(sets[at + SetTable::ADDS], held);
-    minute::stop(numbers, a, start) + tails::least(tails, new) <= minute::wide(horizon)
+    minute::stop(numbers, a, start) + tails::least(tails, new) <= u32::from(horizon)
 }
 
 // The frame without a goal.
 fn for_rules(frame: Frame) -> Frame
     ensures { result ≡ for_rules frame }
 {
-    let mut other = frame;
-    other.goal = 0;
-    other
+    Frame { goal: 0, ..frame }
 }
 
 // Whether the steps keep the rules.
@@ -84,12 +82,13 @@ fn behind(frame: Frame, steps: Steps, given: u64, start: u16, number: u8) -> Fra
     requires { number < 64 }
     ensures { result ≡ behind frame steps given start number }
 {
-    let mut other = frame;
-    other.first = start;
-    other.least = number + 1;
-    other.kept = steps;
-    other.given = given;
-    other
+    Frame {
+        first: start,
+        least: number + 1,
+        kept: steps,
+        given,
+        ..frame
+    }
 }
 
 // Whether an accepted plan that ends by the horizon begins with the steps.

@@ -3,7 +3,7 @@ ghost use Rattle.std.specs.Prelude.{◌≡◌, ◌≤◌, ◌<◌, length};
 ghost use Rattle.tables.specs.Tables.{duration_at, Known, Lent};
 ghost use Rattle.walker.specs.Walk.{LostOf, Lost, Forward};
 
-use states::minute;
+use states::{minute, union};
 use tables::Steps;
 use tables::layout::SetTable;
 
@@ -28,16 +28,7 @@ fn lost(sets: &[u64], numbers: &[u32], actions: usize, steps: Steps, t: u32) -> 
     requires { Lent sets.now numbers.now actions × Known actions steps }
     ensures { Lost sets.now numbers.now actions steps t result }
 {
-    let mut set: u64 = 0;
-    let mut k = 0;
-    while k < steps.count {
-        set = facts::union(
-            lost_of(sets, numbers, steps.numbers[k], steps.starts[k], t),
-            set,
-        );
-        k += 1;
-    }
-    set
+    union::over(steps, |i, start| lost_of(sets, numbers, i, start, t))
 }
 
 // The facts that hold at the place's minute, from those that hold at the minute of the place before.
@@ -52,10 +43,7 @@ pub fn forward(
     requires { Lent sets.now numbers.now actions × Known actions steps }
     ensures { Forward sets.now numbers.now actions steps place held result }
 {
-    if place == 0 {
-        return held;
-    }
-    if 0 < place % ROW {
+    if place == 0 || 0 < place % ROW {
         return held;
     }
     let minute = place / ROW;

@@ -27,15 +27,6 @@ pub struct Page {
     pub answer: Answer,
 }
 
-// The frame for another horizon.
-fn until(frame: Frame, horizon: u16) -> Frame
-    ensures { result ≡ until frame horizon }
-{
-    let mut other = frame;
-    other.horizon = horizon;
-    other
-}
-
 // The plan at the place, from the tables of a whole day.
 fn plan_from(
     sets: &[u64],
@@ -73,7 +64,7 @@ fn plan_from(
         times,
         &tails,
         file,
-        until(frame, horizon),
+        horizons::until(frame, horizon),
         Steps::none(),
         frame.start,
         0,

@@ -17,7 +17,7 @@ fn added_while(sets: &[u64], numbers: &[u32], a: u8, start: u16, b: u8, from: u1
         return 0;
     }
     let own = minute::stop(numbers, a, start);
-    let while_running = (minute::wide(from) < own) & (own <= stop);
+    let while_running = (u32::from(from) < own) & (own <= stop);
     facts::when(
         while_running,
         sets[a as usize * SetTable::ROW + SetTable::ADDS],
@@ -38,8 +38,7 @@ fn alone(
     ensures { Alone sets.now numbers.now steps steps.count b from stop result }
 {
     let mut set = sets[b as usize * SetTable::ROW + SetTable::ADDS];
-    let mut k = 0;
-    while k < steps.count {
+    for k in 0..steps.count {
         let other = added_while(
             sets,
             numbers,
@@ -50,7 +49,6 @@ fn alone(
             stop,
         );
         set = facts::difference(set, other);
-        k += 1;
     }
     set
 }
@@ -67,16 +65,14 @@ pub fn none_spare(
     requires { Lent sets.now numbers.now actions × Known actions steps × (length tails.now ≡ 64) }
     ensures { NoneSpare sets.now numbers.now tails.now horizon steps result }
 {
-    let mut i = 0;
-    while i < steps.count {
+    for i in 0..steps.count {
         let number = steps.numbers[i];
         let start = steps.starts[i];
         let stop = minute::stop(numbers, number, start);
         let set = alone(sets, numbers, actions, steps, number, start, stop);
-        if minute::wide(horizon) < stop + tails::least(tails, set) {
+        if u32::from(horizon) < stop + tails::least(tails, set) {
             return false;
         }
-        i += 1;
     }
     true
 }

@@ -14,8 +14,7 @@ returns c =
     λ none e J described timely keeps stands.
     let at = c.args in
     let few = c.requires.0.amounts.few in
-    let w = c.wide-minute.ensures.0 in
-    let o = c.wide-2.ensures.0 in
+    let w = c.from-minute.ensures in
     let late = c.by.ensures e in
     let s : ℕ = c.latest_start-event.result in
     let after = c.requires.8 in
@@ -26,7 +25,7 @@ returns c =
     let event = event_before J at.sets.now at.numbers.now at.frame described few at.st stands keeps
     at.left _ _ none c.latest_start-event.ensures in
     let given = c.gone-given.ensures J described.each
-    ∙ ap₂ (λ (a b : ℕ). added_between a b (kept_of J at.frame)) w c.wide.ensures.0 in
+    ∙ ap₂ (λ (a b : ℕ). added_between a b (kept_of J at.frame)) w c.from.ensures in
     let is = c.union-carried.ensures.0
     ∙ ap (λ (set : ℕ). union set at.st.at.held)
     (c.difference.ensures.0

@@ -9,9 +9,6 @@ returns c =
     λ missing e J described marked keeps stands.
     let at = c.args in
     let h = c.requires in
-    let a = c.wide.ensures.0 in
-    let b = c.wide-2.ensures.0 in
-    let n = c.wide-3.ensures.0 in
-    let more = leb-false c.minutes-minutes.result c.wide-3.result e in
+    let more = leb-false c.minutes-minutes.result c.from.result e in
     dead_when_minutes_exceeded J at.sets.now at.numbers.now at.frame described marked at.st keeps stands
     h.3 h.2 at.missing c.minutes-minutes.result missing c.minutes-minutes.ensures (omega arith)

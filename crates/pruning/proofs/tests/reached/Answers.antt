@@ -1,5 +1,4 @@
 -- `reached` meets its contract: the needs of the running steps come later than the start.
-use mathlib.Core.Bool.{true≢false}
 use native.Mathlib.Omega.{arith}
 use Prim.Native.Nat.{ℕ}
 use mathlib.Core.Path.{ap}
@@ -7,19 +6,12 @@ use Rattle.earliest.specs.Numbers.{set_number}
 use Rattle.pruning.proofs.StateTests.{dead_when_rushed}
 use Rattle.pruning.proofs.tests.reached.Goals as goal
 
-pub returns-then-start-from : goal.returns-then-start-from
-returns-then-start-from c = λ e. absurd (true≢false e)
-
-pub returns-then-until-start : goal.returns-then-until-start
-returns-then-until-start c = λ e. absurd (true≢false e)
-
 pub returns : goal.returns
 returns c =
     λ e J described timely keeps t in_time.
     let at = c.args in
     let h = c.requires.5 in
     let from = c.requires.6 in
-    let w = c.wide.ensures.0 in
     let rules = c.needs_at-needs.ensures J described.each in
     let same = ap (λ (set : ℕ). set_number at.times.now set at.frame.facts) rules in
     let late = c.by.ensures e in

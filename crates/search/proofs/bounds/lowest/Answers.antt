@@ -10,8 +10,5 @@ returns-then-time-gt-LATEST c =
 
 pub returns : goal.returns
 returns c =
-    let first = c.wide-first.ensures.0 in
-    let origin = c.wide.ensures.0 in
-    let low = c.later.ensures in
     λ file sets numbers.
     raised_to_lowest file sets numbers _ c.args.frame _ _ c.set_time-time.ensures c.if-time-gt-LATEST.false (omega arith)

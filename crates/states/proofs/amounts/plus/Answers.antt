@@ -1,38 +1,24 @@
--- `plus` meets its contract: the first k sums have their amounts.
-use mathlib.Core.Path.{◌≡◌}
-use Rattle.states.proofs.AmountLaws.{added_at_first, added_on, added_all}
+-- `plus` meets its contract: the first k sums have their amounts, the others are as before.
+use Prim.Native.Nat.{◌+◌}
+use mathlib.Core.Path.{◌≡◌, ap, ◌∙◌}
+use mathlib.Core.Bool.{Bool, cond}
+use lib.ListN.{get_or, length-set}
+use lib.Seq.{get_or-set_other}
+use Rattle.states.proofs.AmountLaws.{added_on}
 use native.Mathlib.Omega.{arith}
 use Rattle.states.proofs.amounts.plus.Goals as goal
 
-pub loop-k-init : goal.loop-k-init
-loop-k-init c = (omega arith, added_at_first _ _ _ _ c.requires.2.four)
-
-pub overflow_add-at : goal.overflow_add-at
-overflow_add-at c = let h = c.requires in omega arith
-
-pub bounds-numbers-at : goal.bounds-numbers-at
-bounds-numbers-at c =
-    let h = c.requires in omega arith
-
-pub bounds-out-k : goal.bounds-out-k
-bounds-out-k c = let inv = c.loop-k.invariant.1.four in omega arith
-
-pub overflow_add-out : goal.overflow_add-out
-overflow_add-out c =
-    let inv = c.loop-k.invariant.1 in
-    let own = inv.rest c.loop-k.k (omega arith) in
-    let small = c.requires.2.small c.loop-k.k (omega arith) in
-    let r = c.amount.ensures.1 in omega arith
-
-pub bounds-out-k-in-loop-k : goal.bounds-out-k-in-loop-k
-bounds-out-k-in-loop-k c = let inv = c.loop-k.invariant.1.four in omega arith
-
 pub loop-k-preserved : goal.loop-k-preserved
-loop-k-preserved c =
-    let r = c.amount.ensures in
-    (omega arith, added_on _ _ _ _ c.loop-k.k _ _ (omega arith) r.0 r.1 c.loop-k.invariant.1)
-
-pub returns : goal.returns
-returns c =
-    let all : c.loop-k.k ≡ 4 = omega arith in
-    added_all _ _ _ _ _ (rw all at c.loop-k.invariant.1)
+loop-k-preserved g c =
+    let inv = c.loop-k.invariant in
+    let k = c.loop-k.k in
+    let number = get_or c.args.numbers.now (c.args.at + k) 0 in (
+      length-set _ _ _ ∙ inv.0,
+      λ j l.
+          let other : j ≡ k → ⊥ = λ e. omega arith in
+          get_or-set_other c.loop-k.out k j _ 0 other ∙ inv.1 j (omega arith),
+      λ test decides.
+          let counts : c.counts.result ≡ test k = decides _ _ (omega arith) c.counts.ensures in
+          added_on _ _ _ _ k _ _ (omega arith) (c.amount.ensures.0 ∙ ap (λ (b : Bool). cond b number 0) counts)
+          c.amount.ensures.1 (inv.2 test decides),
+    )

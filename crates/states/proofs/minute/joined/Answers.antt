@@ -1,23 +1,7 @@
 -- `joined` meets its contract: the step's numbers and sets are those of the tables.
 use mathlib.Core.Path.{sym, ◌∙◌}
 use Rattle.states.proofs.Looks.{step_in_tables}
-use native.Mathlib.Omega.{arith}
 use Rattle.states.proofs.minute.joined.Goals as goal
-
-pub stop-requires : goal.stop-requires
-stop-requires c = let h = c.requires in (omega arith, h.3)
-
-pub bounds-sets-at : goal.bounds-sets-at
-bounds-sets-at c =
-    let h = c.requires in omega arith
-
-pub bounds-sets-at-2 : goal.bounds-sets-at-2
-bounds-sets-at-2 c =
-    let h = c.requires in omega arith
-
-pub with_step-requires : goal.with_step-requires
-with_step-requires c =
-    c.requires.2
 
 pub returns : goal.returns
 returns c =

@@ -1,13 +1,10 @@
--- `event` meets its contract: no start lies between, nor one less the handover of the first k pools.
-use Prim.Native.Nat.{ℕ, ◌-◌, ◌≤◌, ◌<◌}
+-- `event` meets its contract: no start lies between, nor one less the handover of the pools gone over.
+use Prim.Native.Nat.{ℕ, ◌≤◌, ◌<◌}
 use lib.ListN.{get_or}
 use Rattle.states.specs.Moves.{NoStartBetween}
 use Rattle.states.proofs.moves.event.Given as goal
 
-abbrev pub invariant-loop-k : goal.invariant-loop-k
-invariant-loop-k l =
-    (l.k ≤ l.frame.pools) × (l.frame.first ≤ l.m) × (l.m < l.t) × NoStartBetween 0 l.steps l.m l.t
-    × ((pool : ℕ) → pool < l.k → NoStartBetween (get_or l.handovers pool 0) l.steps l.m l.t)
-
-abbrev pub decreases-loop-k : goal.decreases-loop-k
-decreases-loop-k l = l.frame.pools - l.k
+abbrev pub invariant-loop-handover : goal.invariant-loop-handover
+invariant-loop-handover l =
+    (l.fn.frame.first ≤ l.m) × (l.m < l.t) × NoStartBetween 0 l.steps l.m l.t
+    × ((pool : ℕ) → pool < l.handover-index → NoStartBetween (get_or l.handover-items pool 0) l.steps l.m l.t)

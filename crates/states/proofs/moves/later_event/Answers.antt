@@ -11,4 +11,4 @@ returns-then-handover-eq0 c =
 pub returns : goal.returns
 returns c =
     let r = c.last_start.ensures in
-    (r.0, r.1, λ none. r.2)
+    (r.0, r.1, λ none k l m a b e. r.2 k l m a b (omega arith))

@@ -9,7 +9,6 @@ use Rattle.states.specs.Minutes.{JoinsStep}
 use Rattle.states.specs.Amounts.{JoinsUses}
 use Rattle.states.specs.declared.minute.Minute.{Minute}
 use Rattle.states.specs.declared.amounts.Uses.{Uses}
-use native.Mathlib.Omega.{arith}
 use Rattle.states.proofs.moves.take.Goals as goal
 
 -- what is joined at the same minute and start by other words
@@ -20,25 +19,6 @@ joins-as sets numbers t t' i start start' m r e f joins = rw (← e, ← f) join
 joins-uses-as : (numbers handovers : List ℕ) (t t' i start start' : ℕ) (uses r : Uses) → t ≡ t' → start ≡ start'
     → JoinsUses numbers handovers t i start uses r → JoinsUses numbers handovers t' i start' uses r
 joins-uses-as numbers handovers t t' i start start' uses r e f joins = rw (← e, ← f) joins
-
-pub start_of-start-requires : goal.start_of-start-requires
-start_of-start-requires c = let h = c.requires in (h.1, h.2, h.5)
-
-pub bounds-sets-i : goal.bounds-sets-i
-bounds-sets-i c =
-    let h = c.requires in omega arith
-
-pub push-requires : goal.push-requires
-push-requires c =
-    c.requires.3
-
-pub joined-requires : goal.joined-requires
-joined-requires c =
-    let h = c.requires in (h.0, h.1, h.2, h.4)
-
-pub joined-requires-2 : goal.joined-requires-2
-joined-requires-2 c =
-    let h = c.requires in (h.1, h.2, h.4, h.6, c.wide-minute.ensures.1)
 
 pub returns : goal.returns
 returns c =

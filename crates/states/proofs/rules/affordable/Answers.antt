@@ -3,21 +3,10 @@ use Prim.Native.Nat.{suc, ◌-◌}
 use mathlib.Core.Path.{◌≡◌, sym, ◌∙◌}
 use borrow.Author.Tests.{not-false}
 use Rattle.tables.specs.Tables.{chosen}
-use Rattle.states.proofs.AmountLaws.{sums_of_more, exceeds_as_pools, exceeds_as_stores}
+use Rattle.states.proofs.AmountLaws.{exceeds_as_pools, exceeds_as_stores}
 use Rattle.states.proofs.BarredActions.{barred_when_pools_exceeded, barred_when_stores_exceeded}
 use native.Mathlib.Omega.{arith}
 use Rattle.states.proofs.rules.affordable.Goals as goal
-
-pub overflow_mul-at : goal.overflow_mul-at
-overflow_mul-at c = let h = c.requires in let f = h.0.lent.amounts.few in omega arith
-
-pub exceeds-requires : goal.exceeds-requires
-exceeds-requires c =
-    let safe = c.requires.0 in
-    let known = c.requires.1 in
-    let n = safe.lent.amounts.number_count in
-    let f = safe.lent.amounts.few in
-    (omega arith, omega arith, sums_of_more _ 32 _ safe.known.few safe.small.before, safe.pools)
 
 pub returns-then-exceeds : goal.returns-then-exceeds
 returns-then-exceeds c =
@@ -31,14 +20,6 @@ returns-then-exceeds c =
     (sym (exceeds_as_pools J at.sets.now _ at.frame described (chosen J at.st.steps) at.i h.1
     safe.pools (at.st.minute - 1) at.st.uses.before (stands.uses.before _ before))
     ∙ sym c.exceeds.ensures ∙ c.if-exceeds.true)
-
-pub exceeds-requires-2 : goal.exceeds-requires-2
-exceeds-requires-2 c =
-    let safe = c.requires.0 in
-    let known = c.requires.1 in
-    let n = safe.lent.amounts.number_count in
-    let f = safe.lent.amounts.few in
-    (omega arith, omega arith, sums_of_more _ 32 _ safe.known.few safe.small.spent, safe.stores)
 
 pub returns : goal.returns
 returns c =

@@ -1,5 +1,4 @@
 -- `candidates` meets its contract: the actions below k are found or barred.
-use mathlib.Core.Path.{◌≡◌}
 use Rattle.states.proofs.CandidateLaws.{candidates_at_first, candidates_on}
 use native.Mathlib.Omega.{arith}
 use Rattle.states.proofs.rules.candidates.Goals as goal
@@ -7,13 +6,6 @@ use Rattle.states.proofs.rules.candidates.Goals as goal
 pub loop-k-init : goal.loop-k-init
 loop-k-init c =
     let next = c.next-k.ensures in (next.within, next.found, candidates_at_first _ _ _ _ _ _ next)
-
-pub with_candidate-found-requires : goal.with_candidate-found-requires
-with_candidate-found-requires c =
-    let h = c.requires in (h.0, omega arith, h.1)
-
-pub loop-k-smaller : goal.loop-k-smaller
-loop-k-smaller c = let next = c.next-k-in-loop-k.ensures.onward (omega arith) in omega arith
 
 pub loop-k-preserved : goal.loop-k-preserved
 loop-k-preserved c =
@@ -23,9 +15,3 @@ loop-k-preserved c =
       candidates_on _ _ _ _ _ _ _ _ _ (c.loop-k.invariant.1 (omega arith)) c.with_candidate-found.ensures next
           c.loop-k.invariant.2,
     )
-
-pub returns : goal.returns
-returns c =
-    let l = c.loop-k.invariant.0 in
-    let all : c.loop-k.k ≡ 64 = omega arith in
-    rw all at c.loop-k.invariant.2

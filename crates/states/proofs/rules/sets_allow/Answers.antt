@@ -7,11 +7,7 @@ use Rattle.facts.specs.FactSet.{union, difference, meets}
 use Rattle.tables.specs.Tables.{adds_at, needs_at}
 use Rattle.states.proofs.BarredActions.{barred_when_adding_nothing_wanted, barred_when_clashing}
 use Rattle.states.proofs.BarredActions.{barred_when_provided, barred_when_deleting}
-use native.Mathlib.Omega.{arith}
 use Rattle.states.proofs.rules.sets_allow.Goals as goal
-
-pub bounds-sets-at : goal.bounds-sets-at
-bounds-sets-at c = let h = c.requires in omega arith
 
 pub returns-then-not-meets : goal.returns-then-not-meets
 returns-then-not-meets c =
@@ -23,10 +19,6 @@ returns-then-not-meets c =
           barred_when_adding_nothing_wanted J at.sets.now numbers frame d at.st known s at.i l f none;
     }
 
-pub bounds-sets-at-2 : goal.bounds-sets-at-2
-bounds-sets-at-2 c =
-    let h = c.requires in omega arith
-
 pub returns-then-meets : goal.returns-then-meets
 returns-then-meets c =
     let at = c.args in
@@ -36,14 +28,6 @@ returns-then-meets c =
       barred = λ e numbers frame l known J d s f.
           barred_when_clashing J at.sets.now numbers frame d at.st known s at.i l f some;
     }
-
-pub bounds-sets-at-3 : goal.bounds-sets-at-3
-bounds-sets-at-3 c =
-    let h = c.requires in omega arith
-
-pub bounds-sets-at-4 : goal.bounds-sets-at-4
-bounds-sets-at-4 c =
-    let h = c.requires in omega arith
 
 pub returns-then-not-meets-2 : goal.returns-then-not-meets-2
 returns-then-not-meets-2 c =
@@ -60,10 +44,6 @@ returns-then-not-meets-2 c =
       barred = λ e numbers frame l known J d s f.
           barred_when_provided J at.sets.now numbers frame d at.st known s at.i l f apart none;
     }
-
-pub bounds-sets-at-5 : goal.bounds-sets-at-5
-bounds-sets-at-5 c =
-    let h = c.requires in omega arith
 
 pub returns : goal.returns
 returns c =

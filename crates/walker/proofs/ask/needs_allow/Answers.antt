@@ -31,13 +31,12 @@ pub returns : goal.returns
 returns c =
     let known = c.if-actions-a.false in
     let stop = c.stop.ensures.0 in
-    let wide = c.wide.ensures.0 in
     record {
       known = λ e. known;
       none = λ e.
           inr (inr (λ p adds new.
           let l = c.least.ensures.1 p
           (ap (λ (set : ℕ). has set p) c.difference-new.ensures.0 ∙ in_difference _ _ p adds new) in
-          let late = leb-false (c.stop.result + c.least.result) c.wide.result e in
+          let late = leb-false (c.stop.result + c.least.result) c.from.result e in
           omega arith));
     }

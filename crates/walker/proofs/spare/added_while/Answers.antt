@@ -26,7 +26,6 @@ returns c =
     λ p h.
     let parts = in_cond_parts _ _ p (sym (ap (λ (set : ℕ). has set p) c.when.ensures) ∙ h) in
     let stop = c.stop-own.ensures.0 in
-    let wide = c.wide.ensures.0 in
-    let after = ltb-true c.wide.result c.stop-own.result (and_left (ltb c.wide.result c.stop-own.result) (leb c.stop-own.result c.args.stop) parts.0) in
-    let by = leb-true c.stop-own.result c.args.stop (and_right (ltb c.wide.result c.stop-own.result) (leb c.stop-own.result c.args.stop) parts.0) in
+    let after = ltb-true c.from.result c.stop-own.result (and_left (ltb c.from.result c.stop-own.result) (leb c.stop-own.result c.args.stop) parts.0) in
+    let by = leb-true c.stop-own.result c.args.stop (and_right (ltb c.from.result c.stop-own.result) (leb c.stop-own.result c.args.stop) parts.0) in
     record { other = c.if-a-b.false; after = omega arith; by = omega arith; adds = parts.1 }

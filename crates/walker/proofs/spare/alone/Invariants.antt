@@ -1,10 +1,6 @@
 -- `alone` meets its contract: what the first k steps add while the step runs is gone.
-use Prim.Native.Nat.{◌-◌, ◌≤◌}
 use Rattle.walker.specs.Spare.{Alone}
 use Rattle.walker.proofs.spare.alone.Given as goal
 
 abbrev pub invariant-loop-k : goal.invariant-loop-k
-invariant-loop-k l = (l.k ≤ l.steps.count) × Alone l.sets l.numbers l.steps l.k l.b l.from l.stop l.set
-
-abbrev pub decreases-loop-k : goal.decreases-loop-k
-decreases-loop-k l = l.steps.count - l.k
+invariant-loop-k l = Alone l.sets l.numbers l.steps l.k l.b l.from l.stop l.set
