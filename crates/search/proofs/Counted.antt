@@ -63,6 +63,10 @@ pub none_of : (r : Option Answer) → is_some r ≡ false → r ≡ None
 none_of None h = refl
 none_of (Some a) h = cc
 
+pub some_of : (r : Option Answer) → is_some r ≡ true → (a : Answer) × (r ≡ Some a)
+some_of None h = cc
+some_of (Some a) h = (a, refl)
+
 -- a plan that the leaf finds has the kept steps, and else new ones
 pub found_when_finished : (J : Job) (file : List ℕ) (frame : Frame) (steps : Steps) (r : Option Answer) → KeepsKept frame steps
     → Known frame.actions steps → ((k : ℕ) → k < steps.count → get_or steps.starts k 0 < 65536)

@@ -1,5 +1,7 @@
 -- What the tests of a beginning say, where they say no: no listed plan begins so.
 -- Assumes nothing.
+use Rattle.std.specs.Prelude.{Option, Some, None, is_some}
+use Rattle.search.proofs.Counted.{none_of, some_of}
 use Prim.Native.Nat.{ℕ, ◌<◌, ◌≤◌}
 use mathlib.Core.Path.{◌≡◌, subst}
 use mathlib.Core.Bool.{true, false, cond, ◌&&◌}
@@ -37,8 +39,8 @@ use Rattle.walker.proofs.Behind.{task_behind, none_begins_by_search}
 foreign_of_nothing : (facts : ℕ) → foreign facts 0 ≡ false
 foreign_of_nothing facts = not-true _ ((foreign_decides facts 0).complete (λ n h. has_zero n))
 
-pub rules_refuse : (file : List ℕ) (frame : Frame) (steps : Steps) (r : Answer) (f : Frame) → f ≡ for_rules frame
-    → Finishes file f steps r → RulesAllow file frame steps r.found
+pub rules_refuse : (file : List ℕ) (frame : Frame) (steps : Steps) (r : Option Answer) (f : Frame) → f ≡ for_rules frame
+    → Finishes file f steps r → RulesAllow file frame steps (is_some r)
 rules_refuse file frame steps r f is finishes e J asked kept P listed begins =
     let of_rules = subst (λ (g : Frame). Finishes file g steps r) is finishes in
     let T = frame.horizon in
@@ -49,7 +51,7 @@ rules_refuse file frame steps r f is finishes e J asked kept P listed begins =
     let rising : strictly_rising (K ++ N) ≡ true
     = subst (λ (Q : List Step). strictly_rising Q ≡ true) begins.1 by.rising in
     no_plan_when_none J file (for_rules frame) asked.in_file asked.actions asked.passed steps
-    (record { known = kept.known; starts = kept.starts }) r of_rules (foreign_of_nothing J.facts) asked.in_time e
+    (record { known = kept.known; starts = kept.starts }) r of_rules (foreign_of_nothing J.facts) asked.in_time (none_of r e)
     (plan_permuted J T 0 (permutation_sym (in_order_permutes J steps))
     (plan_of_first_steps J T frame.goal K N plan rising))
 
@@ -95,13 +97,13 @@ whole_behind sets numbers times frame steps kept whole origin given start number
 pub search_refuses : (file sets numbers times : List ℕ) (frame : Frame) (steps : Steps) → Kept frame steps
     → (given start number : ℕ)
     → ((J : Job) → DescribesEach J sets numbers frame.actions → given ≡ added_between 0 66000 (chosen J steps))
-    → (r : Answer) (f : Frame) → f ≡ behind frame steps given start number → Solves file sets numbers times f r
-    → SearchAllows file sets numbers times frame steps start number r.found
+    → (r : Option Answer) (f : Frame) → f ≡ behind frame steps given start number → Solves file sets numbers times f r
+    → SearchAllows file sets numbers times frame steps start number (is_some r)
 search_refuses file sets numbers times frame steps kept given start number gone r f is solves e J day rising ends =
     let of_behind = subst (λ (g : Frame). Solves file sets numbers times g r) is solves in
     let described = day.task.described in
     let adds = all_given J sets numbers frame described steps kept given (gone J described.each) in
     none_begins_by_search J file sets numbers times frame day steps given start number
-    (of_behind.none e J (task_behind J file sets numbers times frame day steps given start number adds)
+    (of_behind.none (none_of r e) J (task_behind J file sets numbers times frame day steps given start number adds)
     day.asked.passed)
     rising ends

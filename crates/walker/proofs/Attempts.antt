@@ -1,5 +1,6 @@
 -- What `attempt` and `walk_on` promise, from what the functions promise that they call.
 -- Assumes nothing.
+use Rattle.std.specs.Prelude.{Option, Some, None, is_some}
 use Prim.Native.Nat.{ℕ, ◌+◌, ◌-◌, ◌*◌, ◌/◌, ◌%◌, ◌<◌, ◌≤◌}
 use mathlib.Core.Path.{◌≡◌, sym, ap, ◌∙◌, subst}
 use mathlib.Core.Bool.{Bool, true, false}
@@ -107,23 +108,23 @@ module _ (file sets numbers times : List ℕ) (frame : Frame) (steps : Steps) (k
     (facts from left : ℕ) where
   -- the steps themselves
   module _ (own : Walk) (visits : Visits file frame steps left own) where
-    pub walk_is_own : own.answer.found ≡ true → Walks file sets numbers times frame steps facts from left own
+    pub walk_is_own : is_some own.answer ≡ true → Walks file sets numbers times frame steps facts from left own
     walk_is_own e J day rising right holds =
         let w = visits J day.asked kept rising in
         record {
-          found = λ f.
-              let r = w.found f in
+          found = λ a f.
+              let r = w.found a f in
               (r.0, begins_when_own J frame.goal frame.horizon (in_order J steps) left r.0 r.1, r.2);
-          none = λ f. not_both e f;
+          none = λ f. let z = rw f at e in cc;
         }
 
-    module _ (none : own.answer.found ≡ false) where
+    module _ (none : own.answer ≡ None) where
       pub walk_is_full : 32 ≤ steps.count → Walks file sets numbers times frame steps facts from left own
       walk_is_full full J day rising right holds =
           let w = (visits J day.asked kept rising).none none in
           let n = length_tabulate steps.count (placed J steps) in
           record {
-            found = λ f. not_both f none;
+            found = λ a f. cc;
             none = λ f.
                 met_full J file frame day.asked (in_order J steps) left (omega arith) w.0 w.1 own.left
                 w.2;
@@ -151,7 +152,7 @@ module _ (file sets numbers times : List ℕ) (frame : Frame) (steps : Steps) (k
           (Begins (in_order J steps ++ (step_of J (place % 64) (place / 64) ∷ []))) w.left r
       tried = attempts J day rising from right after held_now
 
-    pub meets_next : r.answer.found ≡ false
+    pub meets_next : r.answer ≡ None
         → MetFrom file sets numbers times frame steps facts from left r then (place + 1)
     meets_next e J day rising right holds =
         let t = (tried J day rising right holds).none e in
@@ -161,25 +162,25 @@ module _ (file sets numbers times : List ℕ) (frame : Frame) (steps : Steps) (k
           rw z (held_now J day rising right holds),
         )
 
-    pub walk_finds : r.answer.found ≡ true → Walks file sets numbers times frame steps facts from left r
+    pub walk_finds : is_some r.answer ≡ true → Walks file sets numbers times frame steps facts from left r
     walk_finds e J day rising right holds =
         record {
-          found = λ f.
-              let t = (tried J day rising right holds).found f in (
+          found = λ a f.
+              let t = (tried J day rising right holds).found a f in (
                 t.0,
                 met_found J file frame day.asked (in_order J steps) left place w.left
                     (met J day rising right holds).0 t.0 t.1,
                 t.2,
               );
-          none = λ f. not_both e f;
+          none = λ f. let z = rw f at e in cc;
         }
 
-  pub walk_ends : (w : Walk) (now place : ℕ) → w.answer.found ≡ false
+  pub walk_ends : (w : Walk) (now place : ℕ) → w.answer ≡ None
       → MetFrom file sets numbers times frame steps facts from left w now place → frame.horizon * 64 ≤ place
       → Walks file sets numbers times frame steps facts from left w
   walk_ends w now place e met l J day rising right holds =
       record {
-        found = λ f. not_both f e;
+        found = λ a f. cc;
         none = λ f.
             met_all J file frame day.asked (in_order J steps) left place w.left (met J day rising right holds).0 l;
       }

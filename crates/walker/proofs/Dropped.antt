@@ -1,5 +1,7 @@
 -- What the leaf says of the steps without one of them.
 -- Assumes nothing.
+use Rattle.std.specs.Prelude.{Option, Some, None, is_some}
+use Rattle.search.proofs.Counted.{none_of, some_of}
 use Prim.Native.Nat.{ℕ, ◌-◌, ◌<◌}
 use mathlib.Core.Path.{◌≡◌, sym, ◌∙◌, subst}
 use mathlib.Core.Bool.{true, false}
@@ -62,16 +64,16 @@ module _ (frame : Frame) (steps : Steps) (kept : Kept frame steps) (i : ℕ) (be
 
 module _ (J : Job) (file : List ℕ) (frame : Frame) (asked : AskedOf J file frame) (steps : Steps)
     (kept : Kept frame steps) (i : ℕ) (below : i < steps.count) (rest : Steps) (is : rest ≡ without steps i)
-    (r : Answer) (finishes : Finishes file frame rest r) where
+    (r : Option Answer) (finishes : Finishes file frame rest r) where
   of_rest : Finishes file frame (without steps i) r
   of_rest = subst (λ (s : Steps). Finishes file frame s r) is finishes
 
-  pub dropped_plan : r.found ≡ true → PlanWithout J frame steps i
+  pub dropped_plan : is_some r ≡ true → PlanWithout J frame steps i
   dropped_plan e =
       plan_when_found J file frame asked.in_file asked.actions asked.passed (without steps i)
-      (kept_without frame steps kept i below) r of_rest e
+      (kept_without frame steps kept i below) r of_rest (some_of r e).0 (some_of r e).1
 
-  pub dropped_none : r.found ≡ false → PlanWithout J frame steps i → ⊥
+  pub dropped_none : is_some r ≡ false → PlanWithout J frame steps i → ⊥
   dropped_none e =
       no_plan_when_none J file frame asked.in_file asked.actions asked.passed (without steps i)
-      (kept_without frame steps kept i below) r of_rest asked.goal asked.in_time e
+      (kept_without frame steps kept i below) r of_rest asked.goal asked.in_time (none_of r e)

@@ -1,5 +1,6 @@
 -- What the leaf says of steps: where it finds a plan they are one, and where it finds none they are none.
 -- Assumes nothing.
+use Rattle.std.specs.Prelude.{Option, Some, None, is_some}
 use Prim.Native.Nat.{ℕ, suc, ◌≤◌}
 use mathlib.Core.Path.{◌≡◌}
 use mathlib.Core.Bool.{true, false}
@@ -33,17 +34,17 @@ known_steps J frame actions steps kept = rw actions kept.known
 
 module _ (J : Job) (file : List ℕ) (frame : Frame) (in_file : FileOf J file frame.start frame.supplies)
     (actions : length J.actions ≡ frame.actions) (passed : Passed J) (steps : Steps) (kept : Kept frame steps)
-    (r : Answer) (finishes : Finishes file frame steps r) where
+    (r : Option Answer) (finishes : Finishes file frame steps r) where
   known : Known (length J.actions) steps
   known = known_steps J frame actions steps kept
 
-  pub plan_when_found : r.found ≡ true → PlanOf J frame.horizon frame.goal (chosen J steps)
-  plan_when_found e =
-      let found = finishes.found e J in_file in
+  pub plan_when_found : (a : Answer) → r ≡ Some a → PlanOf J frame.horizon frame.goal (chosen J steps)
+  plan_when_found a e =
+      let found = finishes.found a e J in_file in
       let end = found.end in
       let soon = found.in_time in
-      plan_permuted J frame.horizon frame.goal (permutation_sym (finishes.same e J in_file known kept.starts))
-      (plan_of_accepted J frame.goal (bytes_in r) frame.horizon passed found.accepted (omega arith))
+      plan_permuted J frame.horizon frame.goal (permutation_sym (finishes.same a e J in_file known kept.starts))
+      (plan_of_accepted J frame.goal (bytes_in a) frame.horizon passed found.accepted (omega arith))
 
   abbrev late : From
   late = from_minute (suc frame.horizon)
@@ -68,7 +69,7 @@ module _ (J : Job) (file : List ℕ) (frame : Frame) (in_file : FileOf J file fr
         }
 
   pub no_plan_when_none : foreign J.facts frame.goal ≡ false → frame.horizon ≤ J.deadline
-      → r.found ≡ false → PlanOf J frame.horizon frame.goal (chosen J steps) → ⊥
+      → r ≡ None → PlanOf J frame.horizon frame.goal (chosen J steps) → ⊥
   no_plan_when_none goal in_time e plan =
       finishes.dead e J in_file (record { goal = goal; in_time = in_time; known = known }) late 0 (omega arith) []
       (each_step (Until late 0) [] tt) (normal plan)

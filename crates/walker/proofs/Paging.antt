@@ -1,5 +1,6 @@
 -- From the walk over the whole list to the plan at a place, or that the list ends before it.
 -- Assumes nothing.
+use Rattle.std.specs.Prelude.{Option, Some, None, is_some}
 use Prim.Native.Nat.{ℕ, ◌≤◌}
 use mathlib.Core.Path.{◌≡◌, refl, sym, ap, subst}
 use mathlib.Core.Bool.{true, false}
@@ -62,27 +63,28 @@ kept_none frame =
 
 module _ (J : Job) (file sets numbers times : List ℕ) (frame : Frame) (task : TaskOf J file sets numbers times frame)
     (passed : Passed J) (whole : WholeDay frame) (last : frame.horizon ≡ J.deadline) (plain : frame.least ≡ 0)
-    (safe : Whole sets numbers times frame) (best : Answer) (shortest : Shortest file sets numbers times frame best) where
+    (safe : Whole sets numbers times frame) (answer : Option Answer)
+    (shortest : Shortest file sets numbers times frame answer) where
   none_kept : in_order J frame.kept ≡ []
   none_kept = nothing_in_order J frame.kept whole.none
 
-  of_search : Solved J frame.goal 0 [] best
+  of_search : Solved J frame.goal 0 [] answer
   of_search =
       let a = task.described.actions in
       let none = whole.none in
       let known : Known (length J.actions) frame.kept = rw a safe.kept in
-      subst (λ (m : ℕ). Solved J frame.goal m [] best) whole.first
-      (subst (λ (K : List Step). Solved J frame.goal frame.first K best) none_kept
+      subst (λ (m : ℕ). Solved J frame.goal m [] answer) whole.first
+      (subst (λ (K : List Step). Solved J frame.goal frame.first K answer) none_kept
       (solved J frame plain passed known (λ k l. absurd (omega arith))
-      (subst (λ (K : List Step). strictly_rising K ≡ true) (sym none_kept) refl) best last
-      (λ e. shortest.found e J task passed) (λ e. shortest.none e J task passed)))
+      (subst (λ (K : List Step). strictly_rising K ≡ true) (sym none_kept) refl) answer last
+      (λ a e. shortest.found a e J task passed) (λ e. shortest.none e J task passed)))
 
-  pub no_plan_of_search : best.found ≡ false → makespan J frame.goal ≡ no_plan
+  pub no_plan_of_search : answer ≡ None → makespan J frame.goal ≡ no_plan
   no_plan_of_search e = of_search.none e
 
-  module _ (e : best.found ≡ true) where
+  module _ (best : Answer) (e : answer ≡ Some best) where
     pub plan_of_search : makespan J frame.goal ≡ ends_at best.end
-    plan_of_search = (of_search.found e).2
+    plan_of_search = (of_search.found best e).2
 
     pub least_of_search : ShortestEnd J frame.goal best.end
     least_of_search =
@@ -90,7 +92,7 @@ module _ (J : Job) (file sets numbers times : List ℕ) (frame : Frame) (task : 
         (least_end_of_makespan J frame.goal 0 [] passed (nothing_begun J) best.end plan_of_search)
 
     pub in_time_lem : best.end ≤ J.deadline
-    in_time_lem = (of_search.found e).0.in_time
+    in_time_lem = (of_search.found best e).0.in_time
 
     -- the day up to its least end
     pub day_of_search : (horizon : ℕ) → horizon ≡ best.end → DayOf J file sets numbers times (until frame horizon)
@@ -155,13 +157,13 @@ module _ (J : Job) (file sets numbers times : List ℕ) (frame : Frame) (task : 
           (walks_all J (day_of_search horizon same)
           (subst (λ (K : List Step). strictly_rising K ≡ true) (sym none) refl) (inl (none, refl)) starts)
 
-      pub page_of_walk : PageOf J frame.goal place (record { any = true; answer = w.answer })
+      pub page_of_walk : PageOf J frame.goal place (Some w.answer)
       page_of_walk =
           record {
-            none = λ z. not_both refl z;
-            some = λ z. (best.end, plan_of_search);
-            found = λ z f.
-                let r = walked.found f in
+            none = λ z. cc;
+            some = λ at z. (best.end, plan_of_search);
+            found = λ a f.
+                let r = walked.found a (let z = f in cc) in
                 let t = r.2.found in
                 let soon = t.in_time in
                 let l = in_time_lem in (
@@ -180,8 +182,8 @@ module _ (J : Job) (file sets numbers times : List ℕ) (frame : Frame) (task : 
                     bytes = r.2.bytes;
                   },
                 );
-            ended = λ z f.
-                let r = walked.none f in
+            ended = λ f.
+                let r = walked.none (let z = f in cc) in
                 let n = r.2 in
                 record {
                   list = r.0;
@@ -192,12 +194,6 @@ module _ (J : Job) (file sets numbers times : List ℕ) (frame : Frame) (task : 
                 };
           }
 
-  pub page_of_none : (place : ℕ) → best.found ≡ false
-      → PageOf J frame.goal place (record { any = false; answer = best })
+  pub page_of_none : (place : ℕ) → answer ≡ None → PageOf J frame.goal place None
   page_of_none place e =
-      record {
-        none = λ z. no_plan_of_search e;
-        some = λ z. not_both z refl;
-        found = λ z f. not_both z refl;
-        ended = λ z f. not_both z refl;
-      }
+      record { none = λ z. no_plan_of_search e; some = λ at z. cc; found = λ a z. cc; ended = λ z. cc }

@@ -1,5 +1,6 @@
 -- The walk over the listed plans that begin with some steps, place by place.
 -- Assumes nothing.
+use Rattle.std.specs.Prelude.{Option, Some, None, is_some}
 use Prim.Native.Nat.{ℕ, suc, ◌+◌, ◌-◌, ◌*◌, ◌/◌, ◌%◌, ◌<◌, ◌≤◌}
 use mathlib.Core.Path.{◌≡◌, refl, sym, ap, ap₂, ◌∙◌, subst}
 use mathlib.Core.Bool.{true, false}
@@ -36,6 +37,7 @@ use Rattle.listing.proofs.Order.{first_irreflexive}
 use Rattle.listing.proofs.Lists.{list_of_none, list_of_one}
 use Rattle.listing.proofs.Walk.{listed_known, list_of_begins}
 use Rattle.listing.proofs.Found.{found_itself}
+use Rattle.leaf.specs.declared.Answer.{Answer}
 use Rattle.listing.proofs.Exists.{none_behind_32}
 use Rattle.listing.proofs.ListedPlans.{listed_by_steps}
 use Rattle.listing.proofs.RisingParts.{rising_after, rising_joined}
@@ -55,19 +57,19 @@ module _ (J : Job) (goal T : ℕ) (k : List Step) where
   abbrev Own : List Step → Type 0
   Own P = P ≡ k
 
-  pub own_not_listed : (r : Walk) → r.answer.found ≡ false → (Listed J goal k → ⊥) → Walked J goal T Own r.left r
+  pub own_not_listed : (r : Walk) → r.answer ≡ None → (Listed J goal k → ⊥) → Walked J goal T Own r.left r
   own_not_listed r e none =
       record {
-        found = λ f. not_both f e;
+        found = λ a f. cc;
         none = λ f.
             ([], list_of_none J goal Own (λ P listed same. none (subst (Listed J goal) same listed)), omega arith);
       }
 
-  pub own_found : (r : Walk) → Listed J goal k → Tells J goal T r.answer k → r.answer.found ≡ true
+  pub own_found : (r : Walk) (told : Answer) → r.answer ≡ Some told → Listed J goal k → Tells J goal T told k
       → (left : ℕ) → left ≡ 0 → Walked J goal T Own left r
-  own_found r listed tells e left z =
+  own_found r told e listed tells left z =
       record {
-        found = λ f. (
+        found = λ a f. (
           k,
           record {
             listed = listed;
@@ -78,16 +80,16 @@ module _ (J : Job) (goal T : ℕ) (k : List Step) where
                 first_irreflexive k (subst (λ (Q : List Step). comes_first Q k ≡ true) h.0 h.1));
             count = sym z;
           },
-          tells,
+          (let same : told ≡ a = cc in subst (λ (x : Answer). Tells J goal T x k) same tells),
         );
-        none = λ f. not_both e f;
+        none = λ f. cc;
       }
 
-  pub own_passed : (r : Walk) → Listed J goal k → r.answer.found ≡ false → (left : ℕ) → r.left + 1 ≡ left
+  pub own_passed : (r : Walk) → Listed J goal k → r.answer ≡ None → (left : ℕ) → r.left + 1 ≡ left
       → Walked J goal T Own left r
   own_passed r listed e left l =
       record {
-        found = λ f. not_both f e;
+        found = λ a f. cc;
         none = λ f. (k ∷ [], list_of_one J goal k listed, omega arith);
       }
 
@@ -315,7 +317,7 @@ pub none_walked : (J : Job) (goal T : ℕ) (F : List Step → Type 0) (left : �
     → ((P : List Step) → Listed J goal P → F P → ⊥) → Walked J goal T F left r
 none_walked J goal T F left r e none =
     record {
-      found = λ f. not_both f (ap (λ (w : Walk). w.answer.found) e);
+      found = λ a f. let z = ap (λ (w : Walk). w.answer) e in cc;
       none = λ f. let same : r.left ≡ left = ap (λ (w : Walk). w.left) e in
           ([], list_of_none J goal F none, omega arith);
     }

@@ -1,5 +1,6 @@
 -- What the walk over the list promises of the listed plans that begin with some steps.
 -- Assumes nothing.
+use Rattle.std.specs.Prelude.{Option, Some, None}
 use Rattle.std.specs.Prelude.{ℕ, ◌+◌, ◌-◌, ◌/◌, ◌%◌, ◌≤◌, ◌<◌, ◌≡◌, Bool, true, false, ◌⊎◌, List, [], ◌∷◌, ◌++◌, length, get_or, set}
 use Rattle.facts.specs.FactSet.{has, subset, foreign}
 use Rattle.job.specs.Job.{Job}
@@ -12,7 +13,7 @@ use Rattle.tables.specs.declared.Steps.{Steps}
 use Rattle.tables.specs.Tables.{DescribesAction, DescribesEach, Describes, Known, chosen, needs_at, adds_at, duration_at}
 use Rattle.tails.specs.Tails.{TailTable}
 use Rattle.leaf.specs.declared.Answer.{Answer}
-use Rattle.leaf.specs.Answer.{no_answer, FileOf, Found, bytes_in}
+use Rattle.leaf.specs.Answer.{FileOf, Found, bytes_in}
 use Rattle.leaf.specs.Order.{in_order}
 use Rattle.search.specs.Search.{TaskOf}
 use Rattle.listing.specs.Listed.{Listed}
@@ -196,24 +197,24 @@ pub record Tells (J : Job) (goal T : ℕ) (answer : Answer) (P : List Step) : Ty
   pub bytes : bytes_in answer ≡ plan_bytes P
 
 -- the answer tells of the steps, and they are listed; or they are not
-pub record ListedTest (file : List ℕ) (frame : Frame) (steps : Steps) (r : Answer) : Type 0 where
-  pub found : r.found ≡ true → (J : Job) → AskedOf J file frame → Kept frame steps → Rising J steps
-      → Listed J frame.goal (in_order J steps) × Tells J frame.goal frame.horizon r (in_order J steps)
-  pub none : r.found ≡ false → (J : Job) → AskedOf J file frame → Kept frame steps → Rising J steps
+pub record ListedTest (file : List ℕ) (frame : Frame) (steps : Steps) (r : Option Answer) : Type 0 where
+  pub found : (a : Answer) → r ≡ Some a → (J : Job) → AskedOf J file frame → Kept frame steps → Rising J steps
+      → Listed J frame.goal (in_order J steps) × Tells J frame.goal frame.horizon a (in_order J steps)
+  pub none : r ≡ None → (J : Job) → AskedOf J file frame → Kept frame steps → Rising J steps
       → Listed J frame.goal (in_order J steps) → ⊥
 
 -- ---- the walk
 
 -- among the listed plans that are F: the plan before which so many stand; or they are fewer, by what is left
 pub record Walked (J : Job) (goal T : ℕ) (F : List Step → Type 0) (left : ℕ) (r : Walk) : Type 0 where
-  pub found : r.answer.found ≡ true
-      → (P : List Step) × FoundAt J goal F left P × Tells J goal T r.answer P
-  pub none : r.answer.found ≡ false
+  pub found : (a : Answer) → r.answer ≡ Some a
+      → (P : List Step) × FoundAt J goal F left P × Tells J goal T a P
+  pub none : r.answer ≡ None
       → (A : List (List Step)) × ListOf J goal F A × (length A + r.left ≡ left)
 
 -- no plan was met
 abbrev pub none_left : ℕ → Walk
-none_left left = record { left = left; answer = no_answer }
+none_left left = record { left = left; answer = None }
 
 -- the steps themselves
 abbrev pub Visits : List ℕ → Frame → Steps → ℕ → Walk → Type 0

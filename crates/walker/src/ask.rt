@@ -52,8 +52,7 @@ fn rules_allow(file: &[u8], frame: Frame, steps: Steps) -> bool
     requires { steps.count ≤ 32 }
     ensures { RulesAllow file.now frame steps result }
 {
-    let answer = leaf::finish(file, for_rules(frame), steps);
-    answer.found
+    leaf::finish(file, for_rules(frame), steps).is_some()
 }
 
 // Whether no step is spare and the steps keep the rules.
@@ -108,12 +107,6 @@ pub fn search_allows(
         frame steps start number result }
 {
     let given = moves::gone(sets, numbers, frame.actions, steps, 0, LAST);
-    let answer = horizons::solve(
-        sets,
-        numbers,
-        times,
-        file,
-        behind(frame, steps, given, start, number),
-    );
-    answer.found
+    let begun = behind(frame, steps, given, start, number);
+    horizons::solve(sets, numbers, times, file, begun).is_some()
 }

@@ -11,7 +11,7 @@ ghost use Rattle.walker.specs.Page.{WholeTask, PageFrom, PageOf};
 use crate::walk;
 use earliest::set_time;
 use job::{Job, resumed};
-use jobfile::{Layout, Written};
+use jobfile::Layout;
 use leaf::Answer;
 use pairs::Pair;
 use search::horizons;
@@ -20,14 +20,7 @@ use states::minute;
 use tables::layout::{NumberTable, SetTable};
 use tables::{Frame, Steps};
 
-// Whether there is a plan at all, and the plan at the place, where the list has one there.
-#[derive(Clone, Copy)]
-pub struct Page {
-    pub any: bool,
-    pub answer: Answer,
-}
-
-// The plan at the place, from the tables of a whole day.
+// The plan at the place, if the list has one there, from the tables of a whole day; or none, where there is no plan at all.
 fn plan_from(
     sets: &[u64],
     numbers: &[u32],
@@ -35,25 +28,14 @@ fn plan_from(
     file: &[u8],
     frame: Frame,
     place: u32,
-) -> Page
+) -> Option<Option<Answer>>
     requires { Whole sets.now numbers.now times.now frame × (frame.origin ≡ 0) }
     ensures { PageFrom file.now sets.now numbers.now times.now
         frame place result }
 {
-    let best = horizons::shortest(sets, numbers, times, file, frame);
-    let found = best.found;
-    if !found {
-        return Page {
-            any: false,
-            answer: best,
-        };
-    }
+    let best = horizons::shortest(sets, numbers, times, file, frame)?;
     if minute::wide(frame.horizon) < best.end {
-        let none = leaf::nothing();
-        return Page {
-            any: false,
-            answer: none,
-        };
+        return None;
     }
     let horizon = (best.end % minute::MINUTES) as u16;
     let mut tails = [0u32; tails::ENTRIES];
@@ -70,15 +52,12 @@ fn plan_from(
         0,
         place,
     );
-    let answer = w.answer;
-    Page {
-        any: true,
-        answer: answer,
-    }
+    Some(w.answer)
 }
 
-// The plan at the place of the list of the task, which is of a whole day.
-pub fn plan_at(job: Job, task: Task, place: u32) -> Page
+// The plan at the place of the list of the task, which is of a whole day, if the list has one there; or none, where there
+// is no plan at all.
+pub fn plan_at(job: Job, task: Task, place: u32) -> Option<Option<Answer>>
     requires { (first (job_rows (job_in job)) ≡ pass) × TaskFits (day_of job task) task × WholeTask task }
     ensures { PageOf (day_of job task) task.goal place result }
 {
@@ -93,13 +72,6 @@ pub fn plan_at(job: Job, task: Task, place: u32) -> Page
     let frame = Frame::of(day, task.goal, task.first, kept);
     cliques::fill(&mut sets, &mut numbers, &times, frame, hand);
     let mut file = [0u8; Layout::FILE];
-    let written = writer::write(job, &mut file);
-    let Written::Length(length) = written else {
-        let answer = leaf::nothing();
-        return Page {
-            any: false,
-            answer: answer,
-        };
-    };
+    let length = writer::write(job, &mut file).ok()?;
     plan_from(&sets, &numbers, &times, &file[..length], frame, place)
 }

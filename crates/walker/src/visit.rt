@@ -24,32 +24,24 @@ fn none_dropped(file: &[u8], frame: Frame, steps: Steps) -> bool
     requires { steps.count ≤ 32 }
     ensures { NoneDropped file.now frame steps result }
 {
-    let mut i = 0;
-    while i < steps.count {
-        let rest = leaf::finish(file, frame, without(steps, i));
-        let found = rest.found;
-        if found {
+    for i in 0..steps.count {
+        if leaf::finish(file, frame, without(steps, i)).is_some() {
             return false;
         }
-        i += 1;
     }
     true
 }
 
 // The steps as a plan, where it is listed.
-fn listed(file: &[u8], frame: Frame, steps: Steps) -> Answer
+fn listed(file: &[u8], frame: Frame, steps: Steps) -> Option<Answer>
     requires { steps.count ≤ 32 }
     ensures { ListedTest file.now frame steps result }
 {
-    let answer = leaf::finish(file, frame, steps);
-    let found = answer.found;
-    if !found {
-        return leaf::nothing();
-    }
+    let answer = leaf::finish(file, frame, steps)?;
     if !none_dropped(file, frame, steps) {
-        return leaf::nothing();
+        return None;
     }
-    answer
+    Some(answer)
 }
 
 // The steps as a plan, where it is listed and no place is left before it; or one place less.
@@ -57,23 +49,11 @@ pub fn visit(file: &[u8], frame: Frame, steps: Steps, left: u32) -> Walk
     requires { steps.count ≤ 32 }
     ensures { Visits file.now frame steps left result }
 {
-    let answer = listed(file, frame, steps);
-    let found = answer.found;
-    if !found {
-        return Walk {
-            left: left,
-            answer: answer,
-        };
-    }
-    if left == 0 {
-        return Walk {
-            left: left,
-            answer: answer,
-        };
-    }
-    let none = leaf::nothing();
-    Walk {
-        left: left - 1,
-        answer: none,
+    match listed(file, frame, steps) {
+        Some(_) if 0 < left => Walk {
+            left: left - 1,
+            answer: None,
+        },
+        answer => Walk { left, answer },
     }
 }

@@ -14,18 +14,14 @@ use timeline::Plan;
 #[derive(Clone, Copy)]
 pub struct Walk {
     pub left: u32,
-    pub answer: Answer,
+    pub answer: Option<Answer>,
 }
 
 // No plan was met.
 fn none(left: u32) -> Walk
     ensures { result ≡ none_left left }
 {
-    let answer = leaf::nothing();
-    Walk {
-        left: left,
-        answer: answer,
-    }
+    Walk { left, answer: None }
 }
 
 // Among the listed plans that begin with the steps and then the action and the minute of the place.
@@ -104,9 +100,7 @@ pub fn walk_on(
         frame steps held from left result }
 {
     let mut w = visit::visit(file, frame, steps, left);
-    let own = w.answer;
-    let listed = own.found;
-    if listed {
+    if w.answer.is_some() {
         return w;
     }
     if Plan::STEPS <= steps.count {
@@ -120,9 +114,7 @@ pub fn walk_on(
         w = attempt(
             sets, numbers, times, tails, file, frame, steps, holds, place, w.left,
         );
-        let answer = w.answer;
-        let found = answer.found;
-        if found {
+        if w.answer.is_some() {
             return w;
         }
         place += 1;

@@ -4,5 +4,5 @@ use Rattle.walker.proofs.ask.rules_allow.Goals as goal
 
 pub returns : goal.returns
 returns c =
-    rules_refuse _ c.args.frame c.args.steps c.finish-answer.result
-    _ c.for_rules.ensures c.finish-answer.ensures
+    rules_refuse _ c.args.frame c.args.steps c.finish.result
+    _ c.for_rules.ensures c.finish.ensures

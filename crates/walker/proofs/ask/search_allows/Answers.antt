@@ -4,8 +4,8 @@ use Rattle.search.specs.Horizons.{Whole}
 use Rattle.walker.proofs.Asking.{whole_behind, search_refuses}
 use Rattle.walker.proofs.ask.search_allows.Goals as goal
 
-pub solve-answer-requires : goal.solve-answer-requires
-solve-answer-requires c =
+pub solve-requires : goal.solve-requires
+solve-requires c =
     subst (Whole _ _ _) (sym c.behind.ensures)
     (whole_behind _ _ _ c.args.frame c.args.steps c.requires.1 c.requires.0 c.requires.3 c.gone-given.result
     c.args.start c.args.number)
@@ -13,5 +13,5 @@ solve-answer-requires c =
 pub returns : goal.returns
 returns c =
     search_refuses _ _ _ _ c.args.frame c.args.steps c.requires.1 c.gone-given.result c.args.start c.args.number
-    c.gone-given.ensures c.solve-answer.result
-    _ c.behind.ensures c.solve-answer.ensures
+    c.gone-given.ensures c.solve.result
+    _ c.behind.ensures c.solve.ensures

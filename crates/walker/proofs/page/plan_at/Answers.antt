@@ -41,19 +41,19 @@ fill-requires-2 c =
           c.fill_times-hand.ensures,
     )
 
-pub returns-in_default : goal.returns-in_default
-returns-in_default c =
+pub returns-in_err-length : goal.returns-in_err-length
+returns-in_err-length c =
     absurd
-    (file_not_refused c.args.job c.requires.0 _ refl c.write-written.result _ c.write-written.ensures _
-    c.in_default.is)
+    (file_not_refused c.args.job c.requires.0 _ refl c.write.result _ c.write.ensures
+    (sym c.ok.ensures.value ∙ c.in_err-length.was))
 
 pub slice_bounds-file-end : goal.slice_bounds-file-end
 slice_bounds-file-end c =
-    file_in_slice c.args.job c.requires.0 _ refl c.write-written.result _ c.write-written.ensures _ c.in-Length.is
+    file_in_slice c.args.job c.requires.0 _ refl c.write.result _ c.write.ensures _ (sym c.ok.ensures.value ∙ c.in_ok-length.was)
 
 pub slice_bounds-plan_from-end-4 : goal.slice_bounds-plan_from-end-4
 slice_bounds-plan_from-end-4 c =
-    file_length c.args.job c.requires.0 _ refl c.write-written.result _ c.write-written.ensures _ c.in-Length.is
+    file_length c.args.job c.requires.0 _ refl c.write.result _ c.write.ensures _ (sym c.ok.ensures.value ∙ c.in_ok-length.was)
 
 pub plan_from-requires : goal.plan_from-requires
 plan_from-requires c =
@@ -76,7 +76,7 @@ returns c =
     let put = c.fill-2.ensures in
     let filled = filled_still day _ _ _ _ fits.passes c.fill.ensures put.0 put.1 in
     let durations = job_durations job day task is (byte_durations day _ _ c.fill.ensures) in
-    let file = file_of_job job _ c.write-written.result _ c.write-written.ensures durations _ c.in-Length.is day.start
+    let file = file_of_job job _ c.write.result _ c.write.ensures durations _ (sym c.ok.ensures.value ∙ c.in_ok-length.was) day.start
     day.stores (job_in day) (day_resumes job day task is) fits.passes in
     let asked = task_of_tables day task fits c.of-frame.result c.of-frame.ensures _ _ filled _ _ c.fill_times-hand.ensures
     put.2 _ file in

@@ -10,17 +10,17 @@ use Rattle.walker.proofs.Paging.{whole_up_to, kept_none, in_time_lem, page_of_wa
 use native.Mathlib.Omega.{arith}
 use Rattle.walker.proofs.page.plan_from.Goals as goal
 
-pub returns-then-not-found : goal.returns-then-not-found
-returns-then-not-found c =
-    λ J task passed whole last plain.
-    page_of_none J _ _ _ _ c.args.frame task passed whole last plain c.requires.0 c.shortest-best.result c.shortest-best.ensures
-    c.args.place (c.if-not-found.true)
+pub returns-in_err-best : goal.returns-in_err-best
+returns-in_err-best c =
+    λ J task passed whole last plain. rw c.from_residual.ensures
+    (page_of_none J _ _ _ _ c.args.frame task passed whole last plain c.requires.0 c.shortest.result c.shortest.ensures
+    c.args.place c.in_err-best.was)
 
 pub returns-then-wide-best : goal.returns-then-wide-best
 returns-then-wide-best c =
     λ J task passed whole last plain.
-    let soon = in_time_lem J _ _ _ _ c.args.frame task passed whole last plain c.requires.0 c.shortest-best.result
-    c.shortest-best.ensures (c.if-not-found.false) in
+    let soon = in_time_lem J _ _ _ _ c.args.frame task passed whole last plain c.requires.0 c.shortest.result
+    c.shortest.ensures _ c.in_ok-best.was in
     let late = c.if-wide-best.true in
     let wide = c.wide.ensures.0 in
     absurd (omega arith)
@@ -30,8 +30,8 @@ walk_on-w-requires c =
     let soon = c.if-wide-best.false in
     let wide = c.wide.ensures.0 in
     let horizon = c.requires.0.horizon in
-    let same : c.shortest-best.result.end % 65536 ≡ c.shortest-best.result.end = mod-eq_of_lt (omega arith) in
-    let within : c.shortest-best.result.end % 65536 ≤ c.args.frame.horizon = omega arith in
+    let same : c.in_ok-best.best.end % 65536 ≡ c.in_ok-best.best.end = mod-eq_of_lt (omega arith) in
+    let within : c.in_ok-best.best.end % 65536 ≤ c.args.frame.horizon = omega arith in
     let e = c.until.ensures in (
       subst (Whole _ _ _) (sym e) (whole_up_to _ _ _ c.args.frame _ within c.requires.0),
       subst (Kept c.until.result) (sym c.none.ensures) (kept_none c.until.result),
@@ -45,7 +45,7 @@ returns c =
     let soon = c.if-wide-best.false in
     let wide = c.wide.ensures.0 in
     let horizon = c.requires.0.horizon in
-    let same : c.shortest-best.result.end % 65536 ≡ c.shortest-best.result.end = mod-eq_of_lt (omega arith) in
-    page_of_walk J _ _ _ _ c.args.frame task passed whole last plain c.requires.0 c.shortest-best.result
-    c.shortest-best.ensures (c.if-not-found.false) c.args.place _ same c.walk_on-w.result
+    let same : c.in_ok-best.best.end % 65536 ≡ c.in_ok-best.best.end = mod-eq_of_lt (omega arith) in
+    page_of_walk J _ _ _ _ c.args.frame task passed whole last plain c.requires.0 c.shortest.result
+    c.shortest.ensures _ c.in_ok-best.was c.args.place _ same c.walk_on-w.result
     _ c.until.ensures _ c.none.ensures c.walk_on-w.ensures

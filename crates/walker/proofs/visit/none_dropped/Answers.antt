@@ -8,47 +8,42 @@ use native.Mathlib.Omega.{arith}
 use Rattle.walker.proofs.visit.none_dropped.Goals as goal
 
 pub loop-i-init : goal.loop-i-init
-loop-i-init c = (omega arith, λ J asked kept k l. absurd (omega arith))
+loop-i-init c = λ J asked kept k l. absurd (omega arith)
 
 pub without-requires : goal.without-requires
 without-requires c =
-    let l = c.loop-i-test.true in let m = c.requires in (omega arith, omega arith)
+    let m = c.requires in (omega arith, omega arith)
 
-pub finish-rest-requires : goal.finish-rest-requires
-finish-rest-requires c =
+pub finish-requires : goal.finish-requires
+finish-requires c =
     let e = c.without.ensures in
     let m = c.requires in
-    let l = c.loop-i-test.true in
     rw e (omega arith)
 
-pub returns-then-found : goal.returns-then-found
-returns-then-found c =
+pub returns-then-is_some : goal.returns-then-is_some
+returns-then-is_some c =
     record {
       none = λ e. not_both e refl;
       some = λ e J asked kept. (
         c.loop-i.i,
-        c.loop-i-test.true,
-        dropped_plan J _ c.args.frame asked c.args.steps kept c.loop-i.i c.loop-i-test.true c.without.result
-            c.without.ensures c.finish-rest.result c.finish-rest.ensures c.if-found.true,
+        (omega arith),
+        dropped_plan J _ c.args.frame asked c.args.steps kept c.loop-i.i (omega arith) c.without.result
+            c.without.ensures c.finish.result c.finish.ensures (sym c.is_some.ensures ∙ c.if-is_some.true),
       );
     }
 
 pub loop-i-preserved : goal.loop-i-preserved
 loop-i-preserved c =
-    let l = c.loop-i-test.true in (
-      omega arith,
-      λ J asked kept k m.
-          ⊎_elim
-          (λ e.
-          let z : k ≡ c.loop-i.i = omega arith in
-          rw z
-          (dropped_none J _ c.args.frame asked c.args.steps kept c.loop-i.i c.loop-i-test.true
-          c.without.result c.without.ensures c.finish-rest.result c.finish-rest.ensures c.if-found.false))
-          (λ less. c.loop-i.invariant.1 J asked kept k (omega arith))
-          (eq-or-lt_of_le m),
-    )
+    λ J asked kept k m.
+        ⊎_elim
+        (λ e.
+        let z : k ≡ c.loop-i.i = omega arith in
+        rw z
+        (dropped_none J _ c.args.frame asked c.args.steps kept c.loop-i.i (omega arith)
+        c.without.result c.without.ensures c.finish.result c.finish.ensures (sym c.is_some.ensures ∙ c.if-is_some.false)))
+        (λ less. c.loop-i.invariant J asked kept k (omega arith))
+        (eq-or-lt_of_le m)
 
 pub returns : goal.returns
 returns c =
-    let all : c.loop-i.i ≡ c.args.steps.count = omega arith in
-    record { none = λ e J asked kept k l. c.loop-i.invariant.1 J asked kept k (omega arith); some = λ e. not_both refl e }
+    record { none = λ e J asked kept k l. c.loop-i.invariant J asked kept k (omega arith); some = λ e. not_both refl e }

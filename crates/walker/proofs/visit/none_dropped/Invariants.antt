@@ -6,8 +6,4 @@ use Rattle.walker.proofs.visit.none_dropped.Given as goal
 
 abbrev pub invariant-loop-i : goal.invariant-loop-i
 invariant-loop-i l =
-    (l.i ≤ l.steps.count)
-    × ((J : Job) → AskedOf J l.file l.frame → Kept l.frame l.steps → (k : ℕ) → k < l.i → PlanWithout J l.frame l.steps k → ⊥)
-
-abbrev pub decreases-loop-i : goal.decreases-loop-i
-decreases-loop-i l = l.steps.count - l.i
+    (J : Job) → AskedOf J l.file l.frame → Kept l.frame l.steps → (k : ℕ) → k < l.i → PlanWithout J l.frame l.steps k → ⊥

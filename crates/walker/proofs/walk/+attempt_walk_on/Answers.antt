@@ -4,6 +4,7 @@ use native.Mathlib.Nat.{div-add-mod, mod-lt, mod-eq_of_lt}
 use native.Mathlib.Omega.{arith}
 use Rattle.tables.specs.declared.Steps.{Steps}
 use Rattle.tables.specs.Tables.{pushed}
+use Rattle.search.proofs.Counted.{none_of}
 use Rattle.walker.specs.Walk.{Kept}
 use Rattle.walker.proofs.Walking.{kept_of_next}
 use Rattle.walker.proofs.Attempts.{attempt_lacks_needs, attempt_is_barren, attempt_finds_none, attempt_walks_on, walk_is_own, walk_is_full, meets_first, meets_next, walk_finds, walk_ends}
@@ -116,15 +117,15 @@ pub walk_on-visit-w-requires : goal.walk_on-visit-w-requires
 walk_on-visit-w-requires t c =
     c.requires.1.known.few
 
-pub walk_on-returns-then-listed : goal.walk_on-returns-then-listed
-walk_on-returns-then-listed t c =
+pub walk_on-returns-then-is_some : goal.walk_on-returns-then-is_some
+walk_on-returns-then-is_some t c =
     let h = c.requires in
-    walk_is_own _ _ _ _ c.args.frame c.args.steps h.1 c.args.held c.args.from c.args.left _ c.visit-w.ensures c.if-listed.true
+    walk_is_own _ _ _ _ c.args.frame c.args.steps h.1 c.args.held c.args.from c.args.left _ c.visit-w.ensures (sym c.is_some.ensures ∙ c.if-is_some.true)
 
 pub walk_on-returns-then-steps-ge-STEPS : goal.walk_on-returns-then-steps-ge-STEPS
 walk_on-returns-then-steps-ge-STEPS t c =
     let h = c.requires in
-    walk_is_full _ _ _ _ c.args.frame c.args.steps h.1 c.args.held c.args.from c.args.left _ c.visit-w.ensures c.if-listed.false c.if-steps-ge-STEPS.true
+    walk_is_full _ _ _ _ c.args.frame c.args.steps h.1 c.args.held c.args.from c.args.left _ c.visit-w.ensures (none_of _ (sym c.is_some.ensures ∙ c.if-is_some.false)) c.if-steps-ge-STEPS.true
 
 pub walk_on-overflow_mul-last : goal.walk_on-overflow_mul-last
 walk_on-overflow_mul-last t c =
@@ -133,7 +134,7 @@ walk_on-overflow_mul-last t c =
 pub walk_on-loop-place-init : goal.walk_on-loop-place-init
 walk_on-loop-place-init t c =
     let h = c.requires in
-    (c.if-listed.false, omega arith, meets_first _ _ _ _ c.args.frame c.args.steps h.1 c.args.held c.args.from c.args.left _ c.visit-w.ensures c.if-listed.false)
+    ((none_of _ (sym c.is_some.ensures ∙ c.if-is_some.false)), omega arith, meets_first _ _ _ _ c.args.frame c.args.steps h.1 c.args.held c.args.from c.args.left _ c.visit-w.ensures (none_of _ (sym c.is_some.ensures ∙ c.if-is_some.false)))
 
 pub walk_on-forward-holds-requires : goal.walk_on-forward-holds-requires
 walk_on-forward-holds-requires t c =
@@ -147,12 +148,12 @@ walk_on-attempt-w-requires t c =
     let room = c.if-steps-ge-STEPS.false in
     (omega arith, (h.0, h.1, h.2, room, omega arith, h.3))
 
-pub walk_on-returns-then-found : goal.walk_on-returns-then-found
-walk_on-returns-then-found t c =
+pub walk_on-returns-then-is_some-2 : goal.walk_on-returns-then-is_some-2
+walk_on-returns-then-is_some-2 t c =
     let h = c.requires in
     walk_finds _ _ _ _ c.args.frame c.args.steps h.1 c.args.held c.args.from c.args.left
     c.loop-place.w c.loop-place.holds c.loop-place.place c.loop-place.invariant.2 c.loop-place.invariant.1 c.forward-holds.result c.forward-holds.ensures
-    _ c.attempt-w.ensures c.if-found.true
+    _ c.attempt-w.ensures (sym c.is_some-2.ensures ∙ c.if-is_some-2.true)
 
 pub walk_on-overflow_add-place : goal.walk_on-overflow_add-place
 walk_on-overflow_add-place t c =
@@ -166,11 +167,11 @@ pub walk_on-loop-place-preserved : goal.walk_on-loop-place-preserved
 walk_on-loop-place-preserved t c =
     let h = c.requires in
     let after = c.loop-place.invariant.1 in (
-      c.if-found.false,
+      none_of _ (sym c.is_some-2.ensures ∙ c.if-is_some-2.false),
       omega arith,
       meets_next _ _ _ _ c.args.frame c.args.steps h.1 c.args.held c.args.from c.args.left
           c.loop-place.w c.loop-place.holds c.loop-place.place c.loop-place.invariant.2 c.loop-place.invariant.1 c.forward-holds.result c.forward-holds.ensures
-          _ c.attempt-w.ensures c.if-found.false,
+          _ c.attempt-w.ensures (none_of _ (sym c.is_some-2.ensures ∙ c.if-is_some-2.false)),
     )
 
 pub walk_on-returns : goal.walk_on-returns
