@@ -17,7 +17,7 @@ use Rattle.tables.specs.Tables.{no_steps}
 use Rattle.solver.specs.declared.Task.{Task}
 use Rattle.solver.specs.Task.{begun_day, day_of, TaskFits}
 use Rattle.solver.proofs.TaskDays.{begun_day_fits}
-use Rattle.walker.specs.declared.page.Page.{Page}
+use Rattle.walker.specs.Page.{Page}
 use Rattle.walker.specs.Page.{WholeTask, PageOf}
 
 module _ (job : held.Job) (halfway : ℕ) (task : Task) (is : task ≡ begun_day job halfway 0 no_steps) where

@@ -1,5 +1,6 @@
 -- What follows for a caller of `halves`: request j's sentences, of the answer itself.
 -- Assumes nothing.
+use Rattle.timeline.specs.Day.{told}
 use Rattle.job.specs.declared.refusal.Refusal.{Refusal}
 use Rattle.std.specs.Prelude.{Result, Ok, Err}
 use Prim.Native.Nat.{ℕ, ◌≤◌}
@@ -51,7 +52,7 @@ module _ (J : Job) (halfway : ℕ) (slice : List ℕ) (answer : Result Day Refus
 
   -- "it never ends before the shortest whole day": there is one
   pub halves_not_before_shortest : verdict_of answer ≡ pass
-      → (e : ℕ) × (makespan J J.goal ≡ ends_at e) × (e ≤ answer.end)
+      → (e : ℕ) × (makespan J J.goal ≡ ends_at e) × (e ≤ (told answer).end)
   halves_not_before_shortest pass = (good pass).shortest
 
   -- the halves of a day that is handed out

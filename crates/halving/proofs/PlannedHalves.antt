@@ -1,6 +1,7 @@
 -- Whatever list of accepted plans the halves are taken from: a day handed out passes the checker, which tells the same
 -- of it, and never ends before the shortest whole day.
 -- Assumes nothing.
+use Rattle.timeline.specs.Day.{told}
 use Rattle.job.specs.declared.refusal.Refusal.{Refusal}
 use Rattle.std.specs.Prelude.{Result, Ok, Err}
 use Prim.Native.Nat.{ℕ, ◌≤◌}
@@ -47,7 +48,7 @@ pub record GoodDay (J : Job) (slice : List ℕ) (answer : Result Day Refusal) (a
   pub leaves : after ≡ overwrite slice 0 bytes
   pub accepted : Accepted J J.goal bytes
   pub checked : check_plan J bytes ≡ answer
-  pub shortest : (e : ℕ) × (makespan J J.goal ≡ ends_at e) × (e ≤ answer.end)
+  pub shortest : (e : ℕ) × (makespan J J.goal ≡ ends_at e) × (e ≤ (told answer).end)
 
 module _ (First : FirstOf) (good : FirstAccepted First) (J : Job) (halfway : ℕ) (slice : List ℕ) (answer : Result Day Refusal)
     (after : List ℕ) (pass : verdict_of answer ≡ pass) where
@@ -87,7 +88,7 @@ module _ (First : FirstOf) (good : FirstAccepted First) (J : Job) (halfway : ℕ
         = subst (λ (R : List Step). steps_in J (plan_bytes R) ≡ R) steps plan.1 in
         let told : answer ≡ Ok (told_of J P)
         = joined.answers ∙ ap (λ (w : Verdict). day_of w J P) (verdict_passes v P joined) in
-        let ends : answer.end ≡ end P = ap (λ (d : Result Day Refusal). d.end) told in
+        let ends : (told answer).end ≡ end P = ap (λ (d : Result Day Refusal). (told d).end) told in
         let by = least.2 in
         let last = ap end steps in
         record {

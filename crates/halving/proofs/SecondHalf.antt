@@ -1,5 +1,7 @@
 -- The second half as a task of the list: what an accepted first half, read from its bytes, leaves.
 -- Assumes nothing.
+use Rattle.std.specs.Prelude.{Result, Ok, Err, is_ok, true}
+use Rattle.job.specs.declared.refusal.Refusal.{Refusal}
 use Prim.Native.Nat.{ℕ, ◌<◌, ◌≤◌}
 use mathlib.Core.Path.{◌≡◌, refl, sym, ap, subst, ◌∙◌}
 use mathlib.Core.List.{List}
@@ -29,19 +31,25 @@ use Rattle.checker.specs.Check.{Decodes, ChecksPlan}
 use Rattle.makespan.proofs.LeastEnds.{ends_by_deadline}
 use Rattle.solver.specs.declared.Task.{Task}
 use Rattle.solver.specs.Task.{day_of, TaskFits}
-use Rattle.walker.specs.declared.page.Page.{Page}
+use Rattle.walker.specs.Page.{Page}
 use Rattle.walker.specs.Page.{WholeTask, PageOf}
 use Rattle.halving.specs.Afternoon.{afternoon}
 use Rattle.halving.specs.Inner.{StoresSuffice, LeavesTask}
 use Rattle.halving.proofs.AfternoonTask.{afternoon_fits}
 
+-- the plan of an accepted first half is there
+pub is_checked : (job : held.Job) (halfway : ℕ) (bytes : List ℕ) → Accepted (job_in job) halfway bytes
+    → (r : Result CheckedPlan Refusal) → ChecksPlan job halfway bytes r → is_ok r ≡ true
+is_checked job halfway bytes accepted (Ok checked) told = refl
+is_checked job halfway bytes accepted (Err why) told =
+    let e = verdict_of_day _ (job_in job) (steps_in (job_in job) bytes) (Err why) told.day ∙ accepted in cc
+
 module _ (job : held.Job) (halfway : ℕ) (bytes : List ℕ) (valid : first (job_rows (job_in job)) ≡ pass)
     (accepted : Accepted (job_in job) halfway bytes) (checked : CheckedPlan)
-    (told : ChecksPlan job halfway bytes checked)
+    (r : Result CheckedPlan Refusal) (is : r ≡ Ok checked) (told : ChecksPlan job halfway bytes r)
   where
     decodes : Decodes job bytes checked.plan
-    decodes =
-        told.plan (verdict_of_day _ (job_in job) (steps_in (job_in job) bytes) checked.day told.day ∙ accepted)
+    decodes = told.plan checked is
 
     keeps : AcceptedSteps (job_in job) halfway (steps_in (job_in job) bytes)
     keeps =

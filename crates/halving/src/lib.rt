@@ -8,26 +8,27 @@ ghost use Rattle.job.specs.Job.{job_in, Fits};
 ghost use Rattle.job.specs.Refusal.{first};
 ghost use Rattle.job.specs.Valid.{job_rows};
 ghost use Rattle.job.specs.Refusal.{pass};
+ghost use Rattle.walker.specs.Page.{PageOf};
 ghost use Rattle.timeline.specs.Step.{steps_in};
 ghost use Rattle.timeline.specs.Accepted.{Accepted};
 ghost use Rattle.timeline.specs.Timeline.{end};
 ghost use Rattle.timeline.specs.Value.{steps_of};
-ghost use Rattle.walker.specs.Page.{PageOf};
+
 ghost use Rattle.halving.specs.Afternoon as rest;
 ghost use Rattle.halving.specs.Halves.{FirstListed, Halves};
 ghost use Rattle.halving.specs.Inner.{StoresSuffice, LeftInStores, LeavesTask};
 
 use begun::held_at;
 use checker::rules;
-use job::refusal::{Refusal, Verdict};
+use job::refusal::Refusal;
 use job::resources::allowed;
 use job::validate::validate;
 use job::{Job, resumed};
 use solver::Task;
 use tables::Steps;
 use timeline::{Day, Plan};
+use leaf::Answer;
 use walker::page;
-use walker::page::Page;
 
 // What the plan leaves of the allowed total of each store.
 fn left(job: Job, plan: Plan) -> [u32; Job::STORES]
@@ -37,10 +38,8 @@ fn left(job: Job, plan: Plan) -> [u32; Job::STORES]
     let counts = job.counts;
     let limits = allowed(job);
     let mut out = [0u32; Job::STORES];
-    let mut k = 0;
-    while k < counts.stores {
+    for k in 0..counts.stores {
         out[k] = (job::wide(limits[k]) - rules::used_up(plan, job, k)) as u32;
-        k += 1;
     }
     out
 }
@@ -65,7 +64,7 @@ pub fn afternoon(job: Job, plan: Plan) -> Task
 }
 
 // The first plan of the list for the halfway set.
-fn first_half(job: Job, halfway: u64) -> Page
+fn first_half(job: Job, halfway: u64) -> Option<Option<Answer>>
     requires { (first (job_rows (job_in job)) ≡ pass) × (foreign job.facts halfway ≡ false) }
     ensures { PageOf (job_in job) halfway 0 result }
 {
@@ -73,51 +72,31 @@ fn first_half(job: Job, halfway: u64) -> Page
 }
 
 // The first plan of the list for the job's goal, from the facts and stores that the morning's plan leaves.
-fn second_half(job: Job, halfway: u64, morning: &[u8]) -> Page
+fn second_half(job: Job, halfway: u64, morning: &[u8]) -> Option<Option<Answer>>
     requires { (first (job_rows (job_in job)) ≡ pass) × Accepted (job_in job) halfway morning.now }
     ensures { PageOf (rest.afternoon (job_in job) (steps_in (job_in job) morning.now)) job.goal 0
         result }
 {
-    let checked = checker::checked_plan(job, halfway, morning);
+    let checked = checker::checked_plan(job, halfway, morning).unwrap();
     let task = afternoon(job, checked.plan);
     page::plan_at(resumed::without_reserve(job), task, 0)
 }
 
 // Writes the day joined from two halves to the front of the slice, and returns its end, its number of steps and its
 // peaks. A refusal changes no byte.
-pub fn halves(job: Job, halfway: u64, out: &mut [u8]) -> Day
+pub fn halves(job: Job, halfway: u64, out: &mut [u8]) -> Result<Day, Refusal>
     ensures { Halves FirstListed (job_in job) halfway out.old result out.new }
 {
-    let verdict = validate(job);
-    if let Verdict::Refused(why) = verdict {
-        return Day::refused(why);
-    }
+    validate(job)?;
     if facts::foreign(job.facts, halfway) {
-        return Day::refused(Refusal::ForeignAskedFact);
+        return Err(Refusal::ForeignAskedFact);
     }
     if out.len() < Plan::BYTES {
-        return Day::refused(Refusal::PlanSlice);
+        return Err(Refusal::PlanSlice);
     }
-    let morning = first_half(job, halfway);
-    let some_morning = morning.any;
-    if !some_morning {
-        return Day::refused(Refusal::NoPlan);
-    }
-    let first = morning.answer;
-    let first_plan = first.plan;
-    let first_size = Plan::STEP * first.count;
-    let later = second_half(job, halfway, &first_plan[..first_size]);
-    let some_later = later.any;
-    if !some_later {
-        return Day::refused(Refusal::NoPlan);
-    }
-    let second = later.answer;
-    let second_plan = second.plan;
-    let second_size = Plan::STEP * second.count;
-    joining::join(
-        job,
-        &first_plan[..first_size],
-        &second_plan[..second_size],
-        out,
-    )
+    let first = first_half(job, halfway).flatten().ok_or(Refusal::NoPlan)?;
+    let morning = &first.plan[..Plan::STEP * first.count];
+    let second = second_half(job, halfway, morning).flatten().ok_or(Refusal::NoPlan)?;
+    let later = &second.plan[..Plan::STEP * second.count];
+    joining::join(job, morning, later, out)
 }

@@ -1,5 +1,6 @@
 -- The ways out of `list`: a job or a slice that is refused, no plan, and the plan at the place handed out.
 -- Assumes nothing.
+use Rattle.std.specs.Prelude.{Option, Some, None}
 use Rattle.std.specs.Prelude.{Result, Ok, Err}
 use Prim.Native.Nat.{ℕ, ◌≤◌, ◌<◌}
 use mathlib.Core.Path.{◌≡◌, sym, ap, ◌∙◌, subst}
@@ -27,8 +28,10 @@ use Rattle.makespan.specs.Makespan.{Makespan, makespan}
 use Rattle.leaf.specs.Answer.{bytes_in}
 use Rattle.planner.specs.Plan.{plan_refusals, RefusedWith, Whole, HandedOut}
 use Rattle.planner.proofs.HandingOut.{refused_with_lem}
-use Rattle.walker.specs.declared.page.Page.{Page}
-use Rattle.walker.specs.Page.{PageOf}
+use Rattle.leaf.specs.declared.Answer.{Answer}
+use Rattle.listing.specs.Place.{EndsBefore}
+use mathlib.Core.Logic.{◌⊎◌}
+use Rattle.walker.specs.Page.{Page, PageOf}
 use Rattle.lister.specs.List.{HandsOutPlace, ListsFor, ListsBy, Lists}
 
 module _ (J : Job) (place : ℕ) (slice : List ℕ) where
@@ -62,40 +65,44 @@ module _ (J : Job) (place : ℕ) (slice : List ℕ) where
 
     module _ (page : Page) (of : PageOf J J.goal place page) where
       -- no plan at all
-      pub lists_none : page.any ≡ false → (r : Result Day Refusal) → r ≡ Err NoPlan → Lists J place slice r slice
+      pub lists_none : page ≡ None → (r : Result Day Refusal) → r ≡ Err NoPlan → Lists J place slice r slice
       lists_none e r told = answered _ (of.none e) r slice (refused_with_lem slice NoPlan r told)
 
-      pub whole_page : page.any ≡ true → Whole page.answer
-      whole_page e f = let found = (of.found e f).2.found in (found.few, found.whole)
+      module _ (at : Option Answer) (e : page ≡ Some at) where
+        pub whole_page : Whole at
+        whole_page a f = let found = (of.found a (e ∙ ap Some f)).2.found in (found.few, found.whole)
 
-      module _ (e : page.any ≡ true) (r : Result Day Refusal) (after : List ℕ)
-          (handed : HandedOut page.answer ListEnded slice r after) where
-        hands_out : page.answer.found ≡ true → HandsOutPlace J J.goal place slice r after
-        hands_out f =
-            let h = of.found e f in
-            let tells_of = h.2 in
-            let plan = tells_of.found in
-            let a = page.answer in
-            let P : List Step = h.0 in
-            let told = told_of_bytes J (bytes_in a) a.end a.count a.peaks plan.whole plan.end
-            plan.peaks in
-            let same : steps_in J (bytes_in a) ≡ P = tells_of.steps in
-            let answers = (handed.found f).0 ∙ ap Ok (sym told) ∙ ap (λ (Q : List Step). Ok (told_of J Q)) same in
-            record {
-              plan = P;
-              at = h.1;
-              answers = answers;
-              replies = ap reply_of answers;
-              leaves = (handed.found f).1 ∙ ap (overwrite slice 0) tells_of.bytes;
-            }
+        module _ (r : Result Day Refusal) (after : List ℕ) (handed : HandedOut at ListEnded slice r after) where
+          hands_out : (a : Answer) → at ≡ Some a → HandsOutPlace J J.goal place slice r after
+          hands_out a f =
+              let h = of.found a (e ∙ ap Some f) in
+              let out = subst (λ (x : Option Answer). HandedOut x ListEnded slice r after) f handed in
+              let tells_of = h.2 in
+              let plan = tells_of.found in
+              let P : List Step = h.0 in
+              let told = told_of_bytes J (bytes_in a) a.end a.count a.peaks plan.whole plan.end
+              plan.peaks in
+              let same : steps_in J (bytes_in a) ≡ P = tells_of.steps in
+              let answers = out.0 ∙ ap Ok (sym told) ∙ ap (λ (Q : List Step). Ok (told_of J Q)) same in
+              record {
+                plan = P;
+                at = h.1;
+                answers = answers;
+                replies = ap reply_of answers;
+                leaves = out.1 ∙ ap (overwrite slice 0) tells_of.bytes;
+              }
 
-        ends : page.answer.found ≡ false → RefusedWith ListEnded slice r after
-        ends f =
-            let h = handed.none f in
-            subst (λ (bytes : List ℕ). RefusedWith ListEnded slice r bytes) (sym h.1)
-            (refused_with_lem slice ListEnded r h.0)
+          ends : at ≡ None → RefusedWith ListEnded slice r after
+          ends f =
+              let h = subst (λ (x : Option Answer). HandedOut x ListEnded slice r after) f handed in
+              subst (λ (bytes : List ℕ). RefusedWith ListEnded slice r bytes) (sym h.1)
+              (refused_with_lem slice ListEnded r h.0)
 
-        pub lists_answered : Lists J place slice r after
-        lists_answered =
-            answered _ (of.some e).1 r after
-            (⊎_elim (λ f. inl (hands_out f)) (λ f. inr (of.ended e f, ends f)) (decided page.answer.found))
+          pub lists_answered : Lists J place slice r after
+          lists_answered = answered _ (of.some at e).1 r after (by_place at refl)
+            where
+              by_place : (x : Option Answer) → at ≡ x
+                  → HandsOutPlace J J.goal place slice r after
+                  ⊎ (EndsBefore J J.goal place × RefusedWith ListEnded slice r after)
+              by_place (Some a) f = inl (hands_out a f)
+              by_place None f = inr (of.ended (e ∙ ap Some f), ends f)

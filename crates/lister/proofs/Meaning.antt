@@ -1,6 +1,7 @@
 -- What follows from the promise of `list`: nothing is left open; a plan handed out ends where the planner's ends; 22 comes
 -- exactly where the planner says 22, and 28 exactly where the list is not longer than the place.
 -- Assumes nothing.
+use Rattle.timeline.specs.Day.{told}
 use Rattle.std.specs.Prelude.{Result, Ok, Err}
 use Prim.Native.Nat.{ℕ}
 use mathlib.Core.Path.{◌≡◌, refl, sym, ap, ◌∙◌}
@@ -77,7 +78,7 @@ listed_ends_at_makespan J goal e within q P listed =
     omega arith
 
 pass_not_refused : {v : Verdict} {why : Refusal} → v ≡ pass → v ≡ Err why → ⊥
-pass_not_refused a b = let z : ◌≡◌ {A = ℕ} 0 1 = cc in omega arith
+pass_not_refused a b = cc
 
 refused_once : {v : Verdict} {why other : Refusal} → v ≡ Err why → v ≡ Err other → why ≡ other
 refused_once a b = cc
@@ -93,7 +94,7 @@ module _ (J : Job) (place : ℕ) (slice : List ℕ) (r s : Result Day Refusal) (
   pub data BesidePlanner : Type 0 where
     refused_alike : (why : Refusal) → (why ≡ ListEnded → ⊥) → verdict_of r ≡ Err why → verdict_of s ≡ Err why
         → BesidePlanner
-    handed_out : verdict_of r ≡ pass → verdict_of s ≡ pass → r.end ≡ s.end → (EndsBefore J J.goal place → ⊥)
+    handed_out : verdict_of r ≡ pass → verdict_of s ≡ pass → (told r).end ≡ (told s).end → (EndsBefore J J.goal place → ⊥)
         → BesidePlanner
     ended : verdict_of r ≡ Err ListEnded → verdict_of s ≡ pass → EndsBefore J J.goal place → BesidePlanner
 
@@ -107,9 +108,9 @@ module _ (J : Job) (place : ℕ) (slice : List ℕ) (r s : Result Day Refusal) (
           → PlansFor m NoPlan J J.goal 0 [] slice s then → BesidePlanner
       by_makespan within (ends_at e) q (inl a) b =
           handed_out (told_by a.answers) (told_by b.answers)
-          (ap (λ (d : Result Day Refusal). d.end) a.answers
+          (ap (λ (d : Result Day Refusal). (told d).end) a.answers
           ∙ listed_ends_at_makespan J J.goal e within q a.plan a.at.listed
-          ∙ sym (ap (λ (d : Result Day Refusal). d.end) b.answers ∙ b.end))
+          ∙ sym (ap (λ (d : Result Day Refusal). (told d).end) b.answers ∙ b.end))
           (not_at_place_and_ended J J.goal place a.plan a.at)
       by_makespan within (ends_at e) q (inr a) b = ended (told_by a.1.answers) (told_by b.answers) a.0
       by_makespan within no_plan q a b =
@@ -127,13 +128,13 @@ module _ (J : Job) (place : ℕ) (slice : List ℕ) (r s : Result Day Refusal) (
 
   module _ (lists : Lists J place slice r after) (plans : Plans J slice s then) where
     -- a plan handed out ends where the planner's ends
-    pub same_end_as_planned : verdict_of r ≡ pass → (verdict_of s ≡ pass) × (r.end ≡ s.end)
-    same_end_as_planned pass = go (beside_planner lists plans)
+    pub same_end_as_planned : verdict_of r ≡ pass → (verdict_of s ≡ pass) × ((told r).end ≡ (told s).end)
+    same_end_as_planned passes = go (beside_planner lists plans)
       where
-        go : BesidePlanner → (verdict_of s ≡ pass) × (r.end ≡ s.end)
-        go (refused_alike why other a b) = absurd (pass_not_refused pass a)
+        go : BesidePlanner → (verdict_of s ≡ pass) × ((told r).end ≡ (told s).end)
+        go (refused_alike why other a b) = absurd (pass_not_refused passes a)
         go (handed_out a b same more) = (b, same)
-        go (ended a b short) = absurd (pass_not_refused pass a)
+        go (ended a b short) = absurd (pass_not_refused passes a)
 
     -- 22 exactly where the planner says 22
     pub no_plan_as_planned : (verdict_of r ≡ Err NoPlan → verdict_of s ≡ Err NoPlan)
@@ -157,6 +158,6 @@ module _ (J : Job) (place : ℕ) (slice : List ℕ) (r s : Result Day Refusal) (
         go : BesidePlanner → (verdict_of r ≡ Err ListEnded → (verdict_of s ≡ pass) × EndsBefore J J.goal place)
             × (verdict_of s ≡ pass → EndsBefore J J.goal place → verdict_of r ≡ Err ListEnded)
         go (refused_alike why other a b) =
-            (λ h. absurd (other (refused_once a h)), λ pass short. absurd (pass_not_refused pass b))
-        go (handed_out a b same more) = (λ h. absurd (pass_not_refused a h), λ pass short. absurd (more short))
-        go (ended a b short) = (λ h. (b, short), λ pass also. a)
+            (λ h. absurd (other (refused_once a h)), λ passes short. absurd (pass_not_refused passes b))
+        go (handed_out a b same more) = (λ h. absurd (pass_not_refused a h), λ passes short. absurd (more short))
+        go (ended a b short) = (λ h. (b, short), λ passes also. a)

@@ -26,11 +26,11 @@ pub refused_with_lem : (slice : List ℕ) (why : Refusal) (r : Result Day Refusa
 refused_with_lem slice why r told = record { answers = told; replies = ap reply_of told; keeps = refl }
 
 -- ---- whether there is a plan to hand out
-pub plan_given : (answer : Option Answer) (none : Refusal) (a : Answer) → ok_or answer none ≡ Ok a → answer ≡ Some a
+pub plan_given : {A : Type 0} (answer : Option A) (none : Refusal) (a : A) → ok_or answer none ≡ Ok a → answer ≡ Some a
 plan_given (Some x) none a h = cc
 plan_given None none a h = cc
 
-pub no_plan_given : (answer : Option Answer) (none why : Refusal) → ok_or answer none ≡ Err why
+pub no_plan_given : {A : Type 0} (answer : Option A) (none why : Refusal) → ok_or answer none ≡ Err why
     → (answer ≡ None) × (none ≡ why)
 no_plan_given (Some x) none why h = (cc, cc)
 no_plan_given None none why h = (refl, cc)

@@ -10,7 +10,7 @@ use Rattle.tables.specs.declared.Frame.{Frame}
 use Rattle.tables.specs.declared.Steps.{Steps}
 use Rattle.solver.specs.declared.Task.{Task}
 use Rattle.solver.specs.Task.{whole_day, day_of}
-use Rattle.walker.specs.declared.page.Page.{Page}
+use Rattle.walker.specs.Page.{Page}
 use Rattle.walker.specs.Walk.{WholeDay}
 use Rattle.walker.specs.Page.{WholeTask, PageOf}
 

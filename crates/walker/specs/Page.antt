@@ -19,8 +19,12 @@ pub record WholeTask (task : Task) : Type 0 where
   pub first : task.first ≡ 0
   pub kept : task.kept ≡ no_steps
 
+-- the answer: none where there is no plan at all; otherwise the plan at the place, where the list has one there
+abbrev pub Page : Type 0
+Page = Option (Option Answer)
+
 -- no plan is accepted; or the plan at the place; or the list ends before
-pub record PageOf (J : Job) (goal place : ℕ) (r : Option (Option Answer)) : Type 0 where
+pub record PageOf (J : Job) (goal place : ℕ) (r : Page) : Type 0 where
   pub none : r ≡ None → makespan J goal ≡ no_plan
   pub some : (at : Option Answer) → r ≡ Some at → (T : ℕ) × (makespan J goal ≡ ends_at T)
   pub found : (a : Answer) → r ≡ Some (Some a)
@@ -28,7 +32,7 @@ pub record PageOf (J : Job) (goal place : ℕ) (r : Option (Option Answer)) : Ty
   pub ended : r ≡ Some None → EndsBefore J goal place
 
 -- for every job whose whole day the tables are
-abbrev pub PageFrom : List ℕ → List ℕ → List ℕ → List ℕ → Frame → ℕ → Option (Option Answer) → Type 0
+abbrev pub PageFrom : List ℕ → List ℕ → List ℕ → List ℕ → Frame → ℕ → Page → Type 0
 PageFrom file sets numbers times frame place r =
     (J : Job) → TaskOf J file sets numbers times frame → Passed J → WholeDay frame
     → frame.horizon ≡ J.deadline → frame.least ≡ 0 → PageOf J frame.goal place r

@@ -50,10 +50,14 @@ pub fn visit(file: &[u8], frame: Frame, steps: Steps, left: u32) -> Walk
     ensures { Visits file.now frame steps left result }
 {
     match listed(file, frame, steps) {
-        Some(_) if 0 < left => Walk {
+        None => Walk { left, answer: None },
+        Some(plan) if left == 0 => Walk {
+            left,
+            answer: Some(plan),
+        },
+        Some(_) => Walk {
             left: left - 1,
             answer: None,
         },
-        answer => Walk { left, answer },
     }
 }

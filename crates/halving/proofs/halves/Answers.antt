@@ -1,5 +1,7 @@
 -- `halves` meets its contract: three refusals, a half without a plan, and the day joined from both.
-use mathlib.Core.Path.{sym, ◌∙◌}
+use Rattle.std.proofs.Common.{rules, Err, ◌≡◌, refl, sym, ap, ◌∙◌}
+use Rattle.job.specs.declared.refusal.Refusal.TheVariants.{NoPlan}
+use Rattle.planner.proofs.HandingOut.{plan_given, no_plan_given}
 use Rattle.job.specs.Job.{job_in}
 use Rattle.halving.specs.Halves.{FirstListed}
 use Rattle.halving.proofs.WaysOut.{halves_refused, halves_foreign, halves_short_slice}
@@ -8,120 +10,128 @@ use Rattle.halving.proofs.Planning.{second_few, second_inside, second_whole, bot
 use native.Mathlib.Omega.{arith}
 use Rattle.halving.proofs.halves.Goals as goal
 
-pub returns-in-Refused : goal.returns-in-Refused
-returns-in-Refused c =
-    halves_refused FirstListed (job_in c.args.job) c.args.halfway c.args.out.now _ _ c.refused.ensures
-    (sym c.validate-verdict.ensures ∙ c.in-Refused.is)
+pub returns-in_err-validate : goal.returns-in_err-validate
+returns-in_err-validate c =
+    let e : c.from_residual.result ≡ Err c.in_err-validate.field-0.0 = search rules in
+    halves_refused FirstListed (job_in c.args.job) c.args.halfway c.args.out.now _ _ e
+    (sym c.validate.ensures ∙ c.in_err-validate.was)
 
 pub returns-then-foreign : goal.returns-then-foreign
 returns-then-foreign c =
-    let valid = sym c.validate-verdict.ensures ∙ c.in_default.is in
-    halves_foreign FirstListed (job_in c.args.job) c.args.halfway c.args.out.now _ valid
-    c.refused-then-foreign.ensures
+    let valid = sym c.validate.ensures ∙ c.in_ok-validate.was in
+    halves_foreign FirstListed (job_in c.args.job) c.args.halfway c.args.out.now _ valid refl
     (sym c.foreign.ensures.0 ∙ c.if-foreign.true)
 
 pub returns-then-out-lt-BYTES : goal.returns-then-out-lt-BYTES
 returns-then-out-lt-BYTES c =
-    let valid = sym c.validate-verdict.ensures ∙ c.in_default.is in
+    let valid = sym c.validate.ensures ∙ c.in_ok-validate.was in
     let own = sym c.foreign.ensures.0 ∙ c.if-foreign.false in
-    halves_short_slice FirstListed (job_in c.args.job) c.args.halfway c.args.out.now _ valid own
-    c.refused-then-out-lt-BYTES.ensures c.if-out-lt-BYTES.true
+    halves_short_slice FirstListed (job_in c.args.job) c.args.halfway c.args.out.now _ valid own refl c.if-out-lt-BYTES.true
 
-pub first_half-morning-requires : goal.first_half-morning-requires
-first_half-morning-requires c = (
-  sym c.validate-verdict.ensures ∙ c.in_default.is,
+pub first_half-requires : goal.first_half-requires
+first_half-requires c = (
+  sym c.validate.ensures ∙ c.in_ok-validate.was,
   sym c.foreign.ensures.0 ∙ c.if-foreign.false,
 )
 
-pub returns-then-not-some_morning : goal.returns-then-not-some_morning
-returns-then-not-some_morning c =
-    let valid = sym c.validate-verdict.ensures ∙ c.in_default.is in
+pub returns-in_err-first : goal.returns-in_err-first
+returns-in_err-first c =
+    let valid = sym c.validate.ensures ∙ c.in_ok-validate.was in
     let own = sym c.foreign.ensures.0 ∙ c.if-foreign.false in
-    no_first (job_in c.args.job) c.args.halfway c.args.out.now valid own c.first_half-morning.result
-    c.first_half-morning.ensures c.if-out-lt-BYTES.false (c.if-not-some_morning.true) _ c.refused-then-not-some_morning.ensures
+    let none = no_plan_given c.flatten.result NoPlan _ (sym c.ok_or.ensures.value ∙ c.in_err-first.was) in
+    let e : c.from_residual-in_err-first.result ≡ Err c.in_err-first.field-0.0 = search rules in
+    no_first (job_in c.args.job) c.args.halfway c.args.out.now valid own c.first_half.result
+    c.first_half.ensures c.if-out-lt-BYTES.false (sym c.flatten.ensures ∙ none.0) _ (e ∙ ap Err (sym none.1))
 
-pub overflow_mul-first_size : goal.overflow_mul-first_size
-overflow_mul-first_size c =
-    let valid = sym c.validate-verdict.ensures ∙ c.in_default.is in
+pub overflow_mul-end : goal.overflow_mul-end
+overflow_mul-end c =
+    let valid = sym c.validate.ensures ∙ c.in_ok-validate.was in
     let own = sym c.foreign.ensures.0 ∙ c.if-foreign.false in
-    let few = first_few (job_in c.args.job) c.args.halfway c.args.out.now valid own c.first_half-morning.result
-    c.first_half-morning.ensures (c.if-not-some_morning.false) in
+    let first = sym c.flatten.ensures ∙ plan_given c.flatten.result NoPlan _ (sym c.ok_or.ensures.value ∙ c.in_ok-first.was) in
+    let few = first_few (job_in c.args.job) c.args.halfway c.args.out.now valid own c.first_half.result
+    c.first_half.ensures _ first in
     record { fits = omega arith }
 
-pub slice_bounds-first_plan-end : goal.slice_bounds-first_plan-end
-slice_bounds-first_plan-end c =
-    let valid = sym c.validate-verdict.ensures ∙ c.in_default.is in
+pub slice_bounds-morning-end : goal.slice_bounds-morning-end
+slice_bounds-morning-end c =
+    let valid = sym c.validate.ensures ∙ c.in_ok-validate.was in
     let own = sym c.foreign.ensures.0 ∙ c.if-foreign.false in
-    first_inside (job_in c.args.job) c.args.halfway c.args.out.now valid own c.first_half-morning.result
-    c.first_half-morning.ensures (c.if-not-some_morning.false)
+    let first = sym c.flatten.ensures ∙ plan_given c.flatten.result NoPlan _ (sym c.ok_or.ensures.value ∙ c.in_ok-first.was) in
+    first_inside (job_in c.args.job) c.args.halfway c.args.out.now valid own c.first_half.result
+    c.first_half.ensures _ first
 
 pub slice_bounds-second_half-end : goal.slice_bounds-second_half-end
 slice_bounds-second_half-end c =
-    let valid = sym c.validate-verdict.ensures ∙ c.in_default.is in
+    let valid = sym c.validate.ensures ∙ c.in_ok-validate.was in
     let own = sym c.foreign.ensures.0 ∙ c.if-foreign.false in
-    sym (first_whole (job_in c.args.job) c.args.halfway c.args.out.now valid own c.first_half-morning.result
-    c.first_half-morning.ensures (c.if-not-some_morning.false))
+    let first = sym c.flatten.ensures ∙ plan_given c.flatten.result NoPlan _ (sym c.ok_or.ensures.value ∙ c.in_ok-first.was) in
+    sym (first_whole (job_in c.args.job) c.args.halfway c.args.out.now valid own c.first_half.result
+    c.first_half.ensures _ first)
 
-pub second_half-later-requires : goal.second_half-later-requires
-second_half-later-requires c =
-    let valid = sym c.validate-verdict.ensures ∙ c.in_default.is in
-    let own = sym c.foreign.ensures.0 ∙ c.if-foreign.false in (
-      valid,
-      first_accepted (job_in c.args.job) c.args.halfway c.args.out.now valid own c.first_half-morning.result
-          c.first_half-morning.ensures (c.if-not-some_morning.false),
-    )
-
-pub returns-then-not-some_later : goal.returns-then-not-some_later
-returns-then-not-some_later c =
-    let valid = sym c.validate-verdict.ensures ∙ c.in_default.is in
+pub second_half-requires : goal.second_half-requires
+second_half-requires c =
+    let valid = sym c.validate.ensures ∙ c.in_ok-validate.was in
     let own = sym c.foreign.ensures.0 ∙ c.if-foreign.false in
-    no_second (job_in c.args.job) c.args.halfway c.args.out.now valid own c.first_half-morning.result
-    c.first_half-morning.ensures (c.if-not-some_morning.false) c.if-out-lt-BYTES.false c.second_half-later.result c.second_half-later.ensures
-    (c.if-not-some_later.true) _ c.refused-then-not-some_later.ensures
+    let first = sym c.flatten.ensures ∙ plan_given c.flatten.result NoPlan _ (sym c.ok_or.ensures.value ∙ c.in_ok-first.was) in
+    (valid, first_accepted (job_in c.args.job) c.args.halfway c.args.out.now valid own c.first_half.result
+    c.first_half.ensures _ first)
 
-pub overflow_mul-second_size : goal.overflow_mul-second_size
-overflow_mul-second_size c =
-    let valid = sym c.validate-verdict.ensures ∙ c.in_default.is in
+pub returns-in_err-second : goal.returns-in_err-second
+returns-in_err-second c =
+    let valid = sym c.validate.ensures ∙ c.in_ok-validate.was in
     let own = sym c.foreign.ensures.0 ∙ c.if-foreign.false in
-    let few = second_few (job_in c.args.job) c.args.halfway c.args.out.now valid own c.first_half-morning.result
-    c.first_half-morning.ensures (c.if-not-some_morning.false) c.if-out-lt-BYTES.false c.second_half-later.result c.second_half-later.ensures
-    (c.if-not-some_later.false) in
+    let first = sym c.flatten.ensures ∙ plan_given c.flatten.result NoPlan _ (sym c.ok_or.ensures.value ∙ c.in_ok-first.was) in
+    let none = no_plan_given c.flatten-2.result NoPlan _ (sym c.ok_or-2.ensures.value ∙ c.in_err-second.was) in
+    let e : c.from_residual-in_err-second.result ≡ Err c.in_err-second.field-0.0 = search rules in
+    no_second (job_in c.args.job) c.args.halfway c.args.out.now valid own c.first_half.result
+    c.first_half.ensures _ first c.if-out-lt-BYTES.false
+    c.second_half.result c.second_half.ensures (sym c.flatten-2.ensures ∙ none.0) _ (e ∙ ap Err (sym none.1))
+
+pub overflow_mul-later-end : goal.overflow_mul-later-end
+overflow_mul-later-end c =
+    let valid = sym c.validate.ensures ∙ c.in_ok-validate.was in
+    let own = sym c.foreign.ensures.0 ∙ c.if-foreign.false in
+    let first = sym c.flatten.ensures ∙ plan_given c.flatten.result NoPlan _ (sym c.ok_or.ensures.value ∙ c.in_ok-first.was) in
+    let second = sym c.flatten-2.ensures ∙ plan_given c.flatten-2.result NoPlan _ (sym c.ok_or-2.ensures.value ∙ c.in_ok-second.was) in
+    let few = second_few (job_in c.args.job) c.args.halfway c.args.out.now valid own c.first_half.result
+    c.first_half.ensures _ first c.if-out-lt-BYTES.false
+    c.second_half.result c.second_half.ensures _ second in
     record { fits = omega arith }
 
-pub slice_bounds-first_plan-end-2 : goal.slice_bounds-first_plan-end-2
-slice_bounds-first_plan-end-2 c =
-    let valid = sym c.validate-verdict.ensures ∙ c.in_default.is in
+pub slice_bounds-later-end : goal.slice_bounds-later-end
+slice_bounds-later-end c =
+    let valid = sym c.validate.ensures ∙ c.in_ok-validate.was in
     let own = sym c.foreign.ensures.0 ∙ c.if-foreign.false in
-    first_inside (job_in c.args.job) c.args.halfway c.args.out.now valid own c.first_half-morning.result
-    c.first_half-morning.ensures (c.if-not-some_morning.false)
+    let first = sym c.flatten.ensures ∙ plan_given c.flatten.result NoPlan _ (sym c.ok_or.ensures.value ∙ c.in_ok-first.was) in
+    let second = sym c.flatten-2.ensures ∙ plan_given c.flatten-2.result NoPlan _ (sym c.ok_or-2.ensures.value ∙ c.in_ok-second.was) in
+    second_inside (job_in c.args.job) c.args.halfway c.args.out.now valid own c.first_half.result
+    c.first_half.ensures _ first c.if-out-lt-BYTES.false
+    c.second_half.result c.second_half.ensures _ second
 
 pub slice_bounds-join-end : goal.slice_bounds-join-end
 slice_bounds-join-end c =
-    let valid = sym c.validate-verdict.ensures ∙ c.in_default.is in
+    let valid = sym c.validate.ensures ∙ c.in_ok-validate.was in
     let own = sym c.foreign.ensures.0 ∙ c.if-foreign.false in
-    sym (first_whole (job_in c.args.job) c.args.halfway c.args.out.now valid own c.first_half-morning.result
-    c.first_half-morning.ensures (c.if-not-some_morning.false))
-
-pub slice_bounds-second_plan-end : goal.slice_bounds-second_plan-end
-slice_bounds-second_plan-end c =
-    let valid = sym c.validate-verdict.ensures ∙ c.in_default.is in
-    let own = sym c.foreign.ensures.0 ∙ c.if-foreign.false in
-    second_inside (job_in c.args.job) c.args.halfway c.args.out.now valid own c.first_half-morning.result
-    c.first_half-morning.ensures (c.if-not-some_morning.false) c.if-out-lt-BYTES.false c.second_half-later.result c.second_half-later.ensures
-    (c.if-not-some_later.false)
+    let first = sym c.flatten.ensures ∙ plan_given c.flatten.result NoPlan _ (sym c.ok_or.ensures.value ∙ c.in_ok-first.was) in
+    sym (first_whole (job_in c.args.job) c.args.halfway c.args.out.now valid own c.first_half.result
+    c.first_half.ensures _ first)
 
 pub slice_bounds-join-end-2 : goal.slice_bounds-join-end-2
 slice_bounds-join-end-2 c =
-    let valid = sym c.validate-verdict.ensures ∙ c.in_default.is in
+    let valid = sym c.validate.ensures ∙ c.in_ok-validate.was in
     let own = sym c.foreign.ensures.0 ∙ c.if-foreign.false in
-    sym (second_whole (job_in c.args.job) c.args.halfway c.args.out.now valid own c.first_half-morning.result
-    c.first_half-morning.ensures (c.if-not-some_morning.false) c.if-out-lt-BYTES.false c.second_half-later.result c.second_half-later.ensures
-    (c.if-not-some_later.false))
+    let first = sym c.flatten.ensures ∙ plan_given c.flatten.result NoPlan _ (sym c.ok_or.ensures.value ∙ c.in_ok-first.was) in
+    let second = sym c.flatten-2.ensures ∙ plan_given c.flatten-2.result NoPlan _ (sym c.ok_or-2.ensures.value ∙ c.in_ok-second.was) in
+    sym (second_whole (job_in c.args.job) c.args.halfway c.args.out.now valid own c.first_half.result
+    c.first_half.ensures _ first c.if-out-lt-BYTES.false
+    c.second_half.result c.second_half.ensures _ second)
 
 pub returns : goal.returns
 returns c =
-    let valid = sym c.validate-verdict.ensures ∙ c.in_default.is in
+    let valid = sym c.validate.ensures ∙ c.in_ok-validate.was in
     let own = sym c.foreign.ensures.0 ∙ c.if-foreign.false in
-    both_joined (job_in c.args.job) c.args.halfway c.args.out.now valid own c.first_half-morning.result
-    c.first_half-morning.ensures (c.if-not-some_morning.false) c.if-out-lt-BYTES.false c.second_half-later.result c.second_half-later.ensures
-    (c.if-not-some_later.false) _ _ c.join.ensures
+    let first = sym c.flatten.ensures ∙ plan_given c.flatten.result NoPlan _ (sym c.ok_or.ensures.value ∙ c.in_ok-first.was) in
+    let second = sym c.flatten-2.ensures ∙ plan_given c.flatten-2.result NoPlan _ (sym c.ok_or-2.ensures.value ∙ c.in_ok-second.was) in
+    both_joined (job_in c.args.job) c.args.halfway c.args.out.now valid own c.first_half.result
+    c.first_half.ensures _ first c.if-out-lt-BYTES.false
+    c.second_half.result c.second_half.ensures _ second _ _ c.join.ensures

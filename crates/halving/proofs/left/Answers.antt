@@ -12,7 +12,7 @@ use native.Mathlib.Omega.{arith}
 use Rattle.halving.proofs.left.Goals as goal
 
 pub loop-k-init : goal.loop-k-init
-loop-k-init c = (omega arith, refl, λ store l. absurd (omega arith))
+loop-k-init c = (refl, λ store l. absurd (omega arith))
 
 pub used_up-requires : goal.used_up-requires
 used_up-requires c =
@@ -25,9 +25,9 @@ overflow_sub-out c =
     let fits = c.requires.2.1 in
     let cap = c.wide.ensures.0
     ∙ ap (λ (l : List ℕ). get_or l k 0) c.allowed-limits.ensures
-    ∙ allowed_is c.args.job k c.loop-k-test.true (omega arith) in
+    ∙ allowed_is c.args.job k (omega arith) (omega arith) in
     let used = c.used_up.ensures in
-    let enough = c.requires.3 k c.loop-k-test.true in
+    let enough = c.requires.3 k (omega arith) in
     omega arith
 
 pub overflow_cast-out : goal.overflow_cast-out
@@ -42,16 +42,13 @@ loop-k-preserved c =
     let J = job_in c.args.job in
     let cap = c.wide.ensures.0
     ∙ ap (λ (l : List ℕ). get_or l k 0) c.allowed-limits.ensures
-    ∙ allowed_is c.args.job k c.loop-k-test.true (omega arith) in
-    let taken = c.loop-k-test.true in (
-      omega arith,
-      simp length-set c.loop-k.invariant.1,
-      one_more (λ (n : ℕ). n) (left_of J (steps_of c.args.plan)) 0 c.loop-k.out k _ (omega arith) c.loop-k.invariant.2
+    ∙ allowed_is c.args.job k (omega arith) (omega arith) in
+    (
+      simp length-set c.loop-k.invariant.0,
+      one_more (λ (n : ℕ). n) (left_of J (steps_of c.args.plan)) 0 c.loop-k.out k _ (omega arith) c.loop-k.invariant.1
           (ap₂ ◌-◌ cap c.used_up.ensures),
     )
 
 pub returns : goal.returns
 returns c =
-    let job = c.args.job in
-    let all : c.loop-k.k ≡ job.counts.stores = omega arith in
-    λ store l. c.loop-k.invariant.2 store (omega arith)
+    λ store l. c.loop-k.invariant.1 store (omega arith)

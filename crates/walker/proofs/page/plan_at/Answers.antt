@@ -1,5 +1,5 @@
 -- `plan_at` meets its contract: the tables of the day are a task of the search, and the writer can't refuse.
-use mathlib.Core.Path.{refl, subst}
+use mathlib.Core.Path.{refl, sym, subst, ◌∙◌}
 use Prim.Native.Nat.{ℕ}
 use Rattle.job.specs.Job.{Job, job_in}
 use Rattle.job.proofs.Passed.{within_limits}

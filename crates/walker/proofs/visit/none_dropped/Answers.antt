@@ -1,5 +1,5 @@
 -- `none_dropped` meets its contract: of the first i steps none can be dropped.
-use mathlib.Core.Path.{◌≡◌, refl}
+use mathlib.Core.Path.{◌≡◌, refl, sym, ◌∙◌}
 use mathlib.Core.Logic.{⊎_elim}
 use native.Mathlib.Nat.{eq-or-lt_of_le}
 use Rattle.timeline.proofs.Tests.{not_both}

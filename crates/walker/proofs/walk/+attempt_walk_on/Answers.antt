@@ -153,7 +153,7 @@ walk_on-returns-then-is_some-2 t c =
     let h = c.requires in
     walk_finds _ _ _ _ c.args.frame c.args.steps h.1 c.args.held c.args.from c.args.left
     c.loop-place.w c.loop-place.holds c.loop-place.place c.loop-place.invariant.2 c.loop-place.invariant.1 c.forward-holds.result c.forward-holds.ensures
-    _ c.attempt-w.ensures (sym c.is_some-2.ensures ∙ c.if-is_some-2.true)
+    _ c.attempt-w.ensures (sym c.is_some-in-loop-place.ensures ∙ c.if-is_some-2.true)
 
 pub walk_on-overflow_add-place : goal.walk_on-overflow_add-place
 walk_on-overflow_add-place t c =
@@ -167,11 +167,11 @@ pub walk_on-loop-place-preserved : goal.walk_on-loop-place-preserved
 walk_on-loop-place-preserved t c =
     let h = c.requires in
     let after = c.loop-place.invariant.1 in (
-      none_of _ (sym c.is_some-2.ensures ∙ c.if-is_some-2.false),
+      none_of _ (sym c.is_some-in-loop-place.ensures ∙ c.if-is_some-2.false),
       omega arith,
       meets_next _ _ _ _ c.args.frame c.args.steps h.1 c.args.held c.args.from c.args.left
           c.loop-place.w c.loop-place.holds c.loop-place.place c.loop-place.invariant.2 c.loop-place.invariant.1 c.forward-holds.result c.forward-holds.ensures
-          _ c.attempt-w.ensures (none_of _ (sym c.is_some-2.ensures ∙ c.if-is_some-2.false)),
+          _ c.attempt-w.ensures (none_of _ (sym c.is_some-in-loop-place.ensures ∙ c.if-is_some-2.false)),
     )
 
 pub walk_on-returns : goal.walk_on-returns
