@@ -1,5 +1,6 @@
 -- The ways out of `list`: a job or a slice that is refused, no plan, and the plan at the place handed out.
 -- Assumes nothing.
+use mathlib.Core.Path.{refl}
 use Rattle.std.specs.Prelude.{Option, Some, None}
 use Rattle.std.specs.Prelude.{Result, Ok, Err}
 use Prim.Native.Nat.{ℕ, ◌≤◌, ◌<◌}
