@@ -51,7 +51,7 @@ get_d_behind (x ∷ xs) ys k d =
     ap (λ (i : ℕ). get_or (x ∷ (xs ++ ys)) i d) e ∙ get_d_behind xs ys k d
 
 -- ---- filled with zeros
-get_d_zeros : (n k : ℕ) → get_or {A = ℕ} (replicate n 0) k 0 ≡ 0
+pub get_d_zeros : (n k : ℕ) → get_or {A = ℕ} (replicate n 0) k 0 ≡ 0
 get_d_zeros zero k = refl
 get_d_zeros (suc n) zero = refl
 get_d_zeros (suc n) (suc k) = get_d_zeros n k

@@ -40,8 +40,8 @@ fn renumbered(action: Action, counts: Counts, facts: u8) -> Action
         needs: behind(facts, action.needs),
         adds: behind(facts, action.adds),
         deletes: behind(facts, action.deletes),
-        pools: counted(action.pools, counts.pools),
-        stores: counted(action.stores, counts.stores),
+        pools: counted(&action.pools[..counts.pools]),
+        stores: counted(&action.stores[..counts.stores]),
     }
 }
 
