@@ -13,10 +13,9 @@ fn largest_handover(job: Job) -> u8
     requires { Fits job.counts }
     ensures { result ≡ largest_handover (job_in job) }
 {
-    let counts = job.counts;
     let handovers = job::resources::handovers(job);
     let mut most = 0u8;
-    for handover in &handovers[..counts.pools] {
+    for handover in &handovers[..job.counts.pools] {
         most = most.max(*handover);
     }
     most
