@@ -4,7 +4,7 @@ use Prim.Native.Nat.{ℕ, ◌+◌, ◌≤◌, max}
 use mathlib.Core.Path.{◌≡◌, refl, sym, ap, ap₂, ◌∙◌}
 use mathlib.Core.Bool.{Bool, true, false, ◌||◌, or-true}
 use mathlib.Core.Logic.{⊎_elim}
-use mathlib.Core.List.{List, [], ◌∷◌, ◌++◌, map, append_assoc}
+use mathlib.Core.List.{List, [], ◌∷◌, ◌++◌, map, map-append, append_assoc}
 use native.Mathlib.Omega.{arith}
 use lib.ListN.{length, length-append, length-map}
 use borrow.Author.Tests.{ltb-true, lt-ltb}
@@ -24,10 +24,6 @@ end_later n x (y ∷ P) = let rest = end_later n y P in omega arith
 end_append : (A B : List Step) → end (A ++ B) ≡ max (end A) (end B)
 end_append [] B = omega arith
 end_append (x ∷ A) B = let rest = end_append A B in omega arith
-
-later_append : (n : ℕ) (A B : List Step) → map (later_by n) (A ++ B) ≡ map (later_by n) A ++ map (later_by n) B
-later_append n [] B = refl
-later_append n (x ∷ A) B = ap (λ (P : List Step). later_by n x ∷ P) (later_append n A B)
 
 later_twice : (n m k : ℕ) → n + m ≡ k → (A : List Step) → map (later_by n) (map (later_by m) A) ≡ map (later_by k) A
 later_twice n m k e [] = refl
@@ -60,7 +56,7 @@ module _ (h : ℕ) where
       ∙ ap (λ (P : List Step). (x ∷ A) ++ (map (later_by n) (y ∷ B) ++ P))
       (sym (later_twice n (end (y ∷ B) + h) last sum (z ∷ C)))
       ∙ ap (λ (P : List Step). (x ∷ A) ++ P)
-      (sym (later_append n (y ∷ B) (map (later_by (end (y ∷ B) + h)) (z ∷ C))))
+      (sym (map-append (later_by n) (y ∷ B) (map (later_by (end (y ∷ B) + h)) (z ∷ C))))
 
   -- what a part is too long for, the whole is too long for
   abbrev AtMost : List Step → List Step → Type 0

@@ -26,7 +26,7 @@ pub fn join(job: Job, first: &[u8], second: &[u8], out: &mut [u8]) -> Result<Day
     if out.len() < Plan::BYTES {
         return Err(Refusal::PlanSlice);
     }
-    let minutes = told::starts_at(job, morning.steps, morning.end);
+    let minutes = told::starts_at(job, morning);
     let day = told::both(morning, afternoon, minutes);
     if told::too_long(job, day) {
         return Err(Refusal::JoinedTooLong);

@@ -13,10 +13,9 @@ fn largest_handover(job: Job) -> u8
     requires { Fits job.counts }
     ensures { result ≡ largest_handover (job_in job) }
 {
-    let counts = job.counts;
     let handovers = job::resources::handovers(job);
     let mut most = 0u8;
-    for handover in &handovers[..counts.pools] {
+    for handover in &handovers[..job.counts.pools] {
         most = most.max(*handover);
     }
     most
@@ -24,25 +23,25 @@ fn largest_handover(job: Job) -> u8
 
 // How many minutes later the second plan starts: at the end of the first plus the largest handover, and at once where
 // the first has no steps.
-pub fn starts_at(job: Job, steps: usize, end: u32) -> u32
-    requires { Fits job.counts × (end ≤ 1440) }
-    ensures { result ≡ offset (largest_handover (job_in job)) steps end }
+pub fn starts_at(job: Job, first: Day) -> u32
+    requires { Fits job.counts × (first.end ≤ 1440) }
+    ensures { result ≡ offset (largest_handover (job_in job)) first.steps first.end }
 {
-    if steps == 0 {
+    if first.steps == 0 {
         return 0;
     }
-    end + u32::from(largest_handover(job))
+    first.end + u32::from(largest_handover(job))
 }
 
-// The end of both plans.
-fn last_end(end: u32, minutes: u32, steps: usize, second: u32) -> u32
-    requires { (minutes ≤ 2000) × (second ≤ 1440) }
-    ensures { result ≡ last_end end minutes steps second }
+// The end of both plans, the second so many minutes later.
+fn last_end(a: Day, b: Day, minutes: u32) -> u32
+    requires { (minutes ≤ 2000) × (b.end ≤ 1440) }
+    ensures { result ≡ last_end a.end minutes b.steps b.end }
 {
-    if steps == 0 {
-        return end;
+    if b.steps == 0 {
+        return a.end;
     }
-    minutes + second
+    minutes + b.end
 }
 
 // Of each pool the larger of two peaks.
@@ -63,7 +62,7 @@ pub fn both(a: Day, b: Day, minutes: u32) -> Day
     ensures { result ≡ both_days a b minutes }
 {
     Day {
-        end: last_end(a.end, minutes, b.steps, b.end),
+        end: last_end(a, b, minutes),
         steps: a.steps + b.steps,
         peaks: larger_peaks(a.peaks, b.peaks),
     }

@@ -1,14 +1,18 @@
 -- Arrays of amounts place by place.
 -- Assumes nothing.
-use Prim.Native.Nat.{ℕ, ◌+◌, ◌-◌, ◌≤◌}
+use Prim.Native.Nat.{ℕ, ◌+◌, ◌-◌, ◌<◌, ◌≤◌}
 use mathlib.Core.Path.{◌≡◌, refl, sym, ap, ap₂, ◌∙◌}
-use mathlib.Core.Bool.{Bool, true, false, not, ◌&&◌, ◌||◌}
+use mathlib.Core.Bool.{Bool, true, false, cond, not, ◌&&◌, ◌||◌}
+use mathlib.Core.Logic.{⊎_elim}
 use mathlib.Core.List.{List, [], ◌∷◌, ◌++◌}
 use native.Mathlib.Omega.{arith}
-use lib.Dec.{eqb}
-use lib.ListN.{length, get_or, take, drop, replicate}
+use lib.Dec.{eqb, ltb}
+use lib.Seq.{get_or-append_right}
+use borrow.Author.Tests.{lt-ltb, le-ltb}
+use Rattle.timeline.proofs.Tests.{le_or_lt}
+use lib.ListN.{length, get_or, take, drop, get_or-append, length-append, length-drop}
 use lib.Pointwise.{pointwise}
-use Rattle.std.proofs.lemmas.List.{get_or-take, length-take, drop-replicate}
+use Rattle.std.proofs.lemmas.List.{get_or-take, get_or-drop, length-take}
 use Rattle.lists.specs.Lists.{tabulate, firsts, filled, any_below}
 use Rattle.lists.proofs.Below.{below_front, below_same}
 use Rattle.lists.proofs.Tabulate.{length_tabulate, tabulate_same, firsts_all}
@@ -39,17 +43,38 @@ sums_by_place n xs ys l m =
 pub length_firsts : (n : ℕ) (xs : List ℕ) → length (firsts n 0 xs) ≡ n
 length_firsts n xs = length_tabulate n (λ i. get_or xs i 0)
 
--- an array of zeros with the first n of another copied to its front
-pub zeros_behind : (n : ℕ) (xs : List ℕ) → n ≤ 4 → length xs ≡ 4
-    → take n xs ++ drop n (replicate 4 0) ≡ filled 4 0 (firsts n 0 xs)
-zeros_behind n xs few four =
+-- the first n of an array that has so many
+pub front_firsts : (n : ℕ) (xs : List ℕ) → n ≤ length xs → take n xs ≡ firsts n 0 xs
+front_firsts n xs l =
     let count : length (take n xs) ≡ n = omega (arith, length-take n xs) in
-    let front : take n xs ≡ firsts n 0 xs =
     sym (firsts_all (take n xs) 0)
     ∙ ap (λ (m : ℕ). firsts m 0 (take n xs)) count
-    ∙ tabulate_same n _ _ (λ k l. get_or-take n xs k 0 l) in
-    ap₂ ◌++◌ front
-    (drop-replicate n 4 0 ∙ ap (λ (m : ℕ). replicate (4 - m) 0) (sym (length_firsts n xs)))
+    ∙ tabulate_same n _ _ (λ k h. get_or-take n xs k 0 h)
+
+-- the front of an array put over the front of another
+pub front_over : (n : ℕ) (xs zs : List ℕ) (k : ℕ) → n ≤ length xs
+    → get_or (take n xs ++ drop n zs) k 0 ≡ cond (ltb k n) (get_or xs k 0) (get_or zs k 0)
+front_over n xs zs k l =
+    let count : length (take n xs) ≡ n = omega (arith, length-take n xs) in
+    ⊎_elim
+    (λ (behind : n ≤ k).
+    let at : n + (k - n) ≡ k = omega arith in
+    let here : k - length (take n xs) ≡ k - n = omega arith in
+    get_or-append_right (take n xs) (drop n zs) k 0 (omega arith)
+    ∙ ap (λ (i : ℕ). get_or (drop n zs) i 0) here
+    ∙ get_or-drop n zs (k - n) 0
+    ∙ ap (λ (i : ℕ). get_or zs i 0) at
+    ∙ sym (ap (λ (b : Bool). cond b (get_or xs k 0) (get_or zs k 0)) (le-ltb k n behind)))
+    (λ (within : k < n).
+    get_or-append (take n xs) (drop n zs) 0 k (omega arith)
+    ∙ get_or-take n xs k 0 within
+    ∙ sym (ap (λ (b : Bool). cond b (get_or xs k 0) (get_or zs k 0)) (lt-ltb k n within)))
+    (le_or_lt n k)
+
+pub length_over : (n : ℕ) (xs zs : List ℕ) → n ≤ length xs → length xs ≡ length zs
+    → length (take n xs ++ drop n zs) ≡ length zs
+length_over n xs zs l e =
+    omega (arith, length-append (take n xs) (drop n zs), length-take n xs, length-drop n zs)
 
 -- two lists of the same length differ where they differ at a place
 differ_at : (xs ys : List ℕ) → length xs ≡ length ys

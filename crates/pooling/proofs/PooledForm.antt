@@ -8,6 +8,7 @@ use mathlib.Core.List.{List, ◌++◌, map}
 use native.Mathlib.Omega.{arith}
 use lib.Dec.{ltb}
 use lib.ListN.{length, get_or, length-append, get_or-append, get_or-eq_default}
+use lib.Seq.{get_or-append-add}
 use borrow.Author.Tests.{lt-ltb, le-ltb, ltb-true, ltb-false}
 use Rattle.lists.specs.Lists.{tabulate, Each}
 use Rattle.lists.proofs.Tabulate.{length_tabulate, get_d_tabulate, each_map}
@@ -19,7 +20,7 @@ use Rattle.job.specs.Resources.{handover}
 use Rattle.job.proofs.Values.{Shaped, Shape, value_holds_job}
 use Rattle.timeline.proofs.Tests.{le_or_lt}
 use Rattle.pooling.specs.Pooled.{renumbered, more_entries, pooled_handover, shortest_lengths, shortest_in, pooled}
-use Rattle.pooling.proofs.Sums.{each_of_map, each_of_append, length_plus, get_d_behind, length_filled}
+use Rattle.pooling.proofs.Sums.{each_of_map, each_of_append, length_plus, length_filled}
 use Rattle.pooling.proofs.PoolTests.{Alike}
 use Rattle.pooling.proofs.PooledJob.{pool_count, store_count, first_action, second_action, count_of_actions}
 use Rattle.pooling.proofs.PooledJob.{action_of_first, action_of_second}
@@ -158,7 +159,7 @@ module _ (A B : Job) (shape_a : Shape A) (shape_b : Shape B) where
       go Six e =
           let d : ℕ = longest_of (pooled A B) (length A.actions + i) in
           ap (λ (n : ℕ). get_or lengths (n + i) d) (sym count_of_first)
-          ∙ get_d_behind (shortest_lengths A) (shortest_lengths B) i d
+          ∙ get_or-append-add (shortest_lengths A) (shortest_lengths B) i d
           ∙ get_d_tabulate (length B.actions) (shortest_of B) i d l
 
   -- ---- the pooled job has its uses, handovers and shortest lengths by places, so its value holds it

@@ -5,6 +5,7 @@ use mathlib.Core.Path.{◌≡◌, sym, ap, ap₂, ◌∙◌}
 use mathlib.Core.List.{List, ◌++◌, map}
 use native.Mathlib.Omega.{arith}
 use lib.ListN.{length, get_or, length-append, length-map, get_or-append}
+use lib.Seq.{get_or-append-add}
 use Rattle.lists.proofs.Tabulate.{get_d_map}
 use Rattle.job.specs.Job.{Action, Job, no_action}
 use Rattle.timeline.specs.Step.{Step}
@@ -13,7 +14,6 @@ use Rattle.timeline.specs.Keeps.{OfJob}
 use Rattle.timeline.proofs.Places.{each_map, each_append}
 use Rattle.pooling.specs.Pooled.{plus, renumbered, pooled}
 use Rattle.pooling.proofs.Steps.{in_pool}
-use Rattle.pooling.proofs.Sums.{get_d_behind}
 
 module _ (A B : Job) where
   abbrev pub pool_count : ℕ
@@ -52,7 +52,7 @@ module _ (A B : Job) where
       → get_or (pooled A B).actions (length A.actions + i) no_action ≡ second_action (get_or B.actions i no_action)
   action_of_second i l =
       ap (λ (n : ℕ). get_or (pooled A B).actions (n + i) no_action) (sym (length-map A.actions first_action))
-      ∙ get_d_behind (map first_action A.actions) (map second_action B.actions) i no_action
+      ∙ get_or-append-add (map first_action A.actions) (map second_action B.actions) i no_action
       ∙ get_d_map second_action B.actions i no_action no_action l
 
 -- ---- steps

@@ -1,7 +1,7 @@
 -- Amounts of two jobs place by place, and lists filled with zeros.
 -- Assumes nothing.
 use Prim.Native.Nat.{ℕ, zero, suc, ◌+◌, ◌-◌, ◌*◌, ◌/◌, ◌≤◌, max}
-use mathlib.Core.Path.{◌≡◌, refl, ap, ap₂, ◌∙◌}
+use mathlib.Core.Path.{◌≡◌, refl, ap₂, ◌∙◌}
 use mathlib.Core.Bool.{false}
 use mathlib.Core.List.{List, [], ◌∷◌, ◌++◌, map}
 use native.Mathlib.Nat.{add-mul}
@@ -43,15 +43,8 @@ get_d_at_most most [] h k = omega arith
 get_d_at_most most (x ∷ xs) h zero = h.0
 get_d_at_most most (x ∷ xs) h (suc k) = get_d_at_most most xs h.1 k
 
--- ---- places of lists one after the other
-pub get_d_behind : {A : Type 0} (xs ys : List A) (k : ℕ) (d : A) → get_or (xs ++ ys) (length xs + k) d ≡ get_or ys k d
-get_d_behind [] ys k d = let e : 0 + k ≡ k = omega arith in ap (λ (i : ℕ). get_or ys i d) e
-get_d_behind (x ∷ xs) ys k d =
-    let e : suc (length xs) + k ≡ suc (length xs + k) = omega arith in
-    ap (λ (i : ℕ). get_or (x ∷ (xs ++ ys)) i d) e ∙ get_d_behind xs ys k d
-
 -- ---- filled with zeros
-get_d_zeros : (n k : ℕ) → get_or {A = ℕ} (replicate n 0) k 0 ≡ 0
+pub get_d_zeros : (n k : ℕ) → get_or {A = ℕ} (replicate n 0) k 0 ≡ 0
 get_d_zeros zero k = refl
 get_d_zeros (suc n) zero = refl
 get_d_zeros (suc n) (suc k) = get_d_zeros n k

@@ -40,23 +40,21 @@ fn renumbered(action: Action, counts: Counts, facts: u8) -> Action
         needs: behind(facts, action.needs),
         adds: behind(facts, action.adds),
         deletes: behind(facts, action.deletes),
-        pools: counted(action.pools, counts.pools),
-        stores: counted(action.stores, counts.stores),
+        pools: counted(&action.pools[..counts.pools]),
+        stores: counted(&action.stores[..counts.stores]),
     }
 }
 
 // The array with the actions of the job put behind the first ones.
-fn put(out: [Action; Job::ACTIONS], at: usize, job: Job, facts: u8) -> [Action; Job::ACTIONS]
+fn put(mut out: [Action; Job::ACTIONS], at: usize, job: Job, facts: u8) -> [Action; Job::ACTIONS]
     requires { Fits job.counts × (at + job.counts.actions ≤ 64)
         × ((i : ℕ) → i < job.counts.actions → FitsBehind facts (get_or job.actions i beyond)) }
     ensures { ActionsBehind job facts at out result }
 {
-    let counts = job.counts;
-    let mut all = out;
-    for i in 0..counts.actions {
-        all[at + i] = renumbered(job.actions[i], counts, facts);
+    for i in 0..job.counts.actions {
+        out[at + i] = renumbered(job.actions[i], job.counts, facts);
     }
-    all
+    out
 }
 
 // The actions of both jobs.
@@ -64,26 +62,20 @@ pub fn all(first: Job, second: Job) -> [Action; Job::ACTIONS]
     requires { Poolable first second }
     ensures { HasActions result (pooled (job_in first) (job_in second)).actions }
 {
-    let unused = Action::unused();
-    let none = [unused; Job::ACTIONS];
-    let counts = first.counts;
+    let none = [Action::unused(); Job::ACTIONS];
     let mine = put(none, 0, first, 0);
-    put(mine, counts.actions, second, first.facts)
+    put(mine, first.counts.actions, second, first.facts)
 }
 
 // The array with the shortest lengths of the job's actions put behind the first ones.
-fn put_shortest(out: [u8; Job::ACTIONS], at: usize, job: Job) -> [u8; Job::ACTIONS]
+fn put_shortest(mut out: [u8; Job::ACTIONS], at: usize, job: Job) -> [u8; Job::ACTIONS]
     requires { Fits job.counts × (at + job.counts.actions ≤ 64) }
     ensures { LengthsBehind job at out result }
 {
-    let form = job.form;
-    let counts = job.counts;
-    let mut all = out;
-    for i in 0..counts.actions {
-        let action = job.actions[i];
-        all[at + i] = shortest_of(form, job.shortest[i], action.duration);
+    for i in 0..job.counts.actions {
+        out[at + i] = shortest_of(job.form, job.shortest[i], job.actions[i].duration);
     }
-    all
+    out
 }
 
 // The shortest lengths of the actions of both jobs.
@@ -92,9 +84,8 @@ fn all_shortest(first: Job, second: Job) -> [u8; Job::ACTIONS]
     ensures { result ≡ filled 64 0 (shortest_lengths (job_in first) ++ shortest_lengths (job_in second)) }
 {
     let none = [0u8; Job::ACTIONS];
-    let counts = first.counts;
     let mine = put_shortest(none, 0, first);
-    put_shortest(mine, counts.actions, second)
+    put_shortest(mine, first.counts.actions, second)
 }
 
 // The shortest lengths that the pooled job of this form has.

@@ -1,6 +1,6 @@
 // Amounts of pools and stores, place by place.
-ghost use Rattle.std.specs.Prelude.{◌≡◌, ◌≤◌};
-ghost use Rattle.lists.specs.Lists.{firsts, filled};
+ghost use Rattle.std.specs.Prelude.{◌≡◌, ◌≤◌, length};
+ghost use Rattle.lists.specs.Lists.{filled};
 ghost use Rattle.job.specs.Passed.{Amounts};
 ghost use Rattle.job.specs.Job.{job_in};
 ghost use Rattle.pooling.specs.Pooled.{plus};
@@ -8,23 +8,23 @@ ghost use Rattle.pooling.specs.Inner.{BothPass};
 
 use job::Job;
 
-// The first n amounts, and zeros behind them.
-pub fn counted(amounts: [u32; Job::AMOUNTS], n: usize) -> [u32; Job::AMOUNTS]
-    requires { n ≤ 4 }
-    ensures { result ≡ filled 4 0 (firsts n 0 amounts) }
+// The amounts, and zeros behind them.
+pub fn counted(amounts: &[u32]) -> [u32; Job::AMOUNTS]
+    requires { length amounts.now ≤ 4 }
+    ensures { result ≡ filled 4 0 amounts.now }
 {
     let mut counted = [0u32; Job::AMOUNTS];
-    counted[..n].copy_from_slice(&amounts[..n]);
+    counted[..amounts.len()].copy_from_slice(amounts);
     counted
 }
 
-// The first n amounts of a and the first m of b, added place by place; a missing one counts 0.
-fn sums(a: [u32; Job::AMOUNTS], n: usize, b: [u32; Job::AMOUNTS], m: usize) -> [u32; Job::AMOUNTS]
-    requires { (n ≤ 4) × (m ≤ 4) × Amounts (firsts n 0 a) × Amounts (firsts m 0 b) }
-    ensures { result ≡ filled 4 0 (plus (firsts n 0 a) (firsts m 0 b)) }
+// The amounts of a and of b, added place by place; a missing one counts 0.
+fn sums(a: &[u32], b: &[u32]) -> [u32; Job::AMOUNTS]
+    requires { (length a.now ≤ 4) × (length b.now ≤ 4) × Amounts a.now × Amounts b.now }
+    ensures { result ≡ filled 4 0 (plus a.now b.now) }
 {
-    let mine = counted(a, n);
-    let other = counted(b, m);
+    let mine = counted(a);
+    let other = counted(b);
     let mut sums = [0u32; Job::AMOUNTS];
     for place in 0..Job::AMOUNTS {
         sums[place] = mine[place] + other[place];
@@ -37,9 +37,10 @@ pub fn pools(first: Job, second: Job) -> [u32; Job::POOLS]
     requires { BothPass first second }
     ensures { result ≡ filled 4 0 (plus (job_in first).pools (job_in second).pools) }
 {
-    let a = first.counts;
-    let b = second.counts;
-    sums(first.pools, a.pools, second.pools, b.pools)
+    sums(
+        &first.pools[..first.counts.pools],
+        &second.pools[..second.counts.pools],
+    )
 }
 
 // The availabilities of the stores of both jobs.
@@ -47,7 +48,8 @@ pub fn stores(first: Job, second: Job) -> [u32; Job::STORES]
     requires { BothPass first second }
     ensures { result ≡ filled 4 0 (plus (job_in first).stores (job_in second).stores) }
 {
-    let a = first.counts;
-    let b = second.counts;
-    sums(first.stores, a.stores, second.stores, b.stores)
+    sums(
+        &first.stores[..first.counts.stores],
+        &second.stores[..second.counts.stores],
+    )
 }

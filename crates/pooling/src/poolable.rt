@@ -29,11 +29,9 @@ pub fn unlike(first: Job, second: Job) -> bool
     requires { BothPass first second }
     ensures { result ≡ unlike (job_in first) (job_in second) }
 {
-    let a = first.counts;
-    let b = second.counts;
     let mine = first.rule;
     let other = second.rule;
-    let shared = a.pools.min(b.pools);
+    let shared = first.counts.pools.min(second.counts.pools);
     any_differs(
         shared,
         resources::handovers(first),

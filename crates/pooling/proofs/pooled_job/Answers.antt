@@ -1,5 +1,6 @@
 -- `pooled_job` meets its contract: field by field.
 use mathlib.Core.Path.{ap, ◌∙◌}
+use Rattle.std.proofs.Common.{rules}
 use Rattle.job.specs.declared.Form.{Form}
 use mathlib.Core.List.{◌++◌}
 use Rattle.lists.specs.Lists.{filled}
@@ -28,7 +29,7 @@ returns c =
     let A = job_in a.first in
     let B = job_in a.second in
     let form = c.more_entries-form.ensures in
-    value_by_parts (pooled A B) _ _ _ _ _ _ _ _ _ _ _ c.max-3.ensures c.joined.ensures
+    value_by_parts (pooled A B) _ _ _ _ _ _ _ _ _ _ _ (search rules) c.joined.ensures
     c.joined-2.ensures c.reserve.ensures form
     (counts_of_pooled a.first a.second _ _ c.max.ensures c.max-2.ensures)
     c.pools-pools.ensures c.pooled-handovers.ensures c.stores-stores.ensures

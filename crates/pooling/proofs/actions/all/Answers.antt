@@ -40,5 +40,5 @@ returns c =
     let count : length (map mine A.actions) ≡ a.first.counts.actions = length-map A.actions mine ∙ n in
     c.put.ensures (map mine A.actions) (pool_count A B) (store_count A B) count
     (c.put-mine.ensures [] (pool_count A B) (store_count A B) refl
-    (ap (λ (x : act.Action). replicate 64 x) c.unused-unused.ensures) widen.0)
+    (ap (λ (x : act.Action). replicate 64 x) c.unused-none.ensures) widen.0)
     widen.1

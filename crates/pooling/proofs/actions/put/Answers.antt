@@ -16,6 +16,6 @@ loop-i-preserved c =
     let l = c.loop-i in
     let most = c.requires.1 in
     λ xs pools stores e h w.
-    actions_next xs (renumbered a.facts pools stores) (action_at a.job) l.i a.at l.all
+    actions_next xs (renumbered a.facts pools stores) (action_at a.job) l.i a.at l.out
     c.renumbered.result e (omega arith) (l.invariant xs pools stores e h w)
     (c.renumbered.ensures pools stores w)

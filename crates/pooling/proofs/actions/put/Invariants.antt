@@ -11,5 +11,5 @@ use Rattle.pooling.proofs.actions.put.Given as goal
 
 abbrev pub invariant-loop-i : goal.invariant-loop-i
 invariant-loop-i l =
-    (xs : List Action) (pools stores : ℕ) → length xs ≡ l.at → HasActions l.initial.all xs → Widens l.counts pools stores
-    → HasActions l.all (xs ++ map (renumbered l.facts pools stores) (tabulate l.i (action_at l.job)))
+    (xs : List Action) (pools stores : ℕ) → length xs ≡ l.at → HasActions l.fn.out xs → Widens l.job.counts pools stores
+    → HasActions l.out (xs ++ map (renumbered l.facts pools stores) (tabulate l.i (action_at l.job)))

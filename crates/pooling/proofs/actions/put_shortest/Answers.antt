@@ -23,7 +23,7 @@ loop-i-preserved c =
     let l = c.loop-i in
     let most = c.requires.1 in
     λ xs e h.
-    put_behind 64 0 xs (shortest_of (job_in a.job)) l.i a.at l.all c.shortest.result e (omega arith)
+    put_behind 64 0 xs (shortest_of (job_in a.job)) l.i a.at l.out c.shortest.result e (omega arith)
     (l.invariant xs e h) (c.shortest.ensures ∙ shortest_is a.job l.i (omega arith))
 
 pub returns : goal.returns

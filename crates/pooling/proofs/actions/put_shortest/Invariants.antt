@@ -10,5 +10,5 @@ use Rattle.pooling.proofs.actions.put_shortest.Given as goal
 
 abbrev pub invariant-loop-i : goal.invariant-loop-i
 invariant-loop-i l =
-    (xs : List ℕ) → length xs ≡ l.at → l.initial.all ≡ filled 64 0 xs
-    → l.all ≡ filled 64 0 (xs ++ tabulate l.i (shortest_of (job_in l.job)))
+    (xs : List ℕ) → length xs ≡ l.at → l.fn.out ≡ filled 64 0 xs
+    → l.out ≡ filled 64 0 (xs ++ tabulate l.i (shortest_of (job_in l.job)))
