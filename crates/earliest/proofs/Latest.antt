@@ -3,11 +3,13 @@
 use Prim.Native.Nat.{ℕ, zero, suc, ◌+◌, ◌-◌, ◌≤◌, ◌<◌, min, max}
 use mathlib.Core.Path.{◌≡◌, refl, sym, ap, ◌∙◌}
 use mathlib.Core.Bool.{Bool, true, false, cond}
-use mathlib.Core.Logic.{inr, ⊎_elim}
+use mathlib.Core.Logic.{⊎_elim}
 use native.Mathlib.Nat.{eq-or-lt_of_le}
 use native.Mathlib.Omega.{arith}
+use Rattle.std.specs.Ordering.{ord_max, nat_cmp}
+use Rattle.std.proofs.lemmas.Grind.{common_steps}
 use Rattle.facts.specs.FactSet.{has, NextFact}
-use Rattle.earliest.specs.Numbers.{latest, SameTime}
+use Rattle.earliest.specs.Numbers.{latest}
 
 module _ (set : ℕ) (f : ℕ → ℕ) where
   pub latest_first : latest set f 0 ≡ 0
@@ -72,6 +74,10 @@ module _ (set : ℕ) (f : ℕ → ℕ) where
   pub latest_grows : (m n : ℕ) → m ≤ n → latest set f m ≤ latest set f n
   latest_grows m n l = latest_at_most m (latest set f n) (λ k b h. member_at_most_latest n k (omega arith) h)
 
+-- what `max` answers
+pub max_answered : (x v y : ℕ) → y ≡ ord_max nat_cmp x v → y ≡ max x v
+max_answered x v y e = grind (arith, common_steps, e)
+
 -- ---- a loop over the facts of the set below a bound
 module _ (set : ℕ) (f : ℕ → ℕ) (bound : ℕ) where
   -- n is a fact of the set or 64, and x the largest number of the facts below n
@@ -85,27 +91,22 @@ module _ (set : ℕ) (f : ℕ → ℕ) (bound : ℕ) where
     sym (latest_to_next set f 0 r (min r bound) next (omega arith) (omega arith) ∙ latest_first set f),
   )
 
-  -- a finite number more
-  pub counted_on : (n x v y r : ℕ) → Counted n x → n < bound → n < 64 → SameTime v (f n) → y ≡ max x v → y ≤ 530400
-      → NextFact set (n + 1) r → Counted r y
-  counted_on n x v y r c l k time e finite next =
+  -- a number more
+  pub counted_on : (n x v y r : ℕ) → Counted n x → n < bound → n < 64 → v ≡ f n → y ≡ max x v → NextFact set (n + 1) r
+      → Counted r y
+  counted_on n x v y r c l k value e next =
       let here : min n bound ≡ n = omega arith in
-      let onward = next.onward (omega arith) in
-      let value : v ≡ f n = ⊎_elim (λ same. same) (λ both. let late = both.0 in absurd (omega arith)) time in (
+      let onward = next.onward (omega arith) in (
         next.within,
         next.found,
         e ∙ rw (value, c.2, here)
             (sym (latest_on set f n r (min r bound) (c.1 k) next (omega arith) (omega arith))),
       )
 
-  -- a number later than any finite time: so is the largest
-  pub counted_late : (n x v y : ℕ) → Counted n x → n < bound → n < 64 → SameTime v (f n) → y ≡ max x v → 530400 < y
-      → SameTime y (latest set f bound)
-  counted_late n x v y c l k time e late =
-      let before = c.2 in
-      let grown = latest_grows set f (min n bound) bound (omega arith) in
-      let member = member_at_most_latest set f bound n l (c.1 k) in
-      inr (late, ⊎_elim (λ same. omega arith) (λ both. let m = both.1 in omega arith) time)
+  -- where one is later than a limit, so is the largest
+  pub counted_late : (limit n x : ℕ) → Counted n x → n < bound → n < 64 → limit < f n → limit < latest set f bound
+  counted_late limit n x c l k late =
+      let member = member_at_most_latest set f bound n l (c.1 k) in omega arith
 
   pub counted_all : (n x : ℕ) → Counted n x → bound ≤ n → x ≡ latest set f bound
   counted_all n x c l = let e : min n bound ≡ bound = omega arith in c.2 ∙ ap (latest set f) e

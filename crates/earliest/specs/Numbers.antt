@@ -1,6 +1,6 @@
 -- The numbers of times: of a set of facts, of the same time, and of a time some minutes later.
 -- Assumes nothing.
-use Rattle.std.specs.Prelude.{ℕ, zero, suc, ◌+◌, ◌<◌, max, ◌≡◌, cond, ◌⊎◌, List, ltb, get_or}
+use Rattle.std.specs.Prelude.{ℕ, zero, suc, ◌+◌, ◌<◌, max, ◌≡◌, cond, ◌⊎◌, List, ltb, get_or, Option, MatchOption}
 use Rattle.facts.specs.FactSet.{has}
 use Rattle.pairs.specs.Pairs.{entry_of}
 use Rattle.times.specs.Numbers.{none}
@@ -21,6 +21,10 @@ set_number xs set n = latest set (λ q. row_number xs set q (suc q)) n
 -- two numbers of one time: the same number, or both later than any finite time
 abbrev pub SameTime : ℕ → ℕ → Type 0
 SameTime x y = (x ≡ y) ⊎ ((530400 < x) × (530400 < y))
+
+-- the number, or none where it is later than the limit
+abbrev pub UpTo : ℕ → Option ℕ → ℕ → Type 0
+UpTo limit r x = MatchOption r (limit < x) (λ y. y ≡ x)
 
 -- the number of a time so many minutes later: no finite time is later than 530,400
 abbrev pub after_number : ℕ → ℕ → ℕ

@@ -17,7 +17,12 @@ fn fit_together(pools: usize, available: [u32; Job::POOLS], a: Action, b: Action
     requires { pools ≤ 4 }
     ensures { result ≡ fit_together_in pools available a b }
 {
-    !(0..pools).any(|k| exceeded(available[k], a.pools[k], b.pools[k]))
+    for k in 0..pools {
+        if exceeded(available[k], a.pools[k], b.pools[k]) {
+            return false;
+        }
+    }
+    true
 }
 
 // Whether the action uses no more of each pool than there is: it fits together with one that uses nothing.
