@@ -1,16 +1,10 @@
 -- `lessen` meets its contract: the set is taken away from the facts before the next one.
-use mathlib.Core.Path.{ap, ◌∙◌}
-use Rattle.landmarks.specs.declared.members.Members.{Members}
+use mathlib.Core.Path.{◌∙◌}
 use Rattle.cliques.proofs.FillLaws.{lessened_at_first, lessened_on, lessened_rest}
 use Rattle.cliques.proofs.apart.lessen.Goals as goal
 
 pub loop-q-init : goal.loop-q-init
-loop-q-init c =
-    let gives = c.into_iter-q-iterator.ensures.into_iter_gives in
-    let made = c.of-q-items.ensures in (
-      ap (λ (s : Members). s.set) gives ∙ made.0,
-      lessened_at_first _ _ _ _ c.requires (ap (λ (s : Members). s.from) gives ∙ made.1),
-    )
+loop-q-init c = (cc, lessened_at_first _ _ _ _ c.requires (cc))
 
 pub loop-q-preserved : goal.loop-q-preserved
 loop-q-preserved c =

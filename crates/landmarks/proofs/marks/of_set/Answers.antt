@@ -1,15 +1,11 @@
 -- `of_set` meets its contract: the landmarks of the facts before the next one are found.
 use mathlib.Core.Path.{sym, ap, ◌∙◌}
 use Rattle.facts.specs.FactSet.{union}
-use Rattle.landmarks.specs.declared.members.Members.{Members}
 use Rattle.landmarks.proofs.TableLaws.{marks_first, marks_on, marks_rest}
 use Rattle.landmarks.proofs.marks.of_set.Goals as goal
 
 pub loop-q-init : goal.loop-q-init
-loop-q-init c =
-    let gives = c.into_iter-q-iterator.ensures.into_iter_gives in
-    let made = c.of-q-items.ensures in
-    (ap (λ (s : Members). s.set) gives ∙ made.0, marks_first _ _ _ (ap (λ (s : Members). s.from) gives ∙ made.1))
+loop-q-init c = (cc, marks_first _ _ _ (cc))
 
 pub loop-q-preserved : goal.loop-q-preserved
 loop-q-preserved c =

@@ -1,20 +1,13 @@
 -- `sum` meets its contract: the numbers of the facts before the next one are added up.
 use Prim.Native.Nat.{◌+◌}
-use mathlib.Core.Path.{sym, ap, ◌∙◌}
+use mathlib.Core.Path.{sym, ◌∙◌}
 use native.Mathlib.Omega.{arith}
 use Rattle.landmarks.specs.Tables.{share_from}
-use Rattle.landmarks.specs.declared.members.Members.{Members}
 use Rattle.landmarks.proofs.TableLaws.{sum_first, sum_on, sum_rest}
 use Rattle.landmarks.proofs.shares.sum.Goals as goal
 
 pub loop-p-init : goal.loop-p-init
-loop-p-init c =
-    let gives = c.into_iter-p-iterator.ensures.into_iter_gives in
-    let made = c.of-p-items.ensures in (
-      ap (λ (s : Members). s.set) gives ∙ made.0,
-      sum_first _ _ _ (ap (λ (s : Members). s.from) gives ∙ made.1),
-      omega arith,
-    )
+loop-p-init c = (cc, sum_first _ _ _ (cc), omega arith)
 
 pub loop-p-preserved : goal.loop-p-preserved
 loop-p-preserved c =
