@@ -2,24 +2,24 @@
 -- Assumes nothing.
 use Prim.Native.Nat.{ℕ, ◌+◌, ◌*◌, ◌≤◌, ◌<◌}
 use mathlib.Core.Path.{◌≡◌, sym, ap, ◌∙◌}
-use mathlib.Core.Bool.{Bool, true, false, cond, not}
+use mathlib.Core.Bool.{true, false}
 use mathlib.Core.Logic.{inl, inr, ⊎_elim}
 use mathlib.Core.List.{List}
 use native.Mathlib.Nat.{eq-or-lt_of_le}
 use native.Mathlib.Omega.{arith}
 use lib.ListN.{length, set}
 use lib.Seq.{get_or-set_same, get_or-set_other}
-use Rattle.facts.specs.FactSet.{has, union, difference, NextFact}
-use Rattle.facts.proofs.SetLaws.{in_union_left, in_union_right, in_difference_parts}
-use Rattle.timeline.proofs.Tests.{not_both, decided, trichotomy}
+use Rattle.facts.specs.FactSet.{has, difference, NextFact}
+use Rattle.facts.proofs.SetLaws.{in_difference_parts}
+use Rattle.timeline.proofs.Tests.{not_both, trichotomy, le_or_lt}
 use Rattle.tables.specs.declared.Frame.{Frame}
-use Rattle.tables.specs.Tables.{adds_at, duration_at}
+use Rattle.tables.specs.Tables.{adds_at}
 use Rattle.landmarks.specs.Tables.{KeptBefore}
 use Rattle.landmarks.specs.Marked.{WithinLimits, LandmarkTables}
-use Rattle.landmarks.proofs.TableLaws.{kept_at_first, kept_when_set, kept_again, put_on, at_most_on}
+use Rattle.landmarks.proofs.TableLaws.{kept_at_first, kept_when_set, kept_again}
 use Rattle.landmarks.proofs.ShareLaws.{kept_less}
 use Rattle.landmarks.proofs.KeptTables.{landmarks_stay}
-use Rattle.cliques.specs.Cliques.{apart_at, Exclude, CliquesAt, ApartTo, LeastTo, Outside, Lessened, LeastPut}
+use Rattle.cliques.specs.Cliques.{apart_at, Exclude, CliquesAt, ApartTo, Outside, Lessened, LeastPut}
 use Rattle.cliques.specs.Marked.{MarkedTables}
 
 -- ---- a set put for a fact, others stay
@@ -32,17 +32,24 @@ module _ (ys : List ℕ) (q k v : ℕ) (below : q < 64) where
       let other : 320 + k ≡ 320 + q → ⊥ = λ same. e (omega arith) in get_or-set_other ys (320 + q) (320 + k) v 0 other
 
 -- ---- taking facts away
-pub lessened_at_first : (from away q : ℕ) (xs : List ℕ) → length xs ≡ 384 → NextFact from 0 q
-    → Lessened q from away xs xs
-lessened_at_first from away q xs size next =
+pub lessened_at_first : (from away n : ℕ) (xs : List ℕ) → length xs ≡ 384 → n ≡ 0 → Lessened n from away xs xs
+lessened_at_first from away n xs size none =
+    record { kept = kept_at_first 320 384 xs size; inside = λ k l p h. h; gone = λ k p l. absurd (omega arith) }
+
+-- no fact of the set is left from n on
+pub lessened_rest : (from away n : ℕ) (xs ys : List ℕ) → NextFact from n 64 → Lessened n from away xs ys
+    → Lessened 64 from away xs ys
+lessened_rest from away n xs ys next before =
     record {
-      kept = kept_at_first 320 384 xs size;
-      inside = λ k l p h. h;
-      gone = λ k p l member h. not_both member (next.skipped k (omega arith) l);
+      kept = before.kept;
+      inside = before.inside;
+      gone = λ k p l member.
+          ⊎_elim (λ other. not_both member (next.skipped k other l)) (λ lower. before.gone k p lower member)
+          (le_or_lt n k);
     }
 
-module _ (from away : ℕ) (xs ys : List ℕ) (q v : ℕ) (below : q < 64) (less : v ≡ difference (apart_at ys q) away)
-    (before : Lessened q from away xs ys) where
+module _ (from away : ℕ) (xs ys : List ℕ) (n q v : ℕ) (below : q < 64) (less : v ≡ difference (apart_at ys q) away)
+    (before : Lessened n from away xs ys) where
   -- what is apart from a fact now was so before, and is not of the set if the fact is q
   entry_less : (k p : ℕ) → has (apart_at (set ys (320 + q) v) k) p ≡ true
       → (has (apart_at ys k) p ≡ true) × (k ≡ q → has away p ≡ false)
@@ -57,42 +64,21 @@ module _ (from away : ℕ) (xs ys : List ℕ) (q v : ℕ) (below : q < 64) (less
       (ap (λ (s : ℕ). has s p) (sym (put_elsewhere ys q k v below other)) ∙ h, λ e. absurd (other e)))
       (trichotomy k q)
 
-  pub lessened_on : (r : ℕ) → NextFact from (q + 1) r → Lessened r from away xs (set ys (320 + q) v)
-  lessened_on r next =
+  -- the next fact of the set from n on is q
+  pub lessened_on : NextFact from n q → Lessened (q + 1) from away xs (set ys (320 + q) v)
+  lessened_on next =
       record {
         kept = kept_when_set 320 384 xs ys (320 + q) v (omega arith) before.kept;
         inside = λ k l p h. before.inside k l p (entry_less k p h).0;
         gone = λ k p l member h.
             let entry = entry_less k p h in
-            ⊎_elim entry.1
+            ⊎_elim (λ e. entry.1 (omega arith))
             (λ unlike.
-            ⊎_elim (λ lower. before.gone k p lower member entry.0)
-            (λ higher. not_both member (next.skipped k (omega arith) l)) unlike)
-            (trichotomy k q);
+            ⊎_elim (λ other. not_both member (next.skipped k other (omega arith)))
+            (λ lower. before.gone k p lower member entry.0)
+            (le_or_lt n k))
+            (eq-or-lt_of_le l);
       }
-
--- ---- what the actions beside an action add
-module _ (sets numbers times : List ℕ) (frame : Frame) (i : ℕ) where
-  pub outside_at_first : (all : ℕ) → Outside sets numbers times frame i 0 all
-  outside_at_first all j p l = absurd (omega arith)
-
-  pub outside_on : (j : ℕ) (test : Bool) (part all : ℕ) → (test ≡ true → Exclude sets numbers times frame i j)
-      → part ≡ cond (not test) (adds_at sets j) 0 → Outside sets numbers times frame i j all
-      → Outside sets numbers times frame i (j + 1) (union part all)
-  outside_on j test part all excludes is before k p l adds out =
-      ⊎_elim
-      (λ e.
-      let same : k ≡ j = omega arith in
-      rw same
-      (⊎_elim excludes
-      (λ no.
-      let whole : part ≡ adds_at sets j = is ∙ ap (λ (b : Bool). cond (not b) (adds_at sets j) 0) no in
-      not_both (in_union_left part all p (ap (λ (s : ℕ). has s p) whole ∙ rw same at adds)) out)
-      (decided test)))
-      (λ less.
-      before k p (omega arith) adds
-      (⊎_elim (λ inside. not_both (in_union_right part all p inside) out) (λ no. no) (decided (has all p))))
-      (eq-or-lt_of_le l)
 
 -- ---- action after action
 exclude_kept : (xs ys numbers times : List ℕ) (frame : Frame) (i j : ℕ) → i < 64 → j < 64 → KeptBefore 320 384 xs ys
@@ -121,24 +107,6 @@ apart_on xs ys numbers times frame i away known few outside lessened before k q 
     rw same (outside j p known_too second (lessened.gone q p below (rw same at first) member)))
     (λ less. before k q p j (omega arith) below first (lessened.inside q below p member) known_too second)
     (eq-or-lt_of_le l))
-
--- ---- the least minutes
-pub least_on : (sets numbers : List ℕ) (q i best less : ℕ) → less ≤ best
-    → (has (adds_at sets i) q ≡ true → less ≤ duration_at numbers i) → LeastTo sets numbers i q best
-    → LeastTo sets numbers (i + 1) q less
-least_on sets numbers q = at_most_on (λ k. has (adds_at sets k) q ≡ true) (duration_at numbers)
-
--- the durations stand before the least minutes
-least_still : (sets : List ℕ) (actions : ℕ) → actions ≤ 64 → (ys : List ℕ) (at v q minutes : ℕ) → 1156 ≤ at → q < 64
-    → LeastTo sets ys actions q minutes → LeastTo sets (set ys at v) actions q minutes
-least_still sets actions few ys at v q minutes behind below least i known adds =
-    let apart : i * 9 ≡ at → ⊥ = λ e. omega arith in
-    rw (get_or-set_other ys at (i * 9) v 0 apart) (least i known adds)
-
-pub least_put_on : (sets xs ys : List ℕ) (actions q v : ℕ) → actions ≤ 64 → q < 64 → LeastTo sets ys actions q v
-    → LeastPut sets actions q xs ys → LeastPut sets actions (q + 1) xs (set ys (1156 + q) v)
-least_put_on sets xs ys actions q v few =
-    put_on 1156 1220 64 (λ ys. LeastTo sets ys actions) (omega arith) (least_still sets actions few) xs ys q v
 
 -- both tables
 cliques_filled : (sets xs ys times : List ℕ) (frame : Frame) → frame.actions ≤ 64 → frame.pools ≤ 4

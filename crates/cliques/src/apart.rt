@@ -5,6 +5,7 @@ ghost use Rattle.landmarks.specs.Marked.{WithinLimits};
 ghost use Rattle.cliques.specs.Cliques.{Exceeded, Unreached, Exclude, Outside, Lessened, ApartTo};
 
 use earliest::set_time;
+use landmarks::members::Members;
 use tables::Frame;
 use tables::layout::{NumberTable, SetTable};
 
@@ -14,16 +15,11 @@ fn exceed(numbers: &[u32], frame: Frame, i: usize, j: usize) -> bool
     ensures { result ≡ true → Exceeded numbers.now frame i j }
 {
     let available = frame.available;
-    let mut pool = 0;
-    while pool < frame.pools {
-        let first = job::wide(numbers[i * NumberTable::ROW + NumberTable::POOLS + pool]);
-        let second = job::wide(numbers[j * NumberTable::ROW + NumberTable::POOLS + pool]);
-        if job::wide(available[pool]) < first + second {
-            return true;
-        }
-        pool += 1;
-    }
-    false
+    (0..frame.pools).any(|pool| {
+        let first = u64::from(numbers[i * NumberTable::ROW + NumberTable::POOLS + pool]);
+        let second = u64::from(numbers[j * NumberTable::ROW + NumberTable::POOLS + pool]);
+        u64::from(available[pool]) < first + second
+    })
 }
 
 // Whether what actions i and j need is unreachable together.
@@ -62,14 +58,12 @@ fn beside(sets: &[u64], numbers: &[u32], times: &[u32], frame: Frame, i: usize) 
         frame.actions result }
 {
     let mut all: u64 = 0;
-    let mut j = 0;
-    while j < frame.actions {
+    for j in 0..frame.actions {
         let apart = exclude(sets, numbers, times, frame, i, j);
         all = facts::union(
             facts::when(!apart, sets[j * SetTable::ROW + SetTable::ADDS]),
             all,
         );
-        j += 1;
     }
     all
 }
@@ -79,11 +73,9 @@ fn lessen(sets: &mut [u64], from: u64, away: u64)
     requires { length sets.old ≡ 384 }
     ensures { Lessened 64 from away sets.old sets.new }
 {
-    let mut q = facts::next(from, 0);
-    while q < facts::BITS {
+    for q in Members::of(from) {
         let old = sets[SetTable::APART + q as usize];
         sets[SetTable::APART + q as usize] = facts::difference(old, away);
-        q = facts::next(from, q + 1);
     }
 }
 
@@ -91,13 +83,9 @@ fn lessen(sets: &mut [u64], from: u64, away: u64)
 fn added(sets: &[u64], actions: usize) -> u64
     requires { (length sets.now ≡ 384) × (actions ≤ 64) }
 {
-    let mut all: u64 = 0;
-    let mut i = 0;
-    while i < actions {
-        all = facts::union(sets[i * SetTable::ROW + SetTable::ADDS], all);
-        i += 1;
-    }
-    all
+    (0..actions).fold(0, |all, i| {
+        facts::union(sets[i * SetTable::ROW + SetTable::ADDS], all)
+    })
 }
 
 // Puts the same set for each fact.
@@ -105,11 +93,7 @@ fn begin(sets: &mut [u64], all: u64)
     requires { length sets.old ≡ 384 }
     ensures { KeptBefore 320 384 sets.old sets.new }
 {
-    let mut q = 0u8;
-    while q < facts::BITS {
-        sets[SetTable::APART + q as usize] = all;
-        q += 1;
-    }
+    sets[SetTable::APART..SetTable::ENTRIES].fill(all);
 }
 
 // Puts for each fact those that are apart from it, of the facts that actions add and that are not there at the start.
@@ -120,11 +104,9 @@ pub fn fill(sets: &mut [u64], numbers: &[u32], times: &[u32], frame: Frame, star
 {
     let all = facts::difference(added(sets, frame.actions), start);
     begin(sets, all);
-    let mut i = 0;
-    while i < frame.actions {
+    for i in 0..frame.actions {
         let away = beside(sets, numbers, times, frame, i);
         let from = sets[i * SetTable::ROW + SetTable::ADDS];
         lessen(sets, from, away);
-        i += 1;
     }
 }

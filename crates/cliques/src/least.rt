@@ -19,11 +19,7 @@ fn shorter(sets: &[u64], numbers: &[u32], i: usize, q: u8, best: u32) -> u32
     if !facts::has(sets[i * SetTable::ROW + SetTable::ADDS], q) {
         return best;
     }
-    let minutes = numbers[i * NumberTable::ROW];
-    if minutes < best {
-        return minutes;
-    }
-    best
+    best.min(numbers[i * NumberTable::ROW])
 }
 
 // The least minutes of an action that adds q, and none where nothing is apart from q.
@@ -35,10 +31,8 @@ fn least(sets: &[u64], numbers: &[u32], actions: usize, q: u8) -> u32
         return 0;
     }
     let mut best = LONGEST;
-    let mut i = 0;
-    while i < actions {
+    for i in 0..actions {
         best = shorter(sets, numbers, i, q, best);
-        i += 1;
     }
     best
 }
@@ -48,10 +42,7 @@ pub fn fill(numbers: &mut [u32], sets: &[u64], actions: usize)
     requires { (length sets.now ≡ 384) × (length numbers.old ≡ 1220) × (actions ≤ 64) }
     ensures { LeastPut sets.now actions 64 numbers.old numbers.new }
 {
-    let mut q = 0u8;
-    while q < facts::BITS {
-        let minutes = least(sets, numbers, actions, q);
-        numbers[NumberTable::LEAST + q as usize] = minutes;
-        q += 1;
+    for q in 0..facts::BITS {
+        numbers[NumberTable::LEAST + q as usize] = least(sets, numbers, actions, q);
     }
 }

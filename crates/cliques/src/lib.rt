@@ -4,7 +4,7 @@
 mod apart; // for each fact the facts whose adders never overlap its own
 mod least; // for each fact the least minutes of an adder
 
-ghost use Rattle.std.specs.Prelude.{◌≡◌, true, ◌≤◌, ◌<◌, length};
+ghost use Rattle.std.specs.Prelude.{◌≡◌, true, ◌≤◌, ◌<◌, length, IfSome};
 ghost use Rattle.facts.specs.FactSet.{has};
 ghost use Rattle.tables.specs.Tables.{Numbers};
 ghost use Rattle.landmarks.specs.Tables.{KeptBefore};
@@ -13,6 +13,7 @@ ghost use Rattle.cliques.specs.Cliques.{Remaining, CliqueMinutes};
 ghost use Rattle.cliques.specs.Marked.{MarkedTables};
 
 use job::Job;
+use landmarks::members::Members;
 use tables::Frame;
 use tables::layout::{NumberTable, SetTable};
 use tables::longer::longer;
@@ -32,27 +33,28 @@ pub fn fill(sets: &mut [u64], numbers: &mut [u32], times: &[u32], frame: Frame, 
     least::fill(numbers, sets, frame.actions);
 }
 
-// The fact of a set with the most minutes, 64 where the set is empty.
-fn longest(numbers: &[u32], set: u64) -> u8
+// The fact of a set with the most minutes, none where the set is empty.
+fn longest(numbers: &[u32], set: u64) -> Option<u8>
     requires { length numbers.now ≡ 1220 }
-    ensures { result < 64 → has set result ≡ true }
+    ensures { IfSome result (λ q. (q < 64) × (has set q ≡ true)) }
 {
-    let mut best = facts::next(set, 0);
-    let mut q = best;
-    while q < facts::BITS {
-        best = longer(numbers, NumberTable::LEAST, 1, best, q);
-        q = facts::next(set, q + 1);
+    let mut best = None;
+    for q in Members::of(set) {
+        best = Some(match best {
+            Some(first) => longer(numbers, NumberTable::LEAST, 1, first, q),
+            None => q,
+        });
     }
     best
 }
 
-// The allowed fact to be taken next, 64 where none is left or the sum is above a day.
-fn pick(numbers: &[u32], allowed: u64, sum: u64) -> u8
+// The allowed fact to be taken next, none where none is left or the sum is above a day.
+fn pick(numbers: &[u32], allowed: u64, sum: u64) -> Option<u8>
     requires { length numbers.now ≡ 1220 }
-    ensures { result < 64 → (has allowed result ≡ true) × (sum ≤ 1440) }
+    ensures { IfSome result (λ q. (q < 64) × (has allowed q ≡ true) × (sum ≤ 1440)) }
 {
     if DAY < sum {
-        return facts::BITS;
+        return None;
     }
     longest(numbers, allowed)
 }
@@ -74,11 +76,9 @@ pub fn minutes(sets: &[u64], numbers: &[u32], set: u64) -> u64
 {
     let mut sum: u64 = 0;
     let mut allowed = set;
-    let mut q = pick(numbers, allowed, sum);
-    while q < facts::BITS {
-        sum = job::wide(numbers[NumberTable::LEAST + q as usize]) + sum;
+    while let Some(q) = pick(numbers, allowed, sum) {
+        sum += u64::from(numbers[NumberTable::LEAST + q as usize]);
         allowed = remaining(sets, allowed, q);
-        q = pick(numbers, allowed, sum);
     }
     sum
 }

@@ -1,3 +1,4 @@
+pub mod Ranges
 pub mod AddedOnTheWay
 pub mod Sums
 mod PoolMinutes

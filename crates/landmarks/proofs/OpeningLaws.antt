@@ -4,8 +4,7 @@ use Prim.Native.Nat.{ℕ, ◌+◌, ◌*◌, ◌≤◌, ◌<◌}
 use mathlib.Core.Path.{◌≡◌, ap}
 use mathlib.Core.List.{List, ◌++◌}
 use native.Mathlib.Omega.{arith}
-use lib.ListN.{length, set, get_or}
-use lib.Seq.{get_or-set_other}
+use lib.ListN.{length, get_or}
 use Rattle.job.specs.Job.{Action, Job}
 use Rattle.timeline.specs.Step.{Step}
 use Rattle.timeline.proofs.Places.{place_append}
@@ -13,11 +12,10 @@ use Rattle.times.proofs.PlanSteps.{own_action, needs_at_lem}
 use Rattle.earliest.specs.Numbers.{set_number}
 use Rattle.times.specs.Earliest.{action_of}
 use Rattle.tables.specs.declared.Frame.{Frame}
-use Rattle.tables.specs.Tables.{needs_at, pool_use_at, Describes}
+use Rattle.tables.specs.Tables.{needs_at, Describes}
 use Rattle.landmarks.specs.Bounds.{TimesBound}
 use Rattle.landmarks.specs.Tables.{KeptBefore}
-use Rattle.landmarks.specs.Openings.{OpensAt, OpenTo, OpeningsTo, OpeningsPut}
-use Rattle.landmarks.proofs.TableLaws.{put_on, at_most_on}
+use Rattle.landmarks.specs.Openings.{OpensAt, OpenTo, OpeningsTo}
 
 -- what a user of the pool needs holds at its start, so the start is not before the time of that
 pub opens_of_tables : (J : Job) (sets numbers times : List ℕ) (frame : Frame) → Describes J sets numbers frame
@@ -40,29 +38,6 @@ opens_of_tables J sets numbers times frame described b K origin bounds pool minu
     let same : set_number times (needs_at sets x.number) frame.facts
     ≡ set_number times (action_of J x.number).needs J.facts = rw (each.needs, described.facts) in
     omega arith
-
--- ---- action after action
-pub open_on : (sets numbers times : List ℕ) (frame : Frame) (pool i best less : ℕ) → less ≤ best
-    → (0 < pool_use_at numbers i pool → less ≤ set_number times (needs_at sets i) frame.facts)
-    → OpenTo sets numbers times frame i pool best → OpenTo sets numbers times frame (i + 1) pool less
-open_on sets numbers times frame pool =
-    at_most_on (λ k. 0 < pool_use_at numbers k pool) (λ k. set_number times (needs_at sets k) frame.facts)
-
--- ---- pool after pool
--- what is before the openings and the openings of the other pools stay
-open_still : (sets times : List ℕ) (frame : Frame) → frame.actions ≤ 64 → (ys : List ℕ) (at v pool minute : ℕ)
-    → 1152 ≤ at → pool < 4 → OpenTo sets ys times frame frame.actions pool minute
-    → OpenTo sets (set ys at v) times frame frame.actions pool minute
-open_still sets times frame few ys at v pool minute behind inside opening i known uses =
-    let apart : i * 9 + 1 + pool ≡ at → ⊥ = λ e. omega arith in
-    opening i known (rw (get_or-set_other ys at (i * 9 + 1 + pool) v 0 apart) at uses)
-
-pub openings_on : (sets times : List ℕ) (frame : Frame) (xs ys : List ℕ) (pool v : ℕ) → frame.actions ≤ 64 → pool < 4
-    → OpenTo sets ys times frame frame.actions pool v → OpeningsPut sets times frame pool xs ys
-    → OpeningsPut sets times frame (pool + 1) xs (set ys (1152 + pool) v)
-openings_on sets times frame xs ys pool v few =
-    put_on 1152 1220 4 (λ ys. OpenTo sets ys times frame frame.actions) (omega arith) (open_still sets times frame few)
-    xs ys pool v
 
 -- the openings stay while cliques are filled behind them
 pub openings_kept : (sets sets' numbers numbers' times : List ℕ) (frame : Frame) → frame.actions ≤ 64

@@ -14,23 +14,13 @@ use Rattle.job.specs.Resources.{store_amount}
 use Rattle.job.specs.Job.{Job}
 use Rattle.timeline.proofs.Tests.{le_or_lt}
 use Rattle.times.specs.Earliest.{action_of}
-use Rattle.tables.specs.Tables.{adds_at, DescribesEach, Numbers}
+use Rattle.tables.specs.Tables.{adds_at, DescribesEach}
 use Rattle.landmarks.specs.Landmarks.{sum_over, Shares}
 use Rattle.landmarks.specs.Tables.{KeptBefore, PutFrom, share_from, row_at, weight_at, Within, WithinAll}
 
 -- ---- entries before a place stay, also when less is asked
 pub kept_less : (less at n : ℕ) (xs ys : List ℕ) → less ≤ at → KeptBefore at n xs ys → KeptBefore less n xs ys
 kept_less less at n xs ys l kept = record { size = kept.size; same = λ k m. kept.same k (omega arith) }
-
-pub numbers_kept : (at actions : ℕ) (xs ys : List ℕ) → 576 ≤ at → KeptBefore at 1220 xs ys → Numbers xs actions
-    → Numbers ys actions
-numbers_kept at actions xs ys l kept numbers =
-    let few = numbers.few in
-    record {
-      number_count = kept.size;
-      few = few;
-      short = λ i known. rw (kept.same (i * 9) (omega arith)) (numbers.short i known);
-    }
 
 -- ---- sums of the same shares
 sum_same : (f g : ℕ → ℕ) (n set : ℕ) → ((p : ℕ) → p < n → f p ≡ g p) → sum_over f n set ≡ sum_over g n set

@@ -8,7 +8,7 @@ use mathlib.Core.List.{List}
 use native.Mathlib.Nat.{eq-or-lt_of_le}
 use native.Mathlib.Omega.{arith}
 use lib.ListN.{length, set, length-set}
-use lib.Seq.{get_or-set_same, get_or-set_other}
+use lib.Seq.{get_or-set_other}
 use Rattle.facts.specs.FactSet.{has, union, single, Subset, NextFact}
 use Rattle.facts.proofs.Membership.{has_zero}
 use Rattle.facts.proofs.SetLaws.{in_union_left, in_union_right, in_union_cases, union_zero_left}
@@ -18,7 +18,7 @@ use Rattle.times.specs.Earliest.{action_of}
 use Rattle.times.proofs.Singles.{only_in_single}
 use Rattle.tables.specs.Tables.{DescribesEach, needs_at}
 use Rattle.landmarks.specs.Landmarks.{Landmarks, marks_of, sum_over}
-use Rattle.landmarks.specs.Tables.{mark_at, KeptBefore, PutBehind, Begun, Through, ByAdders, ClosedAt, Closed}
+use Rattle.landmarks.specs.Tables.{mark_at, KeptBefore, Begun, ByAdders, ClosedAt, Closed}
 use Rattle.landmarks.proofs.AddedOnTheWay.{mark_of}
 
 -- ---- over the facts of a set, from one to the next
@@ -35,18 +35,22 @@ module _ (marks : ℕ → ℕ) (set : ℕ) where
       ∙ marks_skip n m (omega arith) (λ k a b. none k a (omega arith)))
       (eq-or-lt_of_le l)
 
-  pub marks_at_first : (q : ℕ) → NextFact set 0 q → marks_of marks q set ≡ 0
+  pub marks_first : (n : ℕ) → n ≡ 0 → 0 ≡ marks_of marks n set
   unfolding marks_of
-  marks_at_first q next = marks_skip 0 q (omega arith) next.skipped
+  marks_first n none = rw none
 
-  pub marks_on : (q r : ℕ) → q < 64 → has set q ≡ true → NextFact set (q + 1) r
-      → marks_of marks r set ≡ union (marks q) (marks_of marks q set)
+  -- the next fact from n on is q; none is left from n on
+  pub marks_on : (n q : ℕ) → n ≤ 64 → q < 64 → NextFact set n q
+      → marks_of marks (q + 1) set ≡ union (marks q) (marks_of marks n set)
   unfolding marks_of
-  marks_on q r l here next =
+  marks_on n q within l next =
       let e : q + 1 ≡ suc q = omega arith in
-      marks_skip (q + 1) r (next.onward (omega arith)) next.skipped
-      ∙ ap (λ (n : ℕ). marks_of marks n set) e
-      ∙ ap (λ (b : Bool). union (cond b (marks q) 0) (marks_of marks q set)) here
+      ap (λ (n : ℕ). marks_of marks n set) e
+      ∙ ap (λ (b : Bool). union (cond b (marks q) 0) (marks_of marks q set)) (next.found l)
+      ∙ ap (union (marks q)) (marks_skip n q (next.onward within) next.skipped)
+
+  pub marks_rest : (n : ℕ) → n ≤ 64 → NextFact set n 64 → marks_of marks 64 set ≡ marks_of marks n set
+  marks_rest n within next = marks_skip n 64 within next.skipped
 
 module _ (share : ℕ → ℕ) (set : ℕ) where
   sum_skip : (n m : ℕ) → n ≤ m → ((k : ℕ) → n ≤ k → k < m → has set k ≡ false)
@@ -61,18 +65,21 @@ module _ (share : ℕ → ℕ) (set : ℕ) where
       omega arith)
       (eq-or-lt_of_le l)
 
-  pub sum_at_first : (q : ℕ) → NextFact set 0 q → sum_over share q set ≡ 0
+  pub sum_first : (n : ℕ) → n ≡ 0 → 0 ≡ sum_over share n set
   unfolding sum_over
-  sum_at_first q next = sum_skip 0 q (omega arith) next.skipped
+  sum_first n none = rw none
 
-  pub sum_on : (q r : ℕ) → q < 64 → has set q ≡ true → NextFact set (q + 1) r
-      → sum_over share r set ≡ share q + sum_over share q set
+  pub sum_on : (n q : ℕ) → n ≤ 64 → q < 64 → NextFact set n q
+      → sum_over share (q + 1) set ≡ share q + sum_over share n set
   unfolding sum_over
-  sum_on q r l here next =
+  sum_on n q within l next =
       let e : q + 1 ≡ suc q = omega arith in
-      sum_skip (q + 1) r (next.onward (omega arith)) next.skipped
-      ∙ ap (λ (n : ℕ). sum_over share n set) e
-      ∙ ap (λ (b : Bool). cond b (share q) 0 + sum_over share q set) here
+      ap (λ (n : ℕ). sum_over share n set) e
+      ∙ ap (λ (b : Bool). cond b (share q) 0 + sum_over share q set) (next.found l)
+      ∙ ap (λ (rest : ℕ). share q + rest) (sum_skip n q (next.onward within) next.skipped)
+
+  pub sum_rest : (n : ℕ) → n ≤ 64 → NextFact set n 64 → sum_over share 64 set ≡ sum_over share n set
+  sum_rest n within next = sum_skip n 64 within next.skipped
 
 -- ---- entries before a place stay
 pub kept_at_first : (at n : ℕ) (xs : List ℕ) → length xs ≡ n → KeptBefore at n xs xs
@@ -88,45 +95,6 @@ kept_when_set at n xs ys k v l kept =
 
 pub kept_again : (at n : ℕ) (xs ys zs : List ℕ) → KeptBefore at n xs ys → KeptBefore at n ys zs → KeptBefore at n xs zs
 kept_again at n xs ys zs a b = record { size = b.size; same = λ k l. b.same k l ∙ a.same k l }
-
--- ---- entries put one by one behind a place
-pub put_at_first : (at size : ℕ) (Asked : List ℕ → ℕ → ℕ → Type 0) (xs : List ℕ) → length xs ≡ size
-    → PutBehind at size 0 Asked xs xs
-put_at_first at size Asked xs long =
-    record { kept = kept_at_first at size xs long; put = λ k l. absurd (omega arith) }
-
--- what is asked of one of the entries stays while another is put
-pub put_on : (at size count : ℕ) (Asked : List ℕ → ℕ → ℕ → Type 0) → at + count ≤ size
-    → ((ys : List ℕ) (place v k entry : ℕ) → at ≤ place → k < count → Asked ys k entry → Asked (set ys place v) k entry)
-    → (xs ys : List ℕ) (n v : ℕ) → n < count → Asked ys n v → PutBehind at size n Asked xs ys
-    → PutBehind at size (n + 1) Asked xs (set ys (at + n) v)
-put_on at size count Asked fits stays xs ys n v below here before =
-    let long = before.kept.size in
-    record {
-      kept = kept_when_set at size xs ys (at + n) v (omega arith) before.kept;
-      put = λ k l.
-          stays ys (at + n) v k _ (omega arith) (omega arith)
-          (⊎_elim
-          (λ e.
-          let same : k ≡ n = omega arith in
-          let put = get_or-set_same ys (at + n) v 0 (omega arith) in
-          rw (same, put) here)
-          (λ less.
-          let other : at + k ≡ at + n → ⊥ = λ e. omega arith in
-          rw (get_or-set_other ys (at + n) (at + k) v 0 other) (before.put k (omega arith)))
-          (eq-or-lt_of_le l));
-    }
-
--- ---- the adders of a fact, one after the other
-module _ (sets : List ℕ) (q : ℕ) where
-  pub adders_at_first : (all : ℕ) → ByAdders sets 0 q all
-  adders_at_first all i l = absurd (omega arith)
-
-  pub adders_on : (i all r : ℕ) → Through sets i q all r → ByAdders sets i q all → ByAdders sets (i + 1) q r
-  adders_on i all r through before k l adds =
-      ⊎_elim (λ e. let same : k ≡ i = omega arith in rw same (through.adder (rw same at adds)))
-      (λ less n h. before k (omega arith) adds n (through.inside n h))
-      (eq-or-lt_of_le l)
 
 -- ---- the test of one fact
 module _ (sets : List ℕ) (actions start q : ℕ) where
@@ -185,11 +153,3 @@ landmarks_when_closed J sets numbers actions start count described closed =
         (in_union_cases (single q) (marks_of (mark_at sets) 64 (needs_at sets i)) p
         ((closed q below).others i inside in_adds p mark)) in
         (m.0, m.1, ap (λ (set : ℕ). has set m.0) (sym d.needs) ∙ m.2, m.3)
-
--- ---- action after action: a number that is at most what each action takes that it is about
-pub at_most_on : (about : ℕ → Type 0) (takes : ℕ → ℕ) (i best less : ℕ) → less ≤ best → (about i → less ≤ takes i)
-    → ((k : ℕ) → k < i → about k → best ≤ takes k) → (k : ℕ) → k < i + 1 → about k → less ≤ takes k
-at_most_on about takes i best less fewer here before k l holds =
-    ⊎_elim (λ e. let same : k ≡ i = omega arith in rw same (here (rw same at holds)))
-    (λ lower. let rest = before k (omega arith) holds in omega arith)
-    (eq-or-lt_of_le l)

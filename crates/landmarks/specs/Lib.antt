@@ -1,3 +1,4 @@
+pub mod Members
 pub mod Landmarks
 pub mod Bounds
 pub mod Tables

@@ -4,6 +4,7 @@ ghost use Rattle.std.specs.Prelude.{◌≡◌, true, ◌≤◌, ◌<◌, length}
 ghost use Rattle.landmarks.specs.Landmarks.{marks_of};
 ghost use Rattle.landmarks.specs.Tables.{mark_at, KeptBefore, Begun, Through, ByAdders, ClosedAt, Closed};
 
+use crate::members::Members;
 use tables::layout::SetTable;
 
 // Rounds end when nothing changes; after so many the table is tested as it is.
@@ -15,10 +16,8 @@ pub fn of_set(sets: &[u64], set: u64) -> u64
     ensures { result ≡ marks_of (mark_at sets.now) 64 set }
 {
     let mut all: u64 = 0;
-    let mut q = facts::next(set, 0);
-    while q < facts::BITS {
+    for q in Members::of(set) {
         all = facts::union(sets[SetTable::MARKS + q as usize], all);
-        q = facts::next(set, q + 1);
     }
     all
 }
@@ -40,10 +39,8 @@ fn of_adders(sets: &[u64], actions: usize, q: u8) -> u64
     ensures { ByAdders sets.now actions q result }
 {
     let mut all = facts::ALL;
-    let mut i = 0;
-    while i < actions {
+    for i in 0..actions {
         all = through(sets, i, q, all);
-        i += 1;
     }
     all
 }
@@ -68,14 +65,7 @@ fn closed(sets: &[u64], actions: usize, start: u64) -> bool
     requires { (length sets.now ≡ 384) × (actions ≤ 64) }
     ensures { result ≡ true → Closed sets.now actions start }
 {
-    let mut q = 0u8;
-    while q < facts::BITS {
-        if !closed_at(sets, actions, start, q) {
-            return false;
-        }
-        q += 1;
-    }
-    true
+    (0..facts::BITS).all(|q| closed_at(sets, actions, start, q))
 }
 
 // Puts one set for each fact: nothing for a fact at the start, all for the others.
@@ -83,10 +73,8 @@ fn begin(sets: &mut [u64], start: u64, all: u64)
     requires { length sets.old ≡ 384 }
     ensures { Begun 64 start all sets.old sets.new }
 {
-    let mut q = 0u8;
-    while q < facts::BITS {
+    for q in 0..facts::BITS {
         sets[SetTable::MARKS + q as usize] = facts::when(!facts::has(start, q), all);
-        q += 1;
     }
 }
 
@@ -108,23 +96,10 @@ fn round(sets: &mut [u64], actions: usize) -> bool
     ensures { KeptBefore 256 384 sets.old sets.new }
 {
     let mut changed = false;
-    let mut q = 0u8;
-    while q < facts::BITS {
-        changed = lower(sets, actions, q) | changed;
-        q += 1;
+    for q in 0..facts::BITS {
+        changed |= lower(sets, actions, q);
     }
     changed
-}
-
-// How many rounds are left; none after one that changed nothing.
-fn rounds_left(changed: bool, left: usize) -> usize
-    requires { 0 < left }
-    ensures { result < left }
-{
-    if changed {
-        return left - 1;
-    }
-    0
 }
 
 // Rounds until nothing changes.
@@ -133,9 +108,10 @@ fn search(sets: &mut [u64], actions: usize, start: u64)
     ensures { KeptBefore 256 384 sets.old sets.new }
 {
     begin(sets, start, facts::ALL);
-    let mut left = ROUNDS;
-    while 0 < left {
-        left = rounds_left(round(sets, actions), left);
+    for _ in 0..ROUNDS {
+        if !round(sets, actions) {
+            break;
+        }
     }
 }
 

@@ -29,11 +29,7 @@ fn sooner(
     if numbers[i * NumberTable::ROW + NumberTable::POOLS + pool] == 0 {
         return best;
     }
-    let time = set_time::set_time(times, frame.facts, sets[i * SetTable::ROW]);
-    if time < best {
-        return time;
-    }
-    best
+    best.min(set_time::set_time(times, frame.facts, sets[i * SetTable::ROW]))
 }
 
 // The earliest time of what an action needs that uses the pool.
@@ -44,10 +40,8 @@ fn opening(sets: &[u64], numbers: &[u32], times: &[u32], frame: Frame, pool: usi
         frame.actions pool result }
 {
     let mut best = set_time::LATEST;
-    let mut i = 0;
-    while i < frame.actions {
+    for i in 0..frame.actions {
         best = sooner(sets, numbers, times, frame, i, pool, best);
-        i += 1;
     }
     best
 }
@@ -58,10 +52,7 @@ pub fn fill(numbers: &mut [u32], sets: &[u64], times: &[u32], frame: Frame)
     ensures { OpeningsPut sets.now times.now frame 4
         numbers.old numbers.new }
 {
-    let mut pool = 0;
-    while pool < Job::POOLS {
-        let minute = opening(sets, numbers, times, frame, pool);
-        numbers[NumberTable::OPENINGS + pool] = minute;
-        pool += 1;
+    for pool in 0..Job::POOLS {
+        numbers[NumberTable::OPENINGS + pool] = opening(sets, numbers, times, frame, pool);
     }
 }

@@ -7,18 +7,12 @@ ghost use Rattle.landmarks.specs.Landmarks.{sum_over};
 ghost use Rattle.landmarks.specs.Tables.{KeptBefore, PutFrom, share_from, row_at, weight_at};
 ghost use Rattle.landmarks.specs.Tables.{WithinAt, Within, WithinAll};
 
+use crate::members::Members;
 use job::Job;
 use tables::layout::{NumberTable, SetTable};
 
 // Parts of a unit: a share of one unit among up to ten facts is a whole number of them.
 pub const SCALE: u64 = 2520;
-
-// The largest share that an entry can have, and how many different ones there are.
-const LARGEST: u32 = 4_294_967_295;
-
-const LARGEST_WIDE: u64 = LARGEST as u64;
-
-const SPAN: u64 = LARGEST_WIDE + 1;
 
 // The sum over the facts of a set of the numbers from place `at` on.
 pub fn sum(numbers: &[u32], at: usize, set: u64) -> u64
@@ -26,10 +20,8 @@ pub fn sum(numbers: &[u32], at: usize, set: u64) -> u64
     ensures { (result ≡ sum_over (share_from numbers.now at) 64 set) × (result ≤ 2 ^ 38) }
 {
     let mut all: u64 = 0;
-    let mut p = facts::next(set, 0);
-    while p < facts::BITS {
-        all = job::wide(numbers[at + p as usize]) + all;
-        p = facts::next(set, p + 1);
+    for p in Members::of(set) {
+        all += u64::from(numbers[at + p as usize]);
     }
     all
 }
@@ -40,13 +32,11 @@ fn weight(numbers: &[u32], i: usize, row: usize) -> u64
     ensures { (result ≡ weight_at numbers.now i row) × (result ≤ 2 ^ 40) }
 {
     if row < Job::STORES {
-        return job::wide(numbers[i * NumberTable::ROW + NumberTable::STORES + row]);
+        return u64::from(numbers[i * NumberTable::ROW + NumberTable::STORES + row]);
     }
     if row < NumberTable::STEPS_ROW {
-        let amount = job::wide(
-            numbers[i * NumberTable::ROW + NumberTable::POOLS + (row - Job::STORES)],
-        );
-        return amount * job::wide(numbers[i * NumberTable::ROW]);
+        let amount = numbers[i * NumberTable::ROW + NumberTable::POOLS + (row - Job::STORES)];
+        return u64::from(amount) * u64::from(numbers[i * NumberTable::ROW]);
     }
     1
 }
@@ -67,62 +57,27 @@ fn within(sets: &[u64], numbers: &[u32], actions: usize, start: u64, row: usize)
     requires { (length sets.now ≡ 384) × Numbers numbers.now actions × (row < 9) }
     ensures { result ≡ true → Within sets.now numbers.now actions start row }
 {
-    let mut i = 0;
-    while i < actions {
-        if !within_at(sets, numbers, start, row, i) {
-            return false;
-        }
-        i += 1;
-    }
-    true
+    (0..actions).all(|i| within_at(sets, numbers, start, row, i))
 }
 
-// How many facts a set has.
-fn count(set: u64) -> u64
-    ensures { result ≤ 64 }
-{
-    let mut all: u64 = 0;
-    let mut p = facts::next(set, 0);
-    while p < facts::BITS {
-        all += 1;
-        p = facts::next(set, p + 1);
-    }
-    all
-}
-
-// The weight in equal shares, rounded down.
-fn share(weight: u64, among: u64) -> u32
+// The weight in equal shares, rounded down, or the largest that an entry can have.
+fn share(weight: u64, among: u32) -> u32
     requires { weight ≤ 2 ^ 40 }
 {
     if among == 0 {
         return 0;
     }
-    let part = SCALE * weight / among;
-    if LARGEST_WIDE < part {
-        return LARGEST;
-    }
-    (part % SPAN) as u32
+    u32::try_from(SCALE * weight / u64::from(among)).unwrap_or(u32::MAX)
 }
 
-// Leaves the lesser of an entry and a share.
-fn lower_at(numbers: &mut [u32], at: usize, share: u32)
-    requires { (length numbers.old ≡ 1220) × (at < 1220) }
-    ensures { KeptBefore at 1220 numbers.old numbers.new }
-{
-    if share < numbers[at] {
-        numbers[at] = share;
-    }
-}
-
-// The same for the facts of a set, from place `at` on.
+// Leaves the lesser of an entry and a share for the facts of a set, from place `at` on.
 fn lower(numbers: &mut [u32], at: usize, set: u64, share: u32)
     requires { (length numbers.old ≡ 1220) × (at + 64 ≤ 1220) }
     ensures { KeptBefore at 1220 numbers.old numbers.new }
 {
-    let mut p = facts::next(set, 0);
-    while p < facts::BITS {
-        lower_at(numbers, at + p as usize, share);
-        p = facts::next(set, p + 1);
+    for p in Members::of(set) {
+        let entry = at + p as usize;
+        numbers[entry] = numbers[entry].min(share);
     }
 }
 
@@ -131,11 +86,7 @@ fn put(numbers: &mut [u32], at: usize, number: u32)
     requires { (length numbers.old ≡ 1220) × (at + 64 ≤ 1220) }
     ensures { PutFrom 64 at number numbers.old numbers.new }
 {
-    let mut k = 0;
-    while k < NumberTable::SHARE_ROW {
-        numbers[at + k] = number;
-        k += 1;
-    }
+    numbers[at..at + NumberTable::SHARE_ROW].fill(number);
 }
 
 // Puts the least share of each fact into the row.
@@ -144,13 +95,11 @@ fn search(numbers: &mut [u32], sets: &[u64], actions: usize, start: u64, row: us
     ensures { KeptBefore (row_at row) 1220 numbers.old numbers.new }
 {
     let at = NumberTable::SHARES + row * NumberTable::SHARE_ROW;
-    put(numbers, at, LARGEST);
-    let mut i = 0;
-    while i < actions {
+    put(numbers, at, u32::MAX);
+    for i in 0..actions {
         let new = facts::difference(sets[i * SetTable::ROW + SetTable::ADDS], start);
-        let part = share(weight(numbers, i, row), count(new));
+        let part = share(weight(numbers, i, row), new.count_ones());
         lower(numbers, at, new, part);
-        i += 1;
     }
 }
 
@@ -173,9 +122,7 @@ pub fn fill(numbers: &mut [u32], sets: &[u64], actions: usize, start: u64)
     ensures { KeptBefore 576 1220 numbers.old numbers.new
         × WithinAll sets.now numbers.new actions start }
 {
-    let mut row = 0;
-    while row < NumberTable::SHARE_ROWS {
+    for row in 0..NumberTable::SHARE_ROWS {
         fill_row(numbers, sets, actions, start, row);
-        row += 1;
     }
 }

@@ -1,19 +1,19 @@
 -- `begin` meets its contract: entries before those of the facts stay.
-use Rattle.landmarks.proofs.TableLaws.{kept_at_first, kept_when_set}
-use native.Mathlib.Omega.{arith}
+use Prim.Native.Nat.{ℕ, ◌+◌, ◌≤◌}
+use mathlib.Core.Path.{◌≡◌}
+use mathlib.Core.List.{List}
+use lib.ListN.{length}
+use borrow.Rule.Slice.PartMut.{put_mid}
+use Rattle.std.proofs.Common.{rules, arith}
+use Rattle.std.proofs.lemmas.Grind.{common_steps}
+use Rattle.std.proofs.lemmas.List.{places}
+use Rattle.landmarks.specs.Tables.{KeptBefore}
 use Rattle.cliques.proofs.apart.begin.Goals as goal
 
-pub loop-q-init : goal.loop-q-init
-loop-q-init c = (omega arith, kept_at_first 320 384 _ c.requires)
-
-pub bounds-sets-q : goal.bounds-sets-q
-bounds-sets-q c = let n = c.loop-q.invariant.1.size in omega arith
-
-pub loop-q-preserved : goal.loop-q-preserved
-loop-q-preserved c = (omega arith, kept_when_set 320 384 _ _ _ _ (omega arith) c.loop-q.invariant.1)
-
-pub shape_of-sets : goal.shape_of-sets
-shape_of-sets c = let h = c.requires in let n = c.loop-q.invariant.1.size in omega arith
+kept_when_part_put : (at count n : ℕ) (xs part : List ℕ) → length xs ≡ n → length part ≡ count → at + count ≤ n
+    → KeptBefore at n xs (put_mid at count xs part)
+kept_when_part_put at count n xs part size long fits =
+    record { size = grind (arith, common_steps); same = λ j l. search (rules, places) }
 
 pub returns : goal.returns
-returns c = c.loop-q.invariant.1
+returns c = kept_when_part_put 320 64 384 _ _ c.requires (grind (arith, common_steps)) (omega arith)

@@ -1,36 +1,26 @@
--- `lessen` meets its contract: the set is taken away from the facts below q.
-use mathlib.Core.Path.{◌≡◌}
-use Rattle.cliques.proofs.FillLaws.{lessened_at_first, lessened_on}
-use native.Mathlib.Omega.{arith}
+-- `lessen` meets its contract: the set is taken away from the facts before the next one.
+use mathlib.Core.Path.{ap, ◌∙◌}
+use Rattle.landmarks.specs.declared.members.Members.{Members}
+use Rattle.cliques.proofs.FillLaws.{lessened_at_first, lessened_on, lessened_rest}
 use Rattle.cliques.proofs.apart.lessen.Goals as goal
 
 pub loop-q-init : goal.loop-q-init
 loop-q-init c =
-    let next = c.next-q.ensures in
-    (next.within, lessened_at_first _ _ _ _ c.requires next)
-
-pub bounds-sets-q : goal.bounds-sets-q
-bounds-sets-q c = let n = c.loop-q.invariant.1.kept.size in omega arith
-
-pub bounds-sets-q-in-loop-q : goal.bounds-sets-q-in-loop-q
-bounds-sets-q-in-loop-q c = let n = c.loop-q.invariant.1.kept.size in omega arith
-
-pub loop-q-smaller : goal.loop-q-smaller
-loop-q-smaller c = let next = c.next-q-in-loop-q.ensures.onward (omega arith) in omega arith
+    let gives = c.into_iter-q-iterator.ensures.into_iter_gives in
+    let made = c.of-q-items.ensures in (
+      ap (λ (s : Members). s.set) gives ∙ made.0,
+      lessened_at_first _ _ _ _ c.requires (ap (λ (s : Members). s.from) gives ∙ made.1),
+    )
 
 pub loop-q-preserved : goal.loop-q-preserved
 loop-q-preserved c =
-    let next = c.next-q-in-loop-q.ensures in (
-      next.within,
-      lessened_on _ _ _ _ c.loop-q.q _ (omega arith) c.difference.ensures.0 c.loop-q.invariant.1 _ next,
+    let inv = c.loop-q.invariant in
+    let step = c.in-Some.ensures.steps in (
+      step.0 ∙ inv.0,
+      rw step.1.2
+          (lessened_on _ _ _ _ _ c.in-Some.q _ step.1.0 c.difference.ensures.0 inv.1 (rw inv.0 at step.1.1)),
     )
-
-pub shape_of-sets : goal.shape_of-sets
-shape_of-sets c =
-    let h = c.requires in let n = c.loop-q.invariant.1.kept.size in omega arith
 
 pub returns : goal.returns
 returns c =
-    let l = c.loop-q.invariant.0 in
-    let all : c.loop-q.q ≡ 64 = omega arith in
-    rw all at c.loop-q.invariant.1
+    let inv = c.loop-q.invariant in lessened_rest _ _ _ _ _ (rw inv.0 at c.in-None.ensures.steps.1) inv.1

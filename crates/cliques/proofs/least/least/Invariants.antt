@@ -1,10 +1,6 @@
 -- `least` meets its contract: the number is at most the minutes of each of the first i actions that adds q.
-use Prim.Native.Nat.{◌-◌, ◌≤◌}
 use Rattle.cliques.specs.Cliques.{LeastTo}
 use Rattle.cliques.proofs.least.least.Given as goal
 
 abbrev pub invariant-loop-i : goal.invariant-loop-i
-invariant-loop-i l = (l.i ≤ l.actions) × LeastTo l.sets l.numbers l.i l.q l.best
-
-abbrev pub decreases-loop-i : goal.decreases-loop-i
-decreases-loop-i l = l.actions - l.i
+invariant-loop-i l = LeastTo l.sets l.numbers l.i l.q l.best

@@ -4,23 +4,11 @@ use mathlib.Core.Path.{sym, ap, ◌∙◌}
 use borrow.Author.Tests.{eqb-true}
 use Rattle.facts.specs.FactSet.{has, union}
 use Rattle.landmarks.proofs.TableLaws.{closed_at_hand, closed_by_adders}
-use native.Mathlib.Omega.{arith}
 use Rattle.landmarks.proofs.marks.closed_at.Goals as goal
-
-pub bounds-sets-q : goal.bounds-sets-q
-bounds-sets-q c = let h = c.requires in omega arith
 
 pub returns-then-has : goal.returns-then-has
 returns-then-has c =
     λ e. closed_at_hand c.args.sets.now _ _ _ (eqb-true _ _ e)
-
-pub single-requires : goal.single-requires
-single-requires c =
-    c.requires.2
-
-pub of_adders-requires : goal.of_adders-requires
-of_adders-requires c =
-    let h = c.requires in (h.0, h.1)
 
 pub returns : goal.returns
 returns c =

@@ -1,35 +1,27 @@
--- `of_set` meets its contract: the landmarks of the facts below q are found.
-use mathlib.Core.Path.{◌≡◌, sym, ap, ◌∙◌}
+-- `of_set` meets its contract: the landmarks of the facts before the next one are found.
+use mathlib.Core.Path.{sym, ap, ◌∙◌}
 use Rattle.facts.specs.FactSet.{union}
-use Rattle.landmarks.proofs.TableLaws.{marks_at_first, marks_on}
-use native.Mathlib.Omega.{arith}
+use Rattle.landmarks.specs.declared.members.Members.{Members}
+use Rattle.landmarks.proofs.TableLaws.{marks_first, marks_on, marks_rest}
 use Rattle.landmarks.proofs.marks.of_set.Goals as goal
 
 pub loop-q-init : goal.loop-q-init
 loop-q-init c =
-    let next = c.next-q.ensures in
-    (next.within, next.found, sym (marks_at_first _ _ _ next))
-
-pub bounds-sets-q : goal.bounds-sets-q
-bounds-sets-q c =
-    let h = c.requires in omega arith
-
-pub loop-q-smaller : goal.loop-q-smaller
-loop-q-smaller c = let next = c.next-q-in-loop-q.ensures.onward (omega arith) in omega arith
+    let gives = c.into_iter-q-iterator.ensures.into_iter_gives in
+    let made = c.of-q-items.ensures in
+    (ap (λ (s : Members). s.set) gives ∙ made.0, marks_first _ _ _ (ap (λ (s : Members). s.from) gives ∙ made.1))
 
 pub loop-q-preserved : goal.loop-q-preserved
 loop-q-preserved c =
     let inv = c.loop-q.invariant in
-    let next = c.next-q-in-loop-q.ensures in (
-      next.within,
-      next.found,
-      c.union-all.ensures.0 ∙ ap (union _) inv.2
-          ∙ sym (marks_on _ _ c.loop-q.q _ (omega arith) (inv.1 (omega arith)) next),
+    let step = c.in-Some.ensures.steps in (
+      step.0 ∙ inv.0,
+      rw step.1.2
+          (c.union-all.ensures.0 ∙ ap (union _) inv.1
+          ∙ sym (marks_on _ _ _ c.in-Some.q c.loop-q.q-iterator.within step.1.0 (rw inv.0 at step.1.1))),
     )
 
 pub returns : goal.returns
 returns c =
     let inv = c.loop-q.invariant in
-    let l = inv.0 in
-    let all : c.loop-q.q ≡ 64 = omega arith in
-    rw all at inv.2
+    inv.1 ∙ sym (marks_rest _ _ _ c.loop-q.q-iterator.within (rw inv.0 at c.in-None.ensures.steps.1))

@@ -1,49 +1,31 @@
--- `sum` meets its contract: the numbers of the facts below p are added up.
+-- `sum` meets its contract: the numbers of the facts before the next one are added up.
 use Prim.Native.Nat.{◌+◌}
-use mathlib.Core.Path.{◌≡◌, sym, ap₂, ◌∙◌}
-use Rattle.landmarks.proofs.TableLaws.{sum_at_first, sum_on}
+use mathlib.Core.Path.{sym, ap, ◌∙◌}
 use native.Mathlib.Omega.{arith}
+use Rattle.landmarks.specs.Tables.{share_from}
+use Rattle.landmarks.specs.declared.members.Members.{Members}
+use Rattle.landmarks.proofs.TableLaws.{sum_first, sum_on, sum_rest}
 use Rattle.landmarks.proofs.shares.sum.Goals as goal
 
 pub loop-p-init : goal.loop-p-init
 loop-p-init c =
-    let next = c.next-p.ensures in
-    (next.within, next.found, sym (sum_at_first _ _ _ next), omega arith)
-
-pub overflow_add-at : goal.overflow_add-at
-overflow_add-at c =
-    let h = c.requires in omega arith
-
-pub bounds-numbers-at : goal.bounds-numbers-at
-bounds-numbers-at c =
-    let h = c.requires in omega arith
-
-pub overflow_add-all : goal.overflow_add-all
-overflow_add-all c =
-    let small = c.wide-all.ensures.1 in
-    let inv = c.loop-p.invariant in
-    let most = inv.3 in omega arith
-
-pub loop-p-smaller : goal.loop-p-smaller
-loop-p-smaller c = let next = c.next-p-in-loop-p.ensures.onward (omega arith) in omega arith
+    let gives = c.into_iter-p-iterator.ensures.into_iter_gives in
+    let made = c.of-p-items.ensures in (
+      ap (λ (s : Members). s.set) gives ∙ made.0,
+      sum_first _ _ _ (ap (λ (s : Members). s.from) gives ∙ made.1),
+      omega arith,
+    )
 
 pub loop-p-preserved : goal.loop-p-preserved
 loop-p-preserved c =
     let inv = c.loop-p.invariant in
-    let most = inv.3 in
-    let small = c.wide-all.ensures.1 in
-    let next = c.next-p-in-loop-p.ensures in
-    let onward = next.onward (omega arith) in (
-      next.within,
-      next.found,
-      ap₂ ◌+◌ c.wide-all.ensures.0 inv.2 ∙ sym (sum_on _ _ c.loop-p.p _ (omega arith) (inv.1 (omega arith)) next),
-      omega arith,
-    )
+    let step = c.in-Some.ensures.steps in
+    let more = sum_on (share_from c.args.numbers.now c.args.at) c.args.set _ c.in-Some.p c.loop-p.p-iterator.within step.1.0
+    (rw inv.0 at step.1.1) in
+    let small = c.type_inv.numbers (c.args.at + c.in-Some.p) in
+    (step.0 ∙ inv.0, rw step.1.2 (omega arith), omega arith)
 
 pub returns : goal.returns
 returns c =
     let inv = c.loop-p.invariant in
-    let l = inv.0 in
-    let most = inv.3 in
-    let all : c.loop-p.p ≡ 64 = omega arith in
-    (rw all at inv.2, omega arith)
+    (inv.1 ∙ sym (sum_rest _ _ _ c.loop-p.p-iterator.within (rw inv.0 at c.in-None.ensures.steps.1)), omega arith)
