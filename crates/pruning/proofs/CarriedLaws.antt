@@ -1,6 +1,6 @@
--- What a state carries back from its minute, read off its sets; what the undecided actions add, and when they start.
+-- What a state carries back from its minute, read off its sets.
 -- Assumes nothing.
-use Prim.Native.Nat.{ℕ, ◌+◌, ◌-◌, ◌≤◌, ◌<◌}
+use Prim.Native.Nat.{ℕ, ◌≤◌, ◌<◌}
 use mathlib.Core.Path.{◌≡◌, sym, ap, ap₂, subst, ◌∙◌}
 use mathlib.Core.Bool.{Bool, true, false, cond, not, ◌&&◌}
 use mathlib.Core.Logic.{inl, inr, ⊎_elim}
@@ -9,7 +9,7 @@ use native.Mathlib.Omega.{arith}
 use lib.Dec.{eqb, leb, ltb}
 use borrow.Author.Tests.{eq-eqb, ltb-true, leb-true, lt-ltb, le-leb, not-false}
 use Rattle.lists.proofs.Bools.{and_left, and_right}
-use Rattle.facts.specs.FactSet.{has, union, difference, NextFact}
+use Rattle.facts.specs.FactSet.{has, union, difference}
 use Rattle.facts.proofs.SetLaws.{in_union_left, in_union_right, in_union_cases, in_difference_parts}
 use Rattle.job.specs.Job.{Job}
 use Rattle.timeline.specs.Step.{Step, step_of}
@@ -18,54 +18,15 @@ use Rattle.regression.specs.Wanted.{added_between}
 use Rattle.timeline.proofs.Tests.{not_both, false_unless, and_both, le_or_lt}
 use Rattle.regression.proofs.Gathered.{in_cond, in_cond_parts, in_union_of, in_union_of_from}
 use Rattle.regression.proofs.Carried.{EventBefore, NeededBefore, Carried}
-use Rattle.tables.specs.Tables.{Describes, adds_at, duration_at, chosen, kept_of, KeepsKept}
+use Rattle.tables.specs.Tables.{Describes, chosen, kept_of, KeepsKept}
 use Rattle.tables.specs.declared.Frame.{Frame}
 use Rattle.states.specs.declared.state.State.{State}
 use Rattle.states.specs.Minutes.{runs_into}
 use Rattle.states.specs.States.{Stands}
 use Rattle.states.specs.Moves.{NoEventBetween}
-use Rattle.states.proofs.CandidateLaws.{below_next}
 use Rattle.states.proofs.Events.{untouched_between}
 use Rattle.states.proofs.Chosen.{step_at, place_of_chosen, chosen_at_place}
 use Rattle.pruning.specs.Carried.{AddsOf, LatestStart}
-
--- ---- what the undecided actions add
-module _ (sets : List ℕ) (left : ℕ) where
-  pub adds_at_first : (next : ℕ) → NextFact left 0 next → AddsOf sets left next 0
-  adds_at_first next n a fact l member h = not_both member (n.skipped a (omega arith) l)
-
-  pub adds_on : (k next set r : ℕ) → r ≡ union (adds_at sets k) set → NextFact left (k + 1) next → AddsOf sets left k set
-      → AddsOf sets left next r
-  adds_on k next set r e n before a fact l member h =
-      ap (λ (s : ℕ). has s fact) e
-      ∙ below_next left k next a n l member
-      (λ less. in_union_right (adds_at sets k) set fact (before a fact less member h))
-      (λ same. in_union_left (adds_at sets k) set fact (rw same at h))
-
--- ---- when they would start
-module _ (numbers : List ℕ) (left t from : ℕ) where
-  pub latest_at_first : (next : ℕ) → from < t → NextFact left 0 next → LatestStart numbers left t from next from
-  latest_at_first next early n =
-      record {
-        not_before = omega arith;
-        before = early;
-        starts = λ a l member h. not_both member (n.skipped a (omega arith) l);
-      }
-
-  pub latest_on : (k next m r start : ℕ) → start ≡ t - duration_at numbers k
-      → (m ≤ r) × (r < t) × (start < t → start ≤ r) → NextFact left (k + 1) next
-      → LatestStart numbers left t from k m → LatestStart numbers left t from next r
-  latest_on k next m r start e later n before =
-      let first = before.not_before in
-      let on = later.0 in
-      record {
-        not_before = omega arith;
-        before = later.1;
-        starts = λ a l member h.
-            below_next left k next a n l member
-            (λ less. let s = before.starts a less member h in omega arith)
-            (λ same. let s = later.2 (rw (e, ← same) h) in rw same (rw e at s));
-      }
 
 module _ (J : Job) (sets numbers : List ℕ) (frame : Frame) (described : Describes J sets numbers frame)
     (few : frame.actions ≤ 64) (st : State) (stands : Stands J frame st) (keeps : KeepsKept frame st.steps)

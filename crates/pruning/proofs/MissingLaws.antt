@@ -28,13 +28,6 @@ use Rattle.states.specs.States.{Stands, DeadFor}
 use Rattle.states.proofs.Chosen.{length_chosen, chosen_splits, since_new}
 use Rattle.pruning.specs.Missing.{Marked, Fresh, Missing, fits, UsedBefore}
 
--- what the code computes of the state is what is missing
-pub missing_is : (sets : List ℕ) (frame : Frame) (st : State) (must marks missing : ℕ)
-    → must ≡ union st.wanted st.at.across → marks ≡ marks_of (mark_at sets) 64 must
-    → missing ≡ difference marks frame.given → Missing sets frame st missing
-missing_is sets frame st must marks missing u m d =
-    d ∙ ap (λ (set : ℕ). difference set frame.given) (m ∙ ap (marks_of (mark_at sets) 64) u)
-
 module _ (J : Job) (sets numbers : List ℕ) (frame : Frame) (described : Describes J sets numbers frame)
     (marked : Marked J sets numbers frame) (st : State) (keeps : KeepsKept frame st.steps)
     (stands : Stands J frame st) (fresh : Fresh st) (not_before : frame.first ≤ st.minute) where

@@ -1,8 +1,8 @@
 -- Sums of what the chosen steps use, and the tests of pools and stores.
 -- Assumes nothing.
 use Prim.Native.Nat.{ℕ, suc, ◌+◌, ◌*◌, ◌^◌, ◌≤◌, ◌<◌}
-use mathlib.Core.Path.{◌≡◌, refl, sym, ap, ap₂, ◌∙◌}
-use mathlib.Core.Bool.{Bool, true, false, cond, ◌&&◌}
+use mathlib.Core.Path.{◌≡◌, sym, ap, ap₂, ◌∙◌}
+use mathlib.Core.Bool.{Bool, true, cond, ◌&&◌}
 use mathlib.Core.List.{List, ◌∷◌}
 use mathlib.Core.Logic.{⊎_elim}
 use native.Mathlib.Nat.{eq-or-lt_of_le, le_refl}
@@ -10,16 +10,15 @@ use native.Mathlib.Omega.{arith}
 use lib.Dec.{leb, ltb}
 use lib.ListN.{length, get_or, set, length-set, replicate, get_or-replicate}
 use lib.Seq.{get_or-set_same, get_or-set_other}
-use borrow.Author.Tests.{lt-ltb, le-ltb, ltb-true, leb-true, le-leb}
-use Rattle.lists.proofs.Below.{below_more, below_found, below_same}
+use borrow.Author.Tests.{lt-ltb, ltb-true, leb-true, le-leb}
+use Rattle.lists.proofs.Below.{below_same}
 use Rattle.lists.proofs.Bools.{and_left, and_right}
 use Rattle.job.specs.Resources.{handover, HandoversOf}
 use Rattle.job.specs.Job.{Job}
-use Rattle.job.specs.Valid.{over}
 use Rattle.timeline.specs.Step.{Step, step_of}
 use Rattle.timeline.specs.Timeline.{has_share}
 use Rattle.timeline.proofs.Shares.{share_reads, share_when}
-use Rattle.timeline.proofs.Tests.{or_neither, same_test, and_both}
+use Rattle.timeline.proofs.Tests.{same_test, and_both}
 use Rattle.tables.specs.Tables.{DescribesAction, Describes, duration_at}
 use Rattle.tables.specs.declared.Frame.{Frame}
 use Rattle.states.specs.declared.amounts.Uses.{Uses}
@@ -70,8 +69,6 @@ pub record AddedTo (numbers : List ℕ) (at : ℕ) (counts : ℕ → Bool) (sums
     pub rest : (j : ℕ) → k ≤ j → get_or out j 0 ≡ get_or sums j 0
 
 module _ (numbers : List ℕ) (at : ℕ) (counts : ℕ → Bool) (sums : List ℕ) where
-  pub added_at_first : length sums ≡ 4 → AddedTo numbers at counts sums 0 sums
-  added_at_first four = record { four = four; done = λ j l. absurd (omega arith); rest = λ j l. refl }
 
   pub added_on : (k amount : ℕ) (out : List ℕ) → k < 4 → amount ≡ cond (counts k) (get_or numbers (at + k) 0) 0
       → amount < 2 ^ 32 → AddedTo numbers at counts sums k out
@@ -96,17 +93,6 @@ module _ (numbers : List ℕ) (at : ℕ) (counts : ℕ → Bool) (sums : List �
         rest = λ j m.
             let other : j ≡ k → ⊥ = λ d. omega arith in
             get_or-set_other out k j (amount + get_or out k 0) 0 other ∙ a.rest j (omega arith);
-      }
-
-  pub added_all : (out : List ℕ) → AddedTo numbers at counts sums 4 out → Added numbers at counts sums out
-  added_all out a =
-      record {
-        each = λ k l. (a.done k l).0;
-        more = λ n s.
-            record {
-              four = a.four;
-              small = λ k l. let d = a.done k l in let e = d.0 in let f = d.1 in let b = s.small k l in omega arith;
-            };
       }
 
 -- ---- one step more
@@ -186,21 +172,6 @@ module _ (numbers handovers : List ℕ) (t i start : ℕ) (uses r : Uses)
       record { more = joined_small; joins = λ J sets described waits L. use_joined J sets described waits L }
 
 -- ---- the tests of pools and stores
-
--- one limit after the other
-module _ (numbers : List ℕ) (at : ℕ) (sums limits : List ℕ) (k limit amount : ℕ) (e : limit ≡ get_or limits k 0)
-    (f : amount ≡ get_or numbers (at + k) 0) where
-  pub exceeds_found : (count : ℕ) → k < count → limit < get_or sums k 0 + amount
-      → exceeds numbers at sums limits count ≡ true
-  exceeds_found count l h =
-      below_found count (λ (j : ℕ). over (get_or limits j 0) (get_or sums j 0 + get_or numbers (at + j) 0)) k l
-      (lt-ltb _ _ (rw (e, f) at h))
-
-  pub exceeds_not_yet : get_or sums k 0 + amount ≤ limit → exceeds numbers at sums limits k ≡ false
-      → exceeds numbers at sums limits (k + 1) ≡ false
-  exceeds_not_yet h before =
-      below_more k (λ (j : ℕ). over (get_or limits j 0) (get_or sums j 0 + get_or numbers (at + j) 0))
-      ∙ or_neither (le-ltb _ _ (rw (e, f) at h)) before
 
 module _ (J : Job) (sets numbers : List ℕ) (frame : Frame) (described : Describes J sets numbers frame) (L : List Step)
     (i : ℕ) (known : i < frame.actions) where

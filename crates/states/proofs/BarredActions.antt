@@ -39,7 +39,7 @@ use Rattle.regression.specs.DeadEnd.{Until}
 use Rattle.regression.proofs.Gathered.{in_union_of, in_union_of_from, in_cond_parts}
 use Rattle.regression.proofs.WantedFacts.{wanted_from_stop_on}
 use Rattle.regression.proofs.DeadEnds.{dead_when_clashing, dead_when_pool_exceeded, dead_when_store_exceeded}
-use Rattle.regression.proofs.DeadEnds.{dead_when_too_many, dead_when_not_sole_provider, dead_when_not_blocked}
+use Rattle.regression.proofs.DeadEnds.{dead_when_not_sole_provider, dead_when_not_blocked}
 use Rattle.regression.proofs.DeadEnds.{dead_when_wanted_deleted}
 use Rattle.tables.specs.Tables.{Describes, Known, clashes, clashes_at, deletes_at, adds_at, needs_at, chosen, from_of}
 use Rattle.tables.specs.declared.Frame.{Frame}
@@ -47,7 +47,7 @@ use Rattle.states.specs.declared.state.State.{State}
 use Rattle.states.specs.Minutes.{runs_into}
 use Rattle.states.specs.Amounts.{exceeds_pools, exceeds_stores}
 use Rattle.states.specs.States.{Stands, DeadFor, next_step}
-use Rattle.states.proofs.Chosen.{length_chosen, chosen_of_job, chosen_known}
+use Rattle.states.proofs.Chosen.{chosen_of_job, chosen_known}
 
 module _ (J : Job) (sets numbers : List ℕ) (frame : Frame) (described : Describes J sets numbers frame) (st : State)
     (known_steps : Known frame.actions st.steps) (stands : Stands J frame st) (i : ℕ) (known : i < frame.actions)
@@ -94,12 +94,6 @@ module _ (J : Job) (sets numbers : List ℕ) (frame : Frame) (described : Descri
       let d = (described.each y.number small).positive in
       let stop : y.stop ≡ y.start + (action_of J y.number).duration = ap (λ (z : Step). z.stop) own in
       omega arith
-
-  -- ---- the number of steps
-  pub barred_when_full : 32 ≤ st.steps.count → Result
-  barred_when_full l =
-      let n = length_chosen J st.steps st.steps.count in
-      dead_when_too_many J (from_of frame) frame.goal frame.horizon _ (x ∷ L) (omega arith)
 
   -- ---- it deletes a wanted fact
   pub barred_when_deleting : meets (deletes_at sets i) st.wanted ≡ true → Result

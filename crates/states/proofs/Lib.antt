@@ -1,6 +1,5 @@
 pub mod Looks
 pub mod AmountLaws
-mod PutOff
 pub mod Chosen
 pub mod Events
 mod BarredActions

@@ -9,14 +9,6 @@ use Rattle.facts.specs.FactSet.{union, difference}
 use Rattle.timeline.specs.Step.{Step}
 use Rattle.timeline.specs.Timeline.{deleted_at, added_at, held}
 
-same_minute : (place : ℕ) → 0 < place % 64 → (place - 1) / 64 ≡ place / 64
-same_minute place l =
-    let d = div-add-mod place 64 in
-    let e = div-add-mod (place - 1) 64 in
-    let m : place % 64 < 64 = mod-lt place (omega arith) in
-    let n : (place - 1) % 64 < 64 = mod-lt (place - 1) (omega arith) in
-    omega arith
-
 next_minute : (place : ℕ) → 0 < place → place % 64 ≡ 0 → place / 64 ≡ suc ((place - 1) / 64)
 next_minute place l z =
     let d = div-add-mod place 64 in
@@ -25,12 +17,6 @@ next_minute place l z =
     omega arith
 
 module _ (S : ℕ) (P : List Step) (place before : ℕ) (holds : before ≡ held S P ((place - 1) / 64)) where
-  pub held_at_first : place ≡ 0 → before ≡ held S P (place / 64)
-  held_at_first z = let e : (place - 1) / 64 ≡ place / 64 = rw z in rw (← e) holds
-
-  pub held_in_minute : 0 < place % 64 → before ≡ held S P (place / 64)
-  held_in_minute l = rw (← same_minute place l) holds
-
   pub held_a_minute_later : 0 < place → place % 64 ≡ 0 → (gone added : ℕ) → gone ≡ deleted_at (place / 64) P
       → added ≡ added_at (place / 64) P → union (difference before gone) added ≡ held S P (place / 64)
   held_a_minute_later l z gone added g a =

@@ -1,20 +1,19 @@
 -- No listed plan begins with steps of which one is spare.
 -- Assumes nothing.
-use Prim.Native.Nat.{ℕ, ◌+◌, ◌<◌}
-use mathlib.Core.Path.{◌≡◌, sym, ap, ◌∙◌, subst}
-use mathlib.Core.Logic.{inl, inr, ⊎_elim}
+use Prim.Native.Nat.{ℕ, ◌<◌}
+use mathlib.Core.Path.{sym, ap, ◌∙◌, subst}
+use mathlib.Core.Logic.{⊎_elim}
 use mathlib.Core.List.{List, ◌++◌}
 use native.Mathlib.Omega.{arith}
 use lib.ListN.{get_or}
-use Rattle.facts.specs.FactSet.{has, difference}
-use Rattle.facts.proofs.SetLaws.{in_difference}
+use Rattle.facts.specs.FactSet.{has}
 use Rattle.job.specs.Job.{Job}
 use Rattle.timeline.specs.Step.{Step}
 use Rattle.timeline.specs.Places.{Member}
-use Rattle.timeline.proofs.Tests.{decided, not_both}
+use Rattle.timeline.proofs.Tests.{not_both}
 use Rattle.timeline.proofs.Places.{place_append}
 use Rattle.timeline.proofs.Permutations.{permutation_sym, permutation_member}
-use Rattle.tables.specs.Tables.{Describes, DescribesAction, duration_at}
+use Rattle.tables.specs.Tables.{Describes, DescribesAction}
 use Rattle.tables.specs.declared.Frame.{Frame}
 use Rattle.tables.specs.declared.Steps.{Steps}
 use Rattle.leaf.specs.Order.{placed, in_order}
@@ -22,42 +21,11 @@ use Rattle.leaf.proofs.InOrder.{in_order_permutes}
 use Rattle.listing.specs.Begins.{Begins}
 use Rattle.listing.proofs.ListedPlans.{listed_by_steps}
 use Rattle.listing.proofs.Tails.{critical_in_time}
-use Rattle.tails.specs.Tails.{TailTable, AtMostEach}
+use Rattle.tails.specs.Tails.{TailTable}
 use Rattle.walker.specs.Walk.{AskedOf, Kept, NoneBegins}
-use Rattle.walker.specs.Spare.{AddedWhile, AddedByOther, Alone, Spare}
+use Rattle.walker.specs.Spare.{Spare}
 use Rattle.walker.proofs.TailLaws.{tails_of_table}
 use Rattle.walker.proofs.Dropping.{rest_of_steps}
-
-module _ (sets numbers : List ℕ) (steps : Steps) (b from stop : ℕ) where
-  -- what is left of a set without what one step more adds
-  pub alone_next : (k set other r : ℕ) → Alone sets numbers steps k b from stop set
-      → AddedWhile sets numbers (get_or steps.numbers k 0) (get_or steps.starts k 0) b from stop other
-      → r ≡ difference set other → Alone sets numbers steps (k + 1) b from stop r
-  alone_next k set other r before added is p adds lacks =
-      ⊎_elim
-      (λ in_set.
-      ⊎_elim (λ h. record { step = k; below = omega arith; so = added p h })
-      (λ out. not_both (ap (λ (s : ℕ). has s p) is ∙ in_difference set other p in_set out) lacks)
-      (decided (has other p)))
-      (λ out.
-      let a = before p adds out in
-      let l = a.below in
-      record { step = a.step; below = omega arith; so = a.so })
-      (decided (has set p))
-
-pub spare_when : (sets numbers tails : List ℕ) (horizon : ℕ) (steps : Steps) (i stop set least : ℕ)
-    → stop ≡ get_or steps.starts i 0 + duration_at numbers (get_or steps.numbers i 0)
-    → Alone sets numbers steps steps.count (get_or steps.numbers i 0) (get_or steps.starts i 0) stop set
-    → AtMostEach tails set least → horizon < stop + least → Spare sets numbers tails horizon steps i
-spare_when sets numbers tails horizon steps i stop set least is alone most late p adds =
-    ⊎_elim (λ h. let l = most p h in inr (omega arith))
-    (λ out.
-    inl
-    (subst
-    (λ (s : ℕ).
-    AddedByOther sets numbers steps steps.count (get_or steps.numbers i 0) (get_or steps.starts i 0) s p)
-    is (alone p adds out)))
-    (decided (has set p))
 
 module _ (J : Job) (file sets numbers : List ℕ) (frame : Frame) (asked : AskedOf J file frame)
     (described : Describes J sets numbers frame) (tails : List ℕ)

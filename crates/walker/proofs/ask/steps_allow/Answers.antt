@@ -7,6 +7,3 @@ returns-then-not-none_spare c =
     λ e J asked described table kept.
     let found = c.none_spare.ensures (c.if-not-none_spare.true) in
     none_begins_when_spare J _ _ _ c.args.frame asked described _ table c.args.steps kept found.0 found.1 found.2
-
-pub returns : goal.returns
-returns c = λ e J asked described table kept. c.rules_allow.ensures e J asked kept

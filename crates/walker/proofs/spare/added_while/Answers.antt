@@ -14,13 +14,6 @@ use Rattle.walker.proofs.spare.added_while.Goals as goal
 pub returns-then-a-b : goal.returns-then-a-b
 returns-then-a-b c = λ p h. not_both h (has_zero p)
 
-pub stop-own-requires : goal.stop-own-requires
-stop-own-requires c = let h = c.requires in (omega arith, h.3)
-
-pub bounds-sets-a : goal.bounds-sets-a
-bounds-sets-a c =
-    let h = c.requires in omega arith
-
 pub returns : goal.returns
 returns c =
     λ p h.
