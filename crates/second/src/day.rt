@@ -83,22 +83,19 @@ impl<'d> State<'d> {
         requires { number < 8 }
     {
         let action = &self.day.actions[number];
-        for (i, other) in self.day.actions.iter().enumerate() {
-            let clash = i == number || hinders(action, other) || hinders(other, action);
-            if 0 < self.runs[i].left && clash {
-                return true;
-            }
-        }
-        false
+        self.day.actions.iter().zip(&self.runs).enumerate().any(|(i, (other, run))| {
+            0 < run.left && (i == number || hinders(action, other) || hinders(other, action))
+        })
     }
 
     // What the running steps, and those that ended less than its handover ago, leave free of the pool.
     fn free(&self, pool: usize) -> u32
         requires { pool < 4 }
     {
+        let handover = self.day.handovers[pool];
         let mut amount = self.day.pools[pool];
-        for (i, action) in self.day.actions.iter().enumerate() {
-            amount = self.runs[i].leaves(amount, action.pools[pool], self.day.handovers[pool]);
+        for (action, run) in self.day.actions.iter().zip(&self.runs) {
+            amount = run.leaves(amount, action.pools[pool], handover);
         }
         amount
     }
@@ -148,8 +145,8 @@ impl<'d> State<'d> {
     {
         let action = &self.day.actions[number];
         self.runs[number].left = u32::from(action.duration);
-        for (k, used) in action.stores.iter().enumerate() {
-            self.stores[k] = self.stores[k].saturating_sub(*used);
+        for (left, used) in self.stores.iter_mut().zip(&action.stores) {
+            *left = left.saturating_sub(*used);
         }
         self.steps = self.steps.saturating_sub(1);
         self
@@ -159,12 +156,13 @@ impl<'d> State<'d> {
     pub fn tick(mut self) -> Self {
         let mut deletes = 0u64;
         let mut adds = 0u64;
-        for (i, action) in self.day.actions.iter().enumerate() {
-            if self.runs[i].left == 1 {
+        let actions = &self.day.actions;
+        for (run, action) in self.runs.iter_mut().zip(actions) {
+            if run.left == 1 {
                 deletes |= action.deletes;
                 adds |= action.adds;
             }
-            self.runs[i] = self.runs[i].a_minute_later();
+            *run = run.a_minute_later();
         }
         self.facts = (self.facts ^ (self.facts & deletes)) | adds;
         self
