@@ -40,7 +40,12 @@ fn equal_actions(actions: usize, deadline: u16, needs: u64) -> Job {
 // The actions that need fact 1 never start; those that need nothing may start at any minute.
 pub fn too_large(rt: &impl Print) -> io::Result<()> {
     output::heading(rt, "What is too large for the second planner.")?;
-    show::shortest(rt, "8 actions, deadline 60", equal_actions(8, 60, 0b10), Err(NoPlan))?;
+    show::shortest(
+        rt,
+        "8 actions, deadline 60",
+        equal_actions(8, 60, 0b10),
+        Err(NoPlan),
+    )?;
     show::shortest(rt, "9 actions", equal_actions(9, 60, 0b10), Err(TooLarge))?;
     show::shortest(rt, "deadline 61", equal_actions(8, 61, 0b10), Err(TooLarge))?;
     show::shortest(rt, "512 plans", equal_actions(1, 9, 0), Err(NoPlan))?;

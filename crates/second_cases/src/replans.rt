@@ -43,13 +43,42 @@ fn kept_steps(rt: &impl Print) -> io::Result<()> {
 fn deadlines(rt: &impl Print) -> io::Result<()> {
     output::heading(rt, "Begun: case 6, action 0 at 0, goal {0}.")?;
     let plan = [0u8, 0, 0];
-    begun(rt, "deadline 2, minute 1", days::case_6(2), &plan, 1, 0b01, Err(NoPlan))?;
-    begun(rt, "deadline 4, minute 3", days::case_6(4),
+    begun(
+        rt,
+        "deadline 2, minute 1",
+        days::case_6(2),
+        &plan,
+        1,
+        0b01,
+        Err(NoPlan),
+    )?;
+    begun(
+        rt,
+        "deadline 4, minute 3",
+        days::case_6(4),
         &plan,
         3,
-        0b01, Ok(4))?;
-    begun(rt, "deadline 4, minute 4", days::case_6(4), &plan, 4, 0b01, Err(NoPlan))?;
-    begun(rt, "deadline 4, minute 5", days::case_6(4), &plan, 5, 0b01, Err(NoPlan))
+        0b01,
+        Ok(4),
+    )?;
+    begun(
+        rt,
+        "deadline 4, minute 4",
+        days::case_6(4),
+        &plan,
+        4,
+        0b01,
+        Err(NoPlan),
+    )?;
+    begun(
+        rt,
+        "deadline 4, minute 5",
+        days::case_6(4),
+        &plan,
+        5,
+        0b01,
+        Err(NoPlan),
+    )
 }
 
 // Action 0 runs until minute 2. In case 4 it holds 1 of the pool until then, in case 7 it has used 2 of the store.
@@ -61,11 +90,24 @@ fn resources(rt: &impl Print) -> io::Result<()> {
     begun(rt, "pool of 1", days::case_4(4, 1), &plan, 1, 0b11, Ok(4))?;
     begun(rt, "pool of 2", days::case_4(4, 2), &plan, 1, 0b11, Ok(3))?;
     begun(rt, "store of 4", days::case_7(4), &plan, 1, 0b11, Ok(3))?;
-    begun(rt, "store of 3", days::case_7(3), &plan, 1, 0b11, Err(NoPlan))?;
-    begun(rt, "store of 3, goal {0}", days::case_7(3),
+    begun(
+        rt,
+        "store of 3",
+        days::case_7(3),
         &plan,
         1,
-        0b01, Ok(2))
+        0b11,
+        Err(NoPlan),
+    )?;
+    begun(
+        rt,
+        "store of 3, goal {0}",
+        days::case_7(3),
+        &plan,
+        1,
+        0b01,
+        Ok(2),
+    )
 }
 
 // Action 1 needs fact 0, which action 0 deletes. So it cannot start while action 0 runs, and after that fact 0 is gone.
@@ -102,7 +144,15 @@ fn steps(rt: &impl Print) -> io::Result<()> {
     let job = parts::with_two(job, second, third);
     begun(rt, "30 kept and two more", job, &plan, 30, 0b100, Ok(32))?;
     begun(rt, "31 kept and one more", job, &plan, 31, 0b010, Ok(32))?;
-    begun(rt, "31 kept and two more", job, &plan, 31, 0b100, Err(NoPlan))
+    begun(
+        rt,
+        "31 kept and two more",
+        job,
+        &plan,
+        31,
+        0b100,
+        Err(NoPlan),
+    )
 }
 
 pub fn days(rt: &impl Print) -> io::Result<()> {

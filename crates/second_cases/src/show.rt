@@ -2,12 +2,12 @@
 // the case expects, the line says so.
 use job::Job;
 use second::NoMakespan;
-use std::fmt;
-use std::io;
+use std::{fmt, io};
 
 // The least end, or why it is not told.
 pub type Makespan = Result<u32, NoMakespan>;
 
+#[derive(Clone, Copy)]
 struct Told(Makespan);
 
 impl fmt::Display for Told {
