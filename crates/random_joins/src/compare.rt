@@ -30,7 +30,7 @@ pub fn refusal(day: Day) -> Option<Refusal> {
 }
 
 // The plan of a first call joined by a second one, unless the first was refused.
-fn way<F: FnOnce(&[u8], &mut [u8]) -> Day>(
+fn both_joins<F: FnOnce(&[u8], &mut [u8]) -> Day>(
     first: Day,
     plan: &[u8; Plan::BYTES],
     second: F,
@@ -48,13 +48,23 @@ fn way<F: FnOnce(&[u8], &mut [u8]) -> Day>(
 fn from_the_left(job: Job, [a, b, c]: [&[u8]; 3], out: &mut [u8]) -> Way {
     let mut both = [FILL; Plan::BYTES];
     let first = joining::join(job, a, b, &mut both);
-    way(first, &both, |plan, out| joining::join(job, plan, c, out), out)
+    way(
+        first,
+        &both,
+        |plan, out| joining::join(job, plan, c, out),
+        out,
+    )
 }
 
 fn from_the_right(job: Job, [a, b, c]: [&[u8]; 3], out: &mut [u8]) -> Way {
     let mut both = [FILL; Plan::BYTES];
     let first = joining::join(job, b, c, &mut both);
-    way(first, &both, |plan, out| joining::join(job, a, plan, out), out)
+    way(
+        first,
+        &both,
+        |plan, out| joining::join(job, a, plan, out),
+        out,
+    )
 }
 
 // Whether two answers are the same.

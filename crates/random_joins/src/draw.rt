@@ -55,7 +55,13 @@ pub fn plan<'b>(job: &Job, seed: u64, bytes: &'b mut [u8; Plan::BYTES]) -> &'b [
     let steps = usize::from(draw::number(seed, STEPS, 18));
     let apart = 1 + draw::number(seed, MINUTES, 6);
     let mut start = 0u8;
-    for (k, step) in bytes.as_chunks_mut::<{ Plan::STEP }>().0.iter_mut().take(steps).enumerate() {
+    for (k, step) in bytes
+        .as_chunks_mut::<{ Plan::STEP }>()
+        .0
+        .iter_mut()
+        .take(steps)
+        .enumerate()
+    {
         *step = [
             draw::number(draw::part(seed, k as u64), ACTION, actions),
             start,

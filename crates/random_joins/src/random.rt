@@ -42,7 +42,10 @@ impl Counts {
         if day.end == u32::from(job.deadline) {
             one_more(&mut self.late);
         }
-        match (is_too_long(found.left.first), is_too_long(found.right.first)) {
+        match (
+            is_too_long(found.left.first),
+            is_too_long(found.right.first),
+        ) {
             (true, false) => one_more(&mut self.first_two),
             (false, true) => one_more(&mut self.last_two),
             (true, true) => one_more(&mut self.both),

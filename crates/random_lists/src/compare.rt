@@ -4,9 +4,8 @@ use compared::{NoEnd, Outcome, unless_differs};
 use job::Job;
 use job::refusal::Refusal;
 use lent::first_steps;
-use second::NoMakespan;
-use second::list;
 use second::list::Listed;
+use second::{NoMakespan, list};
 use timeline::Plan;
 
 // The most plans of a list that is compared: 128 places of 97 bytes.

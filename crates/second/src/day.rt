@@ -79,10 +79,7 @@ fn hinders(x: &Action, y: &Action) -> bool {
 
 impl<'d> State<'d> {
     // Whether a step of the action, or of one that it clashes with, is running.
-    fn clashes(&self, number: usize) -> bool
-        requires { number < 8 }
-    {
-        let action = &self.day.actions[number];
+    fn clashes(&self, number: usize, action: &Action) -> bool {
         self.day.actions.iter().zip(&self.runs).enumerate().any(|(i, (other, run))| {
             0 < run.left && (i == number || hinders(action, other) || hinders(other, action))
         })
@@ -134,7 +131,7 @@ impl<'d> State<'d> {
         u32::from(action.duration) <= left
             && 0 < self.steps
             && within(action.needs, self.facts)
-            && !self.clashes(number)
+            && !self.clashes(number, action)
             && !self.exceeds_pools(action)
             && !self.exceeds_stores(action)
     }

@@ -1,6 +1,6 @@
 // The walk over all plans that stop by a horizon, in the order of a list: a plan that begins another comes first, and an
 // earlier start, then a smaller action, before others.
-ghost use Rattle.std.specs.Prelude.{◌<◌, ◌≤◌};
+ghost use Rattle.std.specs.Prelude.{◌≤◌};
 
 use crate::day::State;
 use crate::steps;
@@ -29,21 +29,6 @@ impl<'d> Chosen<'d> {
         self.end == task.horizon
             && self.state.minutes_later(left).goal_holds()
             && !steps::any_dropped(task, &self.steps)
-    }
-
-    // The steps with one more, of this action, that starts now.
-    fn longer(&self, number: usize, now: u32) -> Self
-        requires { number < 8 }
-    {
-        let length = u32::from(self.state.day.actions[number].duration);
-        Chosen {
-            state: self.state.started(number),
-            steps: self.steps.with(Step {
-                number: number as u8,
-                start: (now % 65_536) as u16,
-            }),
-            end: self.end.max(now.wrapping_add(length)),
-        }
     }
 }
 
@@ -74,7 +59,16 @@ fn walk(task: &Task, mut chosen: Chosen, left: u32, undecided: usize, list: &mut
     list.decisions -= 1;
     let number = actions - undecided;
     if chosen.state.may_start(number, left) {
-        let longer = chosen.longer(number, task.horizon.saturating_sub(left));
+        let now = task.horizon.saturating_sub(left);
+        let length = u32::from(task.before.day.actions[number].duration);
+        let longer = Chosen {
+            state: chosen.state.started(number),
+            steps: chosen.steps.with(Step {
+                number: number as u8,
+                start: (now % 65_536) as u16,
+            }),
+            end: chosen.end.max(now.wrapping_add(length)),
+        };
         visit(task, &longer, left, list);
         walk(task, longer, left, undecided - 1, list);
     }
