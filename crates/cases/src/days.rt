@@ -54,7 +54,10 @@ fn print_steps(rt: &impl Print, slice: &[u8], day: Day) -> io::Result<()> {
     if day.steps == 0 {
         print!(rt; " no steps")?;
     }
-    for [action, low, high] in first_steps(slice, day.steps).as_chunks::<{ Plan::STEP }>().0 {
+    for [action, low, high] in first_steps(slice, day.steps)
+        .as_chunks::<{ Plan::STEP }>()
+        .0
+    {
         print!(rt; " {action}@{}", u16::from_le_bytes([*low, *high]))?;
     }
     Ok(())

@@ -40,7 +40,9 @@ fn print_kept(
 
 // The steps at the front of a plan, at most 32, that start before the minute.
 fn begun(plan: &[u8], minute: u32) -> &[[u8; Plan::STEP]] {
-    let steps = first_steps(plan, Plan::STEPS).as_chunks::<{ Plan::STEP }>().0;
+    let steps = first_steps(plan, Plan::STEPS)
+        .as_chunks::<{ Plan::STEP }>()
+        .0;
     let count = steps
         .iter()
         .take_while(|[_, low, high]| u32::from(u16::from_le_bytes([*low, *high])) < minute)

@@ -18,7 +18,9 @@ pub fn asked_of(seed: u64) -> Asked {
     let mut job = random_jobs::random_job(seed);
     if 0 < seed % 8 {
         job = random_jobs::roomy_job(seed);
-        job.deadline = job.deadline.wrapping_add(u16::from(draw::number(set, 4, 4)));
+        job.deadline = job
+            .deadline
+            .wrapping_add(u16::from(draw::number(set, 4, 4)));
     }
     Asked {
         job,

@@ -48,7 +48,7 @@ fn both_joins<F: FnOnce(&[u8], &mut [u8]) -> Day>(
 fn from_the_left(job: Job, [a, b, c]: [&[u8]; 3], out: &mut [u8]) -> Way {
     let mut both = [FILL; Plan::BYTES];
     let first = joining::join(job, a, b, &mut both);
-    way(
+    both_joins(
         first,
         &both,
         |plan, out| joining::join(job, plan, c, out),
@@ -59,7 +59,7 @@ fn from_the_left(job: Job, [a, b, c]: [&[u8]; 3], out: &mut [u8]) -> Way {
 fn from_the_right(job: Job, [a, b, c]: [&[u8]; 3], out: &mut [u8]) -> Way {
     let mut both = [FILL; Plan::BYTES];
     let first = joining::join(job, b, c, &mut both);
-    way(
+    both_joins(
         first,
         &both,
         |plan, out| joining::join(job, a, plan, out),

@@ -111,7 +111,7 @@ fn partner() -> Job {
 pub fn show_pooled(rt: &impl Print, call: &str, answer: Pooled) -> io::Result<()> {
     show(rt, call, judged(answer.verdict))?;
     if !parts::same_everywhere(answer.job, Job::zero()) {
-        print!(rt; " with a jo")?;
+        print!(rt; " with a job")?;
     }
     Ok(())
 }

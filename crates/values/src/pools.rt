@@ -15,7 +15,10 @@ fn pooled(rt: &impl Print, case: &str, first: Job, second: Job, expected: Job) -
     output::name(rt, case)?;
     let answer = pooling::pool(first, second);
     match answer.verdict {
-        Verdict::Pass => print!(rt; "{}", trips::same(parts::same_everywhere(answer.job, expected))),
+        Verdict::Pass => print!(rt;
+            "{}",
+            trips::same(parts::same_everywhere(answer.job, expected))
+        ),
         Verdict::Refused(_) => show_pooled(rt, "refused ", answer),
     }?;
     println!(rt; "")

@@ -58,7 +58,7 @@ pub fn largest(rt: &impl Print) -> io::Result<()> {
     )?;
     named(rt, "base", jobs::base(), jobs::base())?;
     named(rt, "base against case 6", jobs::base(), days::case_6(3))?;
-    output::name(rt, "largest jo")?;
+    output::name(rt, "largest job")?;
     trip_filled(rt, 4, 4, 64)?;
     output::name(rt, "4 pools, 64 actions")?;
     trip_filled(rt, 4, 0, 64)?;
@@ -68,13 +68,11 @@ pub fn largest(rt: &impl Print) -> io::Result<()> {
 
 // Every number of pools and stores, with two actions.
 pub fn every_count(rt: &impl Print) -> io::Result<()> {
-    for i in 0..25usize {
-        with_counts(rt, i / 5, i % 5)?;
+    for pools in 0..5 {
+        for stores in 0..5 {
+            print!(rt; "  {pools} pools, {stores} stores: ")?;
+            trip_filled(rt, pools, stores, 2)?;
+        }
     }
     Ok(())
-}
-
-fn with_counts(rt: &impl Print, pools: usize, stores: usize) -> io::Result<()> {
-    print!(rt; "  {pools} pools, {stores} stores: ")?;
-    trip_filled(rt, pools, stores, 2)
 }
