@@ -1,11 +1,10 @@
 // Days whose every step is told: two plans joined, a day in two halves, the plan at a place of the list.
-use crate::calls::{choose, print_day, print_run};
-use crate::lending::{leading_number, rest};
-use crate::{Record, lending};
+use crate::Record;
+use crate::calls::{print_day, print_run, unless};
+use crate::lending::{ROOM, leading_number, rest};
 use job::Job;
 use job::refusal::Verdict;
-use lent::{first_steps, front};
-use output::{number, text};
+use lent::{FILL, first_steps, front, front_mut};
 use std::io;
 use timeline::{Day, Plan};
 
@@ -17,67 +16,49 @@ const PLACE: usize = 4;
 
 // The join is lent a slice of so many bytes.
 pub fn print_joined(rt: &impl Print, job: Job, record: Record, given: &[u8]) -> io::Result<()> {
-    let mut slice = [lent::FILL; lending::ROOM];
+    let mut slice = [FILL; ROOM];
     let length = leading_number(given, LENGTH) as usize;
     let behind = rest(given, LENGTH);
     let first = front(behind, length);
     let second = rest(behind, length);
-    let day = lending::join(&mut slice, record.room, job, first, second);
+    let day = joining::join(job, first, second, front_mut(&mut slice, record.room));
     print_run(rt, job, day)?;
     let steps = first_steps(&slice, day.steps);
-    choose(rt, lent::kept(&slice, steps.len()), b"", b", wrong bytes")?;
+    unless(rt, lent::kept(&slice, steps.len()), ", wrong bytes")?;
     print_steps(rt, &slice, day)
 }
 
 // The planner of two halves is lent a slice of so many bytes.
 pub fn print_halves(rt: &impl Print, job: Job, record: Record) -> io::Result<()> {
-    let mut slice = [lent::FILL; lending::ROOM];
-    let day = lending::halves(&mut slice, record.room, job, record.set);
+    let mut slice = [FILL; ROOM];
+    let day = halving::halves(job, record.set, front_mut(&mut slice, record.room));
     print_day(rt, job, job.goal, &slice, day)?;
     print_steps(rt, &slice, day)
 }
 
 // The list is lent a slice of so many bytes.
 pub fn print_listed(rt: &impl Print, job: Job, record: Record, given: &[u8]) -> io::Result<()> {
-    let mut slice = [lent::FILL; lending::ROOM];
+    let mut slice = [FILL; ROOM];
     let place = leading_number(given, PLACE);
-    let day = lending::list(&mut slice, record.room, job, place);
+    let day = lister::list(job, place, front_mut(&mut slice, record.room));
     print_day(rt, job, job.goal, &slice, day)?;
     print_steps(rt, &slice, day)
 }
 
 // The steps of the day at the front of the slice, where there is a day.
 fn print_steps(rt: &impl Print, slice: &[u8], day: Day) -> io::Result<()> {
-    let verdict = day.verdict;
-    if let Verdict::Refused(_) = verdict {
+    if let Verdict::Refused(_) = day.verdict {
         return Ok(());
     }
-    text(rt, b":")?;
+    print!(rt; ":")?;
     if day.steps == 0 {
-        text(rt, b" no steps")?;
+        print!(rt; " no steps")?;
     }
-    print_all(rt, first_steps(slice, day.steps))
-}
-
-// Each step of a plan.
-fn print_all(rt: &impl Print, plan: &[u8]) -> io::Result<()> {
-    for k in 0..Plan::STEPS {
-        let at = k * Plan::STEP;
-        if plan.len() <= at {
-            break;
-        }
-        print_step(rt, rest(plan, at))?;
+    for [action, low, high] in first_steps(slice, day.steps)
+        .as_chunks::<{ Plan::STEP }>()
+        .0
+    {
+        print!(rt; " {action}@{}", u16::from_le_bytes([*low, *high]))?;
     }
     Ok(())
-}
-
-// The first of the steps.
-fn print_step(rt: &impl Print, steps: &[u8]) -> io::Result<()> {
-    if steps.len() < Plan::STEP {
-        return Ok(());
-    }
-    text(rt, b" ")?;
-    number(rt, encoding::read_number(steps, 0, 1))?;
-    text(rt, b"@")?;
-    number(rt, encoding::read_number(steps, 1, 2))
 }

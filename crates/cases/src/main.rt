@@ -2,7 +2,8 @@
 // Prints a line for each, its title and the answer, under headings with the document's sentence.
 #![tactic(auto)]
 
-mod calls; // the calls and their answers
+mod call; // the calls by their letters
+mod calls; // their answers
 mod days; // days whose every step is told
 mod lending; // the slices that are lent
 mod peaks; // the peaks of a day
@@ -28,7 +29,7 @@ const BODY: usize = 13_000;
 // files. The length of the first of two plans or files stands before it.
 #[derive(Clone, Copy)]
 pub struct Record {
-    pub call: u8,
+    pub letter: u8,
     pub title: usize,
     pub file: usize,
     pub body: usize,
@@ -38,7 +39,7 @@ pub struct Record {
 
 fn record_in(bytes: &[u8; HEAD]) -> Record {
     Record {
-        call: bytes[0],
+        letter: bytes[0],
         title: encoding::read_number(bytes, 1, 1) as usize,
         file: encoding::read_number(bytes, 2, 2) as usize,
         body: encoding::read_number(bytes, 4, 2) as usize,
@@ -57,17 +58,20 @@ fn load(file: &mut impl Read, buffer: &mut [u8], length: usize) -> bool {
 
 // The line of a record, or its title alone where that is a heading.
 fn print(rt: &impl Print, record: Record, title: &[u8], given: &[u8]) -> io::Result<()> {
-    if record.call == b'h' {
-        return output::heading(rt, title);
+    if record.letter == b'h' {
+        rt.write_all(title)?;
+        return println!(rt; "");
     }
-    output::name(rt, title)?;
+    print!(rt; "  ")?;
+    rt.write_all(title)?;
+    print!(rt; ": ")?;
     calls::answer(
         rt,
         record,
         front(given, record.file),
         rest(given, record.file),
     )?;
-    output::text(rt, b"\n")
+    println!(rt; "")
 }
 
 // The next record. False where the file ends.

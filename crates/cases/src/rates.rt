@@ -11,31 +11,16 @@ const EVENING: usize = BYTES - RATE;
 
 // The rate at a place, 0 where none stands there.
 fn rate(given: &[u8], at: usize) -> u32 {
-    if given.len() < BYTES {
-        return 0;
-    }
-    if EVENING < at {
+    if given.len() < BYTES || EVENING < at {
         return 0;
     }
     encoding::read_number(given, at, RATE) as u32
 }
 
 pub fn rates_in(given: &[u8]) -> Rates {
-    let pools = [
-        rate(given, 0),
-        rate(given, 4),
-        rate(given, 8),
-        rate(given, 12),
-    ];
-    let stores = [
-        rate(given, 16),
-        rate(given, 20),
-        rate(given, 24),
-        rate(given, 28),
-    ];
     Rates {
-        pools,
-        stores,
+        pools: [0, 4, 8, 12].map(|at| rate(given, at)),
+        stores: [16, 20, 24, 28].map(|at| rate(given, at)),
         evening: rate(given, EVENING),
     }
 }

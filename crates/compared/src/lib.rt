@@ -1,26 +1,50 @@
 // What two planners say of the same question, and totals over many questions.
 #![tactic(auto)]
 
+use job::Job;
+use job::refusal::Refusal;
+use second::NoMakespan;
 use std::io;
+use timeline::Day;
 
-// What both say, or that they differ.
+// Why there is no end that both say.
 #[derive(Clone, Copy)]
-pub enum Outcome {
-    Ends(u32),
-    NoPlan,
-    UseBeyond, // refused by 26
-    ForeignGoal, // refused by 24
-    Unlike, // refused by 33
+pub enum NoEnd {
+    Refused(Refusal), // by both
     TooLarge, // for the second planner
     Differs,
 }
 
-pub fn unless_differs(same: bool, outcome: Outcome) -> Outcome {
-    if same { outcome } else { Outcome::Differs }
+// The end that both say, or why there is none.
+pub type Outcome = Result<u32, NoEnd>;
+
+impl From<NoMakespan> for NoEnd {
+    fn from(why: NoMakespan) -> NoEnd {
+        match why {
+            NoMakespan::NoPlan => NoEnd::Refused(Refusal::NoPlan),
+            NoMakespan::UseBeyond => NoEnd::Refused(Refusal::UseBeyond),
+            NoMakespan::TooLarge => NoEnd::TooLarge,
+        }
+    }
+}
+
+pub fn unless_differs(same: bool, told: Outcome) -> Outcome {
+    if same { told } else { Err(NoEnd::Differs) }
+}
+
+// What the second planner tells, if a call answers the same: a day for the goal that ends then, in the slice, or that
+// refusal.
+pub fn beside_call(told: Outcome, job: Job, goal: u64, slice: &[u8], day: Day) -> Outcome {
+    let same = match told {
+        Ok(end) => lent::handed_out(job, goal, slice, day, end),
+        Err(NoEnd::Refused(why)) => lent::refused(slice, day, why),
+        Err(_) => true,
+    };
+    unless_differs(same, told)
 }
 
 // What is counted over many questions. No sum comes near 64 bits.
-#[derive(Clone, Copy)]
+#[derive(Clone, Copy, Default)]
 pub struct Totals {
     pub questions: u64,
     pub plans: u64,
@@ -28,64 +52,62 @@ pub struct Totals {
     pub use_beyond: u64,
     pub foreign_goal: u64,
     pub unlike: u64,
+    pub too_long: u64,
     pub too_large: u64,
     pub differences: u64,
     pub ends: u64, // the sum of the least ends
 }
 
+pub fn one_more(n: &mut u64) {
+    *n = n.wrapping_add(1);
+}
+
 impl Totals {
-    pub fn none() -> Totals {
-        Totals {
-            questions: 0,
-            plans: 0,
-            no_plan: 0,
-            use_beyond: 0,
-            foreign_goal: 0,
-            unlike: 0,
-            too_large: 0,
-            differences: 0,
-            ends: 0,
-        }
-    }
-
-    // The totals with the question of one seed more. A difference is printed with its seed.
-    pub fn with(mut self, rt: &impl Print, seed: u64, outcome: Outcome) -> io::Result<Totals> {
-        self.questions = self.questions.wrapping_add(1);
+    // With the question of one seed more. A difference is printed with its seed.
+    pub fn count(&mut self, rt: &impl Print, seed: u64, outcome: Outcome) -> io::Result<()> {
+        one_more(&mut self.questions);
         match outcome {
-            Outcome::Ends(end) => {
-                self.plans = self.plans.wrapping_add(1);
-                self.ends = self.ends.wrapping_add(end as u64);
+            Ok(end) => {
+                one_more(&mut self.plans);
+                self.ends = self.ends.wrapping_add(u64::from(end));
             }
-            Outcome::NoPlan => {
-                self.no_plan = self.no_plan.wrapping_add(1);
-            }
-            Outcome::UseBeyond => {
-                self.use_beyond = self.use_beyond.wrapping_add(1);
-            }
-            Outcome::ForeignGoal => {
-                self.foreign_goal = self.foreign_goal.wrapping_add(1);
-            }
-            Outcome::Unlike => {
-                self.unlike = self.unlike.wrapping_add(1);
-            }
-            Outcome::TooLarge => {
-                self.too_large = self.too_large.wrapping_add(1);
-            }
-            Outcome::Differs => {
-                self.differences = self.differences.wrapping_add(1);
-                output::total(rt, b"differs, seed", seed)?;
+            Err(NoEnd::Refused(Refusal::NoPlan | Refusal::NoPlanWithKept)) => one_more(
+                &mut self.no_plan,
+            ),
+            Err(NoEnd::Refused(Refusal::UseBeyond)) => one_more(&mut self.use_beyond),
+            Err(NoEnd::Refused(Refusal::ForeignAskedFact)) => one_more(&mut self.foreign_goal),
+            Err(NoEnd::Refused(Refusal::PoolUnlike)) => one_more(&mut self.unlike),
+            Err(NoEnd::Refused(Refusal::JoinedTooLong)) => one_more(&mut self.too_long),
+            Err(NoEnd::TooLarge) => one_more(&mut self.too_large),
+            Err(NoEnd::Refused(_) | NoEnd::Differs) => {
+                one_more(&mut self.differences);
+                output::total(rt, "differs, seed", seed)?;
             }
         }
-        Ok(self)
+        Ok(())
     }
 
-    // A line for each total but the number of questions, 24 and 33.
-    pub fn print(self, rt: &impl Print) -> io::Result<()> {
-        output::total(rt, b"with a plan", self.plans)?;
-        output::total(rt, b"no plan", self.no_plan)?;
-        output::total(rt, b"refused by 26", self.use_beyond)?;
-        output::total(rt, b"too large", self.too_large)?;
-        output::total(rt, b"differences", self.differences)?;
-        output::total(rt, b"sum of the ends", self.ends)
+    // A line for each total that every program tells.
+    pub fn print(&self, rt: &impl Print) -> io::Result<()> {
+        output::total(rt, "with a plan", self.plans)?;
+        output::total(rt, "no plan", self.no_plan)?;
+        output::total(rt, "refused by 26", self.use_beyond)?;
+        output::total(rt, "too large", self.too_large)?;
+        output::total(rt, "differences", self.differences)?;
+        output::total(rt, "sum of the ends", self.ends)
     }
+}
+
+// What is counted over the first so many seeds, by a function that counts the question of one.
+pub fn over_seeds<C, F>(seeds: u64, mut count: F) -> io::Result<C>
+where
+    C: Default + Drop,
+    F: FnMut(&mut C, u64) -> io::Result<()>,
+    requires { F.IsAlwaysCallable count }
+{
+    let mut counts = C::default();
+    for seed in 0..seeds {
+        count(&mut counts, seed)?;
+    }
+    Ok(counts)
 }

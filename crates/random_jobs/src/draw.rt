@@ -18,29 +18,40 @@ pub fn number(seed: u64, place: u64, n: u8) -> u8
     requires { 0 < n }
     ensures { result < n }
 {
-    (part(seed, place) % (n as u64)) as u8
+    (part(seed, place) % u64::from(n)) as u8
 }
 
-// A set of one of so many facts.
-fn single(seed: u64, place: u64, facts: u8) -> u64
-    requires { (0 < facts) × (facts ≤ 5) }
-{
-    1u64 << number(seed, place, facts)
+// How many facts there are, of which sets are drawn.
+#[derive(Clone, Copy)]
+pub struct Facts {
+    pub count: u8,
+    ghost some: { 0 < count },
+    ghost few: { count ≤ 5 },
 }
 
-// A set of at most two of so many facts. In `empty` of four draws it is empty.
-pub fn set(seed: u64, facts: u8, empty: u8) -> u64
-    requires { (0 < facts) × (facts ≤ 5) }
-{
-    let draw = number(seed, 0, 4);
-    if draw < empty {
-        return 0;
+impl Facts {
+    // The most facts.
+    pub fn most() -> Facts {
+        Facts { count: 5 }
     }
-    let one = single(seed, 1, facts);
-    if draw < 3 {
-        return one;
+
+    // A set of one of the facts.
+    fn single(self, seed: u64, place: u64) -> u64 {
+        1 << number(seed, place, self.count)
     }
-    one | single(seed, 2, facts)
+
+    // A set of at most two of the facts. In `empty` of four draws it is empty.
+    pub fn set(self, seed: u64, empty: u8) -> u64 {
+        let draw = number(seed, 0, 4);
+        if draw < empty {
+            return 0;
+        }
+        let one = self.single(seed, 1);
+        if draw < 3 {
+            return one;
+        }
+        one | self.single(seed, 2)
+    }
 }
 
 // The facts in a and not in b.

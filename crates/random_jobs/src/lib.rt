@@ -6,8 +6,9 @@
 mod actions; // the actions of a job
 pub mod draw; // random numbers and sets of facts
 
-ghost use Rattle.std.specs.Prelude.{◌≤◌, ◌<◌};
+ghost use Rattle.std.specs.Prelude.{◌<◌};
 
+use crate::draw::Facts;
 use job::{Counts, Form, Job, StoreRule};
 use made_jobs::parts::{with_handovers, with_reserve};
 
@@ -29,24 +30,27 @@ pub enum Kind {
     Handed, // a pool that two actions seldom share, and handovers
 }
 
-fn kind_of(seed: u64) -> Kind {
-    match seed % 7 {
-        0 => Kind::Short,
-        1 => Kind::Token,
-        2 => Kind::Chain,
-        3 => Kind::Ties,
-        4 => Kind::Handed,
-        _ => Kind::Plain,
+impl Kind {
+    // The kind of a seed's job: two in seven have nothing peculiar.
+    fn of(seed: u64) -> Kind {
+        match seed % 7 {
+            0 => Kind::Short,
+            1 => Kind::Token,
+            2 => Kind::Chain,
+            3 => Kind::Ties,
+            4 => Kind::Handed,
+            _ => Kind::Plain,
+        }
     }
 }
 
 // A chain has all 5 facts, any other job 2 to 5.
-fn facts_of(seed: u64, kind: Kind) -> u8
-    ensures { (0 < result) × (result ≤ 5) }
-{
+fn facts_of(seed: u64, kind: Kind) -> Facts {
     match kind {
-        Kind::Chain => 5,
-        _ => 2 + draw::number(seed, 0, 4),
+        Kind::Chain => Facts::most(),
+        _ => Facts {
+            count: 2 + draw::number(seed, 0, 4),
+        },
     }
 }
 
@@ -57,22 +61,22 @@ fn counts_of(seed: u64, kind: Kind) -> Counts {
         Kind::Short => Counts {
             pools: 0,
             stores: 0,
-            actions: 1 + draw::number(seed, 1, 5) as usize,
+            actions: 1 + usize::from(draw::number(seed, 1, 5)),
         },
         Kind::Chain => Counts {
-            pools: draw::number(seed, 3, 3) as usize,
-            stores: draw::number(seed, 4, 3) as usize,
-            actions: 4 + draw::number(seed, 1, 2) as usize,
+            pools: usize::from(draw::number(seed, 3, 3)),
+            stores: usize::from(draw::number(seed, 4, 3)),
+            actions: 4 + usize::from(draw::number(seed, 1, 2)),
         },
         Kind::Handed => Counts {
-            pools: 1 + draw::number(seed, 3, 2) as usize,
+            pools: 1 + usize::from(draw::number(seed, 3, 2)),
             stores: 0,
-            actions: 2 + draw::number(seed, 1, 4) as usize,
+            actions: 2 + usize::from(draw::number(seed, 1, 4)),
         },
         _ => Counts {
-            pools: draw::number(seed, 3, 3) as usize,
-            stores: draw::number(seed, 4, 3) as usize,
-            actions: 2 + draw::number(seed, 1, 4) as usize,
+            pools: usize::from(draw::number(seed, 3, 3)),
+            stores: usize::from(draw::number(seed, 4, 3)),
+            actions: 2 + usize::from(draw::number(seed, 1, 4)),
         },
     }
 }
@@ -81,9 +85,8 @@ fn counts_of(seed: u64, kind: Kind) -> Counts {
 fn availabilities(seed: u64, most: u8) -> [u32; Job::AMOUNTS]
     requires { 0 < most }
 {
-    let first = 1 + draw::number(seed, 0, most) as u32;
-    let second = 1 + draw::number(seed, 1, most) as u32;
-    let third = 1 + draw::number(seed, 2, most) as u32;
+    let [first, second, third] = [0, 1, 2].map(|place| 1
+        + u32::from(draw::number(seed, place, most)));
     [first, second, third, 0]
 }
 
@@ -121,62 +124,42 @@ fn rule_of(seed: u64) -> StoreRule {
 
 // Four handovers of 0 to 3 minutes.
 fn handovers(seed: u64) -> [u8; Job::POOLS] {
-    let first = draw::number(seed, 0, 4);
-    let second = draw::number(seed, 1, 4);
-    let third = draw::number(seed, 2, 4);
-    let fourth = draw::number(seed, 3, 4);
-    [first, second, third, fourth]
+    [0, 1, 2, 3].map(|place| draw::number(seed, place, 4))
 }
 
 // A job with five actions, their shortest lengths and nothing else.
-fn with_actions(seed: u64, kind: Kind, facts: u8) -> Job
-    requires { (0 < facts) × (facts ≤ 5) }
-{
+fn with_actions(seed: u64, kind: Kind, facts: Facts) -> Job {
     let mut job = Job::zero();
-    let mut i: usize = 0;
-    while i < 5 {
+    for i in 0..5usize {
         let action = actions::action(draw::part(seed, 10 + i as u64), kind, facts, i);
         job.actions[i] = action;
-        job.shortest[i] = actions::shortest(draw::part(seed, 20 + i as u64), action);
-        i += 1;
+        job.shortest[i] = actions::shortest(draw::part(seed, 20 + i as u64), &action);
     }
     job
 }
 
 // The minutes of the first four actions, one after the other.
-fn minutes(job: Job) -> u16 {
-    let mut sum: u16 = 0;
-    let mut i = 0;
-    while i < 4 {
-        let action = job.actions[i];
-        sum += action.duration as u16;
-        i += 1;
+fn minutes(job: &Job) -> u16 {
+    let mut sum = 0u16;
+    for action in &job.actions[..4] {
+        sum += u16::from(action.duration);
     }
     sum
 }
 
 // The deadline: 0 to 9, early for a short job, up to 12 with handovers. A chain meets it, or misses it by a minute.
-fn deadline_of(seed: u64, kind: Kind, job: Job) -> u16 {
+fn deadline_of(seed: u64, kind: Kind, job: &Job) -> u16 {
     match kind {
-        Kind::Short => draw::number(seed, 2, 6) as u16,
-        Kind::Chain => {
-            let early = draw::number(seed, 2, 2) as u16;
-            let sum = minutes(job);
-            if sum < early {
-                return 0;
-            }
-            sum - early
-        }
-        Kind::Handed => 6 + draw::number(seed, 2, 7) as u16,
-        _ => 3 + draw::number(seed, 2, 7) as u16,
+        Kind::Short => u16::from(draw::number(seed, 2, 6)),
+        Kind::Chain => minutes(job).saturating_sub(u16::from(draw::number(seed, 2, 2))),
+        Kind::Handed => 6 + u16::from(draw::number(seed, 2, 7)),
+        _ => 3 + u16::from(draw::number(seed, 2, 7)),
     }
 }
 
 // The start set. In three draws of four no fact that is wanted holds at the start.
-fn start_of(seed: u64, facts: u8, wanted: u64) -> u64
-    requires { (0 < facts) × (facts ≤ 5) }
-{
-    let start = draw::set(draw::part(seed, 7), facts, 0);
+fn start_of(seed: u64, facts: Facts, wanted: u64) -> u64 {
+    let start = facts.set(draw::part(seed, 7), 0);
     if draw::number(seed, 8, 4) == 0 {
         return start;
     }
@@ -186,23 +169,21 @@ fn start_of(seed: u64, facts: u8, wanted: u64) -> u64
 // The job of a seed: 2 to 5 facts, 1 to 5 actions of 1 to 4 minutes, up to 2 pools and 2 stores, deadline 0 to 12. The
 // goal is what action 1 and another action add, so that most goals can be reached.
 pub fn random_job(seed: u64) -> Job {
-    let kind = kind_of(seed);
+    let kind = Kind::of(seed);
     let facts = facts_of(seed, kind);
-    let pools = pools_of(seed, kind);
-    let stores = availabilities(draw::part(seed, 6), MOST_OF_A_STORE);
     let mut job = with_actions(seed, kind, facts);
-    let action = job.actions[1];
-    let other = job.actions[draw::number(seed, 9, 2) as usize * 2];
-    job.facts = facts;
-    job.deadline = deadline_of(seed, kind, job);
-    job.start = start_of(seed, facts, action.adds);
-    job.goal = action.adds | other.adds;
+    let adds = job.actions[1].adds;
+    let other = job.actions[2 * usize::from(draw::number(seed, 9, 2))].adds;
+    job.facts = facts.count;
+    job.deadline = deadline_of(seed, kind, &job);
+    job.start = start_of(seed, facts, adds);
+    job.goal = adds | other;
     job.counts = counts_of(seed, kind);
-    job.pools = pools;
-    job.stores = stores;
+    job.pools = pools_of(seed, kind);
+    job.stores = availabilities(draw::part(seed, 6), MOST_OF_A_STORE);
     if let Kind::Chain = kind {
         job.start = 1;
-        job.goal = job.goal | 16;
+        job.goal |= 16;
     }
     let job = with_reserve(job, rule_of(seed), draw::number(seed, 19, 51));
     with_handovers(job, form_of(seed, kind), handovers(draw::part(seed, 16)))
@@ -212,17 +193,23 @@ pub fn random_job(seed: u64) -> Job {
 // so much of each pool and store that no action uses more (a reserve leaves at least half of a store).
 pub fn roomy_job(seed: u64) -> Job {
     let mut job = random_job(seed);
-    let counts = job.counts;
-    let mut first = job.actions[0];
-    let second = job.actions[1];
-    let third = job.actions[2];
-    first.needs = 0;
-    job.actions[0] = first;
-    job.goal = first.adds | second.adds;
-    if 2 < counts.actions {
-        job.goal = job.goal | third.adds;
+    job.actions[0].needs = 0;
+    job.goal = job.actions[0].adds | job.actions[1].adds;
+    if 2 < job.counts.actions {
+        job.goal |= job.actions[2].adds;
     }
-    job.pools = [MOST_USED + draw::number(seed, 50, 3) as u32; Job::POOLS];
-    job.stores = [2 * MOST_USED + draw::number(seed, 51, 6) as u32; Job::STORES];
+    job.pools = [MOST_USED + u32::from(draw::number(seed, 50, 3)); Job::POOLS];
+    job.stores = [2 * MOST_USED + u32::from(draw::number(seed, 51, 6)); Job::STORES];
     job
+}
+
+// Another goal for the job: one or two of five facts. Where one is not the job's, in three draws of four it is the job's
+// own goal instead.
+pub fn other_goal(seed: u64, job: &Job) -> u64 {
+    let goal = Facts::most().set(seed, 0);
+    let own = 0 < draw::number(seed, 3, 4);
+    if own && facts::foreign(job.facts, goal) {
+        return job.goal;
+    }
+    goal
 }

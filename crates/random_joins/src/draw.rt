@@ -2,6 +2,7 @@
 ghost use Rattle.std.specs.Prelude.{◌<◌};
 
 use job::Job;
+use lent::first_steps;
 use random_jobs::draw;
 use timeline::Plan;
 
@@ -14,21 +15,11 @@ const MINUTES: u64 = 62;
 
 const ACTION: u64 = 63;
 
-// How many values a byte has; no start comes near.
-const VALUES: usize = 256;
-
 // Every plan that is drawn ends by this minute: 17 steps, 6 minutes apart at most, and no action of a random job is
 // longer than the rest.
 const ENOUGH: u32 = 110;
 
 const ENOUGH_FOR_THREE: u32 = 400;
-
-// The bytes of a plan, and how many steps it has.
-#[derive(Clone, Copy)]
-pub struct Drawn {
-    pub bytes: [u8; Plan::BYTES],
-    pub steps: usize,
-}
 
 // The job of a seed, with the whole day's time.
 pub fn job(seed: u64) -> Job {
@@ -40,10 +31,11 @@ pub fn job(seed: u64) -> Job {
 // A deadline for plans that joined end at this minute, where there is time: in every other seed about that minute, and
 // otherwise one that may be too early for three plans, or for two.
 pub fn deadline(seed: u64, end: u32) -> u16 {
-    let mut minute = ENOUGH + draw::number(seed, DEADLINE, 150) as u32;
-    if seed % 2 == 0 {
-        minute = end % ENOUGH_FOR_THREE + draw::number(seed, DEADLINE, 3) as u32;
-    }
+    let minute = if seed % 2 == 0 {
+        end % ENOUGH_FOR_THREE + u32::from(draw::number(seed, DEADLINE, 3))
+    } else {
+        ENOUGH + u32::from(draw::number(seed, DEADLINE, 150))
+    };
     if minute <= ENOUGH {
         return ENOUGH as u16;
     }
@@ -51,29 +43,31 @@ pub fn deadline(seed: u64, end: u32) -> u16 {
 }
 
 // How many actions of the job the plans have: two, or one where the job has no more.
-fn actions(job: Job) -> u8
+fn actions(job: &Job) -> u8
     ensures { 0 < result }
 {
-    let counts = job.counts;
-    if 1 < counts.actions {
-        return 2;
-    }
-    1
+    if 1 < job.counts.actions { 2 } else { 1 }
 }
 
-// A plan of 0 to 17 steps, each the same number of minutes behind the one before.
-pub fn plan(job: Job, seed: u64) -> Drawn {
+// Writes a plan of 0 to 17 steps to these bytes, each the same number of minutes behind the one before, and returns it.
+pub fn plan<'b>(job: &Job, seed: u64, bytes: &'b mut [u8; Plan::BYTES]) -> &'b [u8] {
     let actions = actions(job);
-    let mut bytes = [0u8; Plan::BYTES];
-    let steps = draw::number(seed, STEPS, 18) as usize;
-    let apart = 1 + draw::number(seed, MINUTES, 6) as usize;
-    let mut start: usize = 0;
-    for k in 0..Plan::STEPS {
-        if k < steps {
-            bytes[k * Plan::STEP] = draw::number(draw::part(seed, k as u64), ACTION, actions);
-            bytes[k * Plan::STEP + 1] = start as u8;
-        }
-        start = (start + apart) % VALUES;
+    let steps = usize::from(draw::number(seed, STEPS, 18));
+    let apart = 1 + draw::number(seed, MINUTES, 6);
+    let mut start = 0u8;
+    for (k, step) in bytes
+        .as_chunks_mut::<{ Plan::STEP }>()
+        .0
+        .iter_mut()
+        .take(steps)
+        .enumerate()
+    {
+        *step = [
+            draw::number(draw::part(seed, k as u64), ACTION, actions),
+            start,
+            0,
+        ];
+        start = start.wrapping_add(apart);
     }
-    Drawn { bytes, steps }
+    first_steps(bytes, steps)
 }

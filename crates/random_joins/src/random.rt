@@ -1,17 +1,15 @@
 // Many triples: how many are joined, how many are refused and where, and how often the two ways differ.
-use crate::compare::Compared;
-use crate::{compare, draw};
+use crate::compare::{Compared, both_ways, empty_changes_nothing, refusal};
+use crate::draw;
+use compared::{one_more, over_seeds};
 use job::Job;
-use lent::first_steps;
+use job::refusal::Refusal;
 use output::total;
 use random_jobs::draw::part;
 use std::io;
-use timeline::Plan;
+use timeline::{Day, Plan};
 
-// 34 in document 02.
-const TOO_LONG: u8 = 34;
-
-#[derive(Clone, Copy)]
+#[derive(Clone, Copy, Default)]
 struct Counts {
     days: u64,
     full: u64, // of 32 steps
@@ -24,107 +22,73 @@ struct Counts {
     differences: u64,
 }
 
-fn none() -> Counts {
-    Counts {
-        days: 0,
-        full: 0,
-        late: 0,
-        refused: 0,
-        first_two: 0,
-        last_two: 0,
-        both: 0,
-        other: 0,
-        differences: 0,
+// Whether a join is refused by 34.
+fn is_too_long(day: Day) -> bool {
+    matches!(refusal(day), Some(Refusal::JoinedTooLong))
+}
+
+impl Counts {
+    // With a triple more.
+    fn add(&mut self, job: &Job, found: &Compared) {
+        let day = found.left.last;
+        match refusal(day) {
+            None => one_more(&mut self.days),
+            Some(Refusal::JoinedTooLong) => one_more(&mut self.refused),
+            Some(_) => one_more(&mut self.other),
+        }
+        if day.steps == Plan::STEPS {
+            one_more(&mut self.full);
+        }
+        if day.end == u32::from(job.deadline) {
+            one_more(&mut self.late);
+        }
+        match (
+            is_too_long(found.left.first),
+            is_too_long(found.right.first),
+        ) {
+            (true, false) => one_more(&mut self.first_two),
+            (false, true) => one_more(&mut self.last_two),
+            (true, true) => one_more(&mut self.both),
+            (false, false) => {}
+        }
     }
-}
 
-fn one_more(n: u64, test: bool) -> u64 {
-    if test { n.wrapping_add(1) } else { n }
-}
-
-// The counts with a triple more.
-fn with(mut counts: Counts, job: Job, found: Compared, same: bool) -> Counts {
-    let left = found.left;
-    let right = found.right;
-    let day = left.last;
-    let refusal = compare::refusal(day);
-    let first_two = compare::refusal(left.first) == TOO_LONG;
-    let last_two = compare::refusal(right.first) == TOO_LONG;
-    counts.days = one_more(counts.days, refusal == 0);
-    counts.full = one_more(counts.full, day.steps == Plan::STEPS);
-    counts.late = one_more(counts.late, day.end == job.deadline as u32);
-    counts.refused = one_more(counts.refused, refusal == TOO_LONG);
-    counts.first_two = one_more(counts.first_two, first_two & !last_two);
-    counts.last_two = one_more(counts.last_two, last_two & !first_two);
-    counts.both = one_more(counts.both, first_two & last_two);
-    counts.other = one_more(counts.other, (refusal != 0) & (refusal != TOO_LONG));
-    counts.differences = one_more(counts.differences, !same);
-    counts
-}
-
-// The first steps of three plans, joined both ways.
-fn joined(
-    job: Job,
-    a: &[u8; Plan::BYTES],
-    first: usize,
-    b: &[u8; Plan::BYTES],
-    second: usize,
-    c: &[u8; Plan::BYTES],
-    third: usize,
-) -> Compared {
-    compare::both_ways(
-        job,
-        first_steps(a, first),
-        first_steps(b, second),
-        first_steps(c, third),
-    )
-}
-
-fn empty_changes_nothing(job: Job, a: &[u8; Plan::BYTES], first: usize) -> bool {
-    compare::empty_changes_nothing(job, first_steps(a, first))
-}
-
-// The counts with the triple of one seed more. A difference is printed with its seed.
-fn counted(rt: &impl Print, counts: Counts, seed: u64) -> io::Result<Counts> {
-    let mut job = draw::job(seed);
-    let first = draw::plan(job, part(seed, 1));
-    let a = first.bytes;
-    let second = draw::plan(job, part(seed, 2));
-    let b = second.bytes;
-    let third = draw::plan(job, part(seed, 3));
-    let c = third.bytes;
-    let whole = joined(job, &a, first.steps, &b, second.steps, &c, third.steps);
-    job.deadline = draw::deadline(seed, whole.end);
-    let found = joined(job, &a, first.steps, &b, second.steps, &c, third.steps);
-    let same = whole.same & found.same & empty_changes_nothing(job, &a, first.steps);
-    if !same {
-        total(rt, b"differs, seed", seed)?;
+    // With the triple of one seed more: the first steps of three plans, joined both ways. A difference is printed with
+    // its seed.
+    fn count(&mut self, rt: &impl Print, seed: u64) -> io::Result<()> {
+        let mut job = draw::job(seed);
+        let mut bytes = [0u8; Plan::BYTES];
+        let first = draw::plan(&job, part(seed, 1), &mut bytes);
+        let mut bytes = [0u8; Plan::BYTES];
+        let second = draw::plan(&job, part(seed, 2), &mut bytes);
+        let mut bytes = [0u8; Plan::BYTES];
+        let third = draw::plan(&job, part(seed, 3), &mut bytes);
+        let plans = [first, second, third];
+        let whole = both_ways(job, plans);
+        job.deadline = draw::deadline(seed, whole.left.last.end);
+        let found = both_ways(job, plans);
+        if !(whole.same && found.same && empty_changes_nothing(job, first)) {
+            one_more(&mut self.differences);
+            total(rt, "differs, seed", seed)?;
+        }
+        self.add(&job, &found);
+        Ok(())
     }
-    Ok(with(counts, job, found, same))
-}
-
-// The counts over the first so many seeds.
-fn run(rt: &impl Print, seeds: u64) -> io::Result<Counts> {
-    let mut counts = none();
-    for seed in 0..seeds {
-        counts = counted(rt, counts, seed)?;
-    }
-    Ok(counts)
 }
 
 pub fn joins(rt: &impl Print) -> io::Result<()> {
     output::heading(
         rt,
-        b"Random plans joined in threes, from the left and from the right: seeds 0 to 5,999.",
+        "Random plans joined in threes, from the left and from the right: seeds 0 to 5,999.",
     )?;
-    let counts = run(rt, 6_000)?;
-    total(rt, b"days", counts.days)?;
-    total(rt, b"of 32 steps", counts.full)?;
-    total(rt, b"that end at the deadline", counts.late)?;
-    total(rt, b"refused by 34", counts.refused)?;
-    total(rt, b"where the first two are joined", counts.first_two)?;
-    total(rt, b"where the last two are joined", counts.last_two)?;
-    total(rt, b"both ways", counts.both)?;
-    total(rt, b"refused by another number", counts.other)?;
-    total(rt, b"differences", counts.differences)
+    let counts = over_seeds(6_000, |counts: &mut Counts, seed| counts.count(rt, seed))?;
+    total(rt, "days", counts.days)?;
+    total(rt, "of 32 steps", counts.full)?;
+    total(rt, "that end at the deadline", counts.late)?;
+    total(rt, "refused by 34", counts.refused)?;
+    total(rt, "where the first two are joined", counts.first_two)?;
+    total(rt, "where the last two are joined", counts.last_two)?;
+    total(rt, "both ways", counts.both)?;
+    total(rt, "refused by another number", counts.other)?;
+    total(rt, "differences", counts.differences)
 }

@@ -36,28 +36,21 @@ pub struct Pair {
     pub alike: bool,
 }
 
-fn smaller(a: usize, b: usize) -> usize {
-    if a < b { a } else { b }
-}
-
 // The job of a seed with its first actions alone and an early deadline; it has one pool or two, which two of its
 // actions seldom share.
 fn small(seed: u64) -> Job {
     let mut job = random_job(seed);
     let counts = job.counts;
-    if DEADLINE < job.deadline {
-        job.deadline = DEADLINE;
-    }
-    job.pools = [MOST_USED + draw::number(seed, AVAILABILITY, 2) as u32; Job::POOLS];
-    let pools = 1 + draw::number(seed, POOLS, 2) as usize;
-    with_counts(job, pools, counts.stores, smaller(counts.actions, ACTIONS))
+    job.deadline = job.deadline.min(DEADLINE);
+    job.pools = [MOST_USED + u32::from(draw::number(seed, AVAILABILITY, 2)); Job::POOLS];
+    let pools = 1 + usize::from(draw::number(seed, POOLS, 2));
+    with_counts(job, pools, counts.stores, counts.actions.min(ACTIONS))
 }
 
 fn has_plan(job: Job) -> bool {
     let mut slice = [0u8; Plan::BYTES];
     let day = planner::plan(job, &mut slice);
-    let verdict = day.verdict;
-    match verdict {
+    match day.verdict {
         Verdict::Pass => true,
         Verdict::Refused(_) => false,
     }
@@ -78,30 +71,22 @@ fn job(seed: u64) -> Job {
 // hold different reserves, which are ignored.
 fn like(first: Job, second: Job) -> Job {
     let rule = first.rule;
-    let form = first.form;
-    let own = second.form;
-    let handovers = job::resources::handovers(first);
+    let form = match second.form {
+        Form::Four => first.form,
+        own => own,
+    };
     let second = with_reserve(second, rule, rule.reserve(first.reserve));
-    match own {
-        Form::Four => with_handovers(second, form, handovers),
-        _ => with_handovers(second, own, handovers),
-    }
+    with_handovers(second, form, job::resources::handovers(first))
 }
 
 // The jobs of a seed. In seven draws of eight the second is made like the first.
 pub fn pair_of(seed: u64) -> Pair {
     let first = job(draw::part(seed, FIRST));
     let second = job(draw::part(seed, SECOND));
-    if draw::number(seed, ALIKE, 8) == 0 {
-        return Pair {
-            first,
-            second,
-            alike: false,
-        };
-    }
+    let alike = 0 < draw::number(seed, ALIKE, 8);
     Pair {
         first,
-        second: like(first, second),
-        alike: true,
+        second: if alike { like(first, second) } else { second },
+        alike,
     }
 }

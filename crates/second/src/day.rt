@@ -1,5 +1,5 @@
 // The rules of document 01 on a small day, minute by minute: which actions may start, what holds and what is left.
-ghost use Rattle.std.specs.Prelude.{◌<◌};
+ghost use Rattle.std.specs.Prelude.{◌<◌, ◌≤◌};
 
 use job::{Action, Counts, Job};
 
@@ -11,6 +11,7 @@ pub struct Day {
     pub pools: [u32; Job::POOLS],
     pub handovers: [u8; Job::POOLS],
     pub actions: [Action; Day::ACTIONS],
+    ghost small: { counts.actions ≤ 8 },
 }
 
 impl Day {
@@ -21,187 +22,158 @@ impl Day {
     pub const STEPS: usize = 32;
 }
 
-// The state of a day in a minute. An action clashes with itself, so at most one step of each action runs, and at most
-// one ends in a minute.
+// How an action runs. It clashes with itself, so at most one step of it runs, and at most one ends in a minute.
 #[derive(Clone, Copy)]
-pub struct State {
+pub struct Run {
+    pub left: u32, // minutes that it still runs, 0 where it doesn't run
+    pub ended: u32, // bit k: whether a step of it ended k minutes ago, for k up to 31
+}
+
+impl Run {
+    // What the runs leave of an amount of which each holds so much, up to this many minutes after its end. A handover is
+    // at most 30 minutes.
+    fn leaves(self, amount: u32, held: u32, handover: u8) -> u32 {
+        let mut amount = amount;
+        if 0 < self.left {
+            amount = amount.saturating_sub(held);
+        }
+        let mut bits = self.ended;
+        for _ in 0..handover {
+            if bits % 2 == 1 {
+                amount = amount.saturating_sub(held);
+            }
+            bits /= 2;
+        }
+        amount
+    }
+
+    // The same one minute later.
+    fn a_minute_later(self) -> Run {
+        let before = self.ended << 1;
+        Run {
+            left: self.left.saturating_sub(1),
+            ended: if self.left == 1 { before | 1 } else { before },
+        }
+    }
+}
+
+// The state of a day in a minute.
+#[derive(Clone, Copy)]
+pub struct State<'d> {
+    pub day: &'d Day,
     pub facts: u64,
-    pub minutes: [u32; Day::ACTIONS], // how long each action still runs, 0 where it doesn't run
-    pub ended: [u32; Day::ACTIONS], // bit k: whether a step of the action ended k minutes ago, for k up to 31
+    pub runs: [Run; Day::ACTIONS], // of each action
     pub stores: [u32; Job::STORES], // what is left of each store
     pub steps: u32, // how many steps may still start
 }
 
 // Whether every fact in a is in b.
-pub fn within(a: u64, b: u64) -> bool {
+fn within(a: u64, b: u64) -> bool {
     (a & b) == a
 }
 
 // Whether x deletes a fact that y needs or adds.
-fn hinders(x: Action, y: Action) -> bool {
+fn hinders(x: &Action, y: &Action) -> bool {
     (x.deletes & (y.needs | y.adds)) != 0
 }
 
-// What is left of an amount after a use. It is 0 where the amount doesn't suffice: for uses that is so only beyond the
-// counts, where nothing is looked at.
-pub fn less(amount: u32, used: u32) -> u32 {
-    if amount < used {
-        return 0;
+impl<'d> State<'d> {
+    // Whether a step of the action, or of one that it clashes with, is running.
+    fn clashes(&self, number: usize, action: &Action) -> bool {
+        self.day.actions.iter().zip(&self.runs).enumerate().any(|(i, (other, run))| {
+            0 < run.left && (i == number || hinders(action, other) || hinders(other, action))
+        })
     }
-    amount - used
-}
 
-// Whether a step of the action, or of one that it clashes with, is running.
-fn clashes(day: Day, state: State, number: usize) -> bool
-    requires { number < 8 }
-{
-    let action = day.actions[number];
-    let mut i = 0;
-    while i < Day::ACTIONS {
-        let other = day.actions[i];
-        let clash = (i == number) | hinders(action, other) | hinders(other, action);
-        if (0 < state.minutes[i]) & clash {
-            return true;
+    // What the running steps, and those that ended less than its handover ago, leave free of the pool.
+    fn free(&self, pool: usize) -> u32
+        requires { pool < 4 }
+    {
+        let handover = self.day.handovers[pool];
+        let mut amount = self.day.pools[pool];
+        for (action, run) in self.day.actions.iter().zip(&self.runs) {
+            amount = run.leaves(amount, action.pools[pool], handover);
         }
-        i += 1;
+        amount
     }
-    false
-}
 
-// What is left of an amount after the uses of an action's steps that ended less than the handover ago. A handover is at
-// most 30 minutes.
-fn less_handed_over(amount: u32, used: u32, ended: u32, handover: u8) -> u32 {
-    let mut left = amount;
-    let mut bits = ended;
-    let mut k = 0;
-    while k < handover {
-        if bits % 2 == 1 {
-            left = less(left, used);
+    // Whether the action uses more of some pool than is free.
+    fn exceeds_pools(&self, action: &Action) -> bool {
+        for (k, used) in action.pools.iter().enumerate() {
+            if k < self.day.counts.pools && self.free(k) < *used {
+                return true;
+            }
         }
-        bits = bits / 2;
-        k += 1;
+        false
     }
-    left
-}
 
-// What the running steps, and those that ended less than its handover ago, leave free of the pool.
-fn free(day: Day, state: State, pool: usize) -> u32
-    requires { pool < 4 }
-{
-    let mut amount = day.pools[pool];
-    let mut i = 0;
-    while i < Day::ACTIONS {
-        let action = day.actions[i];
-        let used = action.pools[pool];
-        if 0 < state.minutes[i] {
-            amount = less(amount, used);
+    // Whether the action uses more of some store than is left.
+    fn exceeds_stores(&self, action: &Action) -> bool {
+        action
+            .stores
+            .iter()
+            .zip(&self.stores)
+            .take(self.day.counts.stores)
+            .any(|(used, left)| left < used)
+    }
+
+    // Whether an action uses more of some pool or store than there is (26), in the state before any step.
+    pub fn any_beyond(&self) -> bool {
+        self.day.actions[..self.day.counts.actions].iter().any(|action| self.exceeds_pools(action)
+            || self.exceeds_stores(action))
+    }
+
+    // Whether a step of the action may start now and stop by the horizon, which is `left` minutes away.
+    pub fn may_start(&self, number: usize, left: u32) -> bool
+        requires { number < 8 }
+    {
+        let action = &self.day.actions[number];
+        u32::from(action.duration) <= left
+            && 0 < self.steps
+            && within(action.needs, self.facts)
+            && !self.clashes(number, action)
+            && !self.exceeds_pools(action)
+            && !self.exceeds_stores(action)
+    }
+
+    // The state when a step of the action has started.
+    pub fn started(mut self, number: usize) -> Self
+        requires { number < 8 }
+    {
+        let action = &self.day.actions[number];
+        self.runs[number].left = u32::from(action.duration);
+        for (left, used) in self.stores.iter_mut().zip(&action.stores) {
+            *left = left.saturating_sub(*used);
         }
-        amount = less_handed_over(amount, used, state.ended[i], day.handovers[pool]);
-        i += 1;
+        self.steps = self.steps.saturating_sub(1);
+        self
     }
-    amount
-}
 
-// Whether the action uses more of some pool than is free.
-fn exceeds_pools(day: Day, state: State, action: Action) -> bool {
-    let counts = day.counts;
-    let mut k = 0;
-    while k < Job::POOLS {
-        if (k < counts.pools) & (free(day, state, k) < action.pools[k]) {
-            return true;
+    // The state one minute later: what the steps ending then delete goes, and what they add comes.
+    pub fn tick(mut self) -> Self {
+        let mut deletes = 0u64;
+        let mut adds = 0u64;
+        let actions = &self.day.actions;
+        for (run, action) in self.runs.iter_mut().zip(actions) {
+            if run.left == 1 {
+                deletes |= action.deletes;
+                adds |= action.adds;
+            }
+            *run = run.a_minute_later();
         }
-        k += 1;
+        self.facts = (self.facts ^ (self.facts & deletes)) | adds;
+        self
     }
-    false
-}
 
-// Whether the action uses more of some store than is left.
-fn exceeds_stores(day: Day, state: State, action: Action) -> bool {
-    let counts = day.counts;
-    let mut k = 0;
-    while k < Job::STORES {
-        if (k < counts.stores) & (state.stores[k] < action.stores[k]) {
-            return true;
+    // The state so many minutes later, where no step starts.
+    pub fn minutes_later(mut self, minutes: u32) -> Self {
+        for _ in 0..minutes {
+            self = self.tick();
         }
-        k += 1;
+        self
     }
-    false
-}
 
-// Whether an action uses more of some pool or store than there is (26). The state is that before any step.
-pub fn any_beyond(day: Day, state: State) -> bool {
-    let counts = day.counts;
-    let mut i = 0;
-    while i < Day::ACTIONS {
-        let action = day.actions[i];
-        let beyond = exceeds_pools(day, state, action) | exceeds_stores(day, state, action);
-        if (i < counts.actions) & beyond {
-            return true;
-        }
-        i += 1;
+    pub fn goal_holds(&self) -> bool {
+        within(self.day.goal, self.facts)
     }
-    false
-}
-
-// Whether a step of the action may start now and stop by the horizon, which is `left` minutes away.
-pub fn may_start(day: Day, state: State, number: usize, left: u32) -> bool
-    requires { number < 8 }
-{
-    let action = day.actions[number];
-    if (left < action.duration as u32) | (state.steps == 0) | !within(action.needs, state.facts) {
-        return false;
-    }
-    if clashes(day, state, number) {
-        return false;
-    }
-    !exceeds_pools(day, state, action) & !exceeds_stores(day, state, action)
-}
-
-// What is left of each store after these uses.
-fn spent(mut stores: [u32; Job::STORES], uses: [u32; Job::STORES]) -> [u32; Job::STORES] {
-    let mut k = 0;
-    while k < Job::STORES {
-        stores[k] = less(stores[k], uses[k]);
-        k += 1;
-    }
-    stores
-}
-
-// The state when a step of the action has started.
-pub fn started(day: Day, mut state: State, number: usize) -> State
-    requires { number < 8 }
-{
-    let action = day.actions[number];
-    let stores = state.stores;
-    let uses = action.stores;
-    state.minutes[number] = action.duration as u32;
-    state.stores = spent(stores, uses);
-    state.steps = less(state.steps, 1);
-    state
-}
-
-// In which of the last minutes a step of an action ended, one minute later.
-fn a_minute_later(ended: u32, ends: bool) -> u32 {
-    let before = ended << 1;
-    if ends { before | 1 } else { before }
-}
-
-// The state one minute later: what the steps ending then delete goes, and what they add comes.
-pub fn tick(day: Day, mut state: State) -> State {
-    let mut deletes: u64 = 0;
-    let mut adds: u64 = 0;
-    let mut i = 0;
-    while i < Day::ACTIONS {
-        let action = day.actions[i];
-        let ends = state.minutes[i] == 1;
-        if ends {
-            deletes = deletes | action.deletes;
-            adds = adds | action.adds;
-        }
-        state.minutes[i] = less(state.minutes[i], 1);
-        state.ended[i] = a_minute_later(state.ended[i], ends);
-        i += 1;
-    }
-    state.facts = (state.facts ^ (state.facts & deletes)) | adds;
-    state
 }

@@ -14,9 +14,10 @@ mod walk; // the walk over all plans
 
 ghost use Rattle.std.specs.Prelude.{◌≤◌};
 
-use day::{Day, State};
+use day::{Day, Run, State};
 use job::{Action, Counts, Job};
 use kept::Kept;
+use std::fmt;
 
 // The latest deadline, since the search calls itself once for each action and minute.
 const DEADLINE: u16 = 60;
@@ -24,154 +25,116 @@ const DEADLINE: u16 = 60;
 // The most decisions whether to start an action, over all horizons.
 const DECISIONS: u32 = 1_000_000;
 
-// The least end of the accepted plans, that there is none, that the job is refused, or that there is too much to try.
-#[derive(Clone, Copy)]
-pub enum Makespan {
-    Ends(u32),
+// Why the least end of the accepted plans is not told.
+#[derive(Clone, Copy, Debug, PartialEq, Eq)]
+pub enum NoMakespan {
     NoPlan,
     UseBeyond, // an action uses more of a pool or store than there is (26)
-    TooLarge,
+    TooLarge, // there is too much to try
 }
 
-// Whether a plan was found, and how many decisions are left.
-#[derive(Clone, Copy)]
-struct Tried {
-    found: bool,
-    decisions: u32,
+impl fmt::Display for NoMakespan {
+    fn fmt<W: fmt::Write>(&self, f: &mut fmt::Formatter<W>) -> fmt::Result {
+        f.write_str(match self {
+            NoMakespan::NoPlan => "no plan",
+            NoMakespan::UseBeyond => "refused by 26",
+            NoMakespan::TooLarge => "too large",
+        })
+    }
 }
 
 // Whether the goal can hold `left` minutes later, with all steps stopped by then. Of the actions, the first `undecided`
 // may still start in this minute.
-fn search(day: Day, state: State, left: u32, undecided: usize, decisions: u32) -> Tried
-    requires { (undecided ≤ 8) × (day.counts.actions ≤ 8) }
+fn search(state: State, left: u32, undecided: usize, decisions: &mut u32) -> bool
+    requires { undecided ≤ 8 }
 {
     if undecided == 0 {
         if left == 0 {
-            let found = day::within(day.goal, state.facts);
-            return Tried { found, decisions };
+            return state.goal_holds();
         }
-        let next = day::tick(day, state);
-        return search(day, next, left - 1, day.counts.actions, decisions);
+        return search(state.tick(), left - 1, state.day.counts.actions, decisions);
     }
-    if decisions == 0 {
-        return Tried {
-            found: false,
-            decisions,
-        };
+    if *decisions == 0 {
+        return false;
     }
+    *decisions -= 1;
     let number = undecided - 1;
-    let mut rest = decisions - 1;
-    if day::may_start(day, state, number, left) {
-        let next = day::started(day, state, number);
-        let tried = search(day, next, left, number, rest);
-        if tried.found {
-            return tried;
-        }
-        rest = tried.decisions;
+    if state.may_start(number, left) && search(state.started(number), left, number, decisions) {
+        return true;
     }
-    search(day, state, left, number, rest)
-}
-
-// The first actions of the job.
-fn actions(job: Job) -> [Action; Day::ACTIONS] {
-    let mut actions = [Action::unused(); Day::ACTIONS];
-    let mut i = 0;
-    while i < Day::ACTIONS {
-        let action = job.actions[i];
-        actions[i] = resources::charged(job, action);
-        i += 1;
-    }
-    actions
+    search(state, left, number, decisions)
 }
 
 // The least horizon at which the search finds a plan of the begun day. A plan that ends before a horizon was found at an
 // earlier one, since the kept steps stop by the first.
-fn least_horizon(day: Day, kept: Kept, minute: u16, deadline: u16) -> Makespan
-    requires { day.counts.actions ≤ 8 }
-{
-    let first = minute as u32;
-    let last = deadline as u32;
+fn least_horizon(kept: &Kept, minute: u16, deadline: u16) -> Result<u32, NoMakespan> {
+    let state = kept.state;
+    let first = u32::from(minute);
     let mut decisions = DECISIONS;
-    let mut horizon = kept::later(first, kept.end);
-    while horizon <= last {
-        let left = horizon - first;
-        let tried = search(day, kept.state, left, day.counts.actions, decisions);
-        if tried.found {
-            return Makespan::Ends(horizon);
+    for horizon in kept.end.max(first)..u32::from(deadline) + 1 {
+        if search(
+            state,
+            horizon - first,
+            state.day.counts.actions,
+            &mut decisions,
+        ) {
+            return Ok(horizon);
         }
-        decisions = tried.decisions;
-        horizon += 1;
     }
-    if decisions == 0 {
-        return Makespan::TooLarge;
-    }
-    Makespan::NoPlan
+    Err(if decisions == 0 {
+        NoMakespan::TooLarge
+    } else {
+        NoMakespan::NoPlan
+    })
 }
 
-// The state of a job before any step.
-fn before(job: Job) -> State {
-    let stores = resources::allowed(job);
-    State {
-        facts: job.start,
-        minutes: [0u32; Day::ACTIONS],
-        ended: [0u32; Day::ACTIONS],
-        stores,
-        steps: Day::STEPS as u32,
+// What is the same in every minute of the job's day, with this goal. A job with over 8 actions or a deadline over 60 is
+// too large.
+fn day_of(job: &Job, goal: u64) -> Result<Day, NoMakespan> {
+    if Day::ACTIONS < job.counts.actions || DEADLINE < job.deadline {
+        return Err(NoMakespan::TooLarge);
     }
-}
-
-// Whether the job has over 8 actions or a deadline over 60.
-fn too_large(job: Job) -> bool {
-    let counts = job.counts;
-    (Day::ACTIONS < counts.actions) | (DEADLINE < job.deadline)
-}
-
-// The job's counts, with at most 8 actions.
-fn counts_of(job: Job) -> Counts
-    ensures { result.actions ≤ 8 }
-{
-    let mut counts = job.counts;
-    if Day::ACTIONS < counts.actions {
-        counts.actions = Day::ACTIONS;
-        return counts;
+    let mut actions = [Action::unused(); Day::ACTIONS];
+    for (to, action) in actions.iter_mut().zip(&job.actions) {
+        *to = resources::charged(job, *action);
     }
-    counts
-}
-
-// What is the same in every minute of the job's day, with this goal.
-fn day_of(job: Job, goal: u64) -> Day
-    ensures { result.counts.actions ≤ 8 }
-{
-    let pools = job.pools;
-    Day {
+    Ok(Day {
         goal,
-        counts: counts_of(job),
-        pools,
+        counts: job.counts,
+        pools: job.pools,
         handovers: resources::handovers(job),
-        actions: actions(job),
+        actions,
+    })
+}
+
+// The state of a job's day before any step.
+fn before<'d>(job: &Job, day: &'d Day) -> State<'d> {
+    State {
+        day,
+        facts: job.start,
+        runs: [Run { left: 0, ended: 0 }; Day::ACTIONS],
+        stores: resources::allowed(job),
+        steps: Day::STEPS as u32,
     }
 }
 
 // The least end of the plans that are accepted for the goal and whose steps before the minute are those of the given
 // plan. The job passes tests 3 to 11, the plan 12 to 19. A job with over 8 actions, a deadline over 60 or too many plans
 // is too large.
-pub fn shortest_from(job: Job, plan: &[u8], minute: u16, goal: u64) -> Makespan {
-    if too_large(job) {
-        return Makespan::TooLarge;
+pub fn shortest_from(job: Job, plan: &[u8], minute: u16, goal: u64) -> Result<u32, NoMakespan> {
+    let day = day_of(&job, goal)?;
+    let before = before(&job, &day);
+    if before.any_beyond() {
+        return Err(NoMakespan::UseBeyond);
     }
-    let day = day_of(job, goal);
-    let state = before(job);
-    if day::any_beyond(day, state) {
-        return Makespan::UseBeyond;
+    let kept = Kept::at_minute(before, plan, minute);
+    if kept.suffices(minute) {
+        return Ok(kept.end);
     }
-    let kept = kept::at_minute(day, state, plan, minute);
-    if kept::suffices(day, kept, minute) {
-        return Makespan::Ends(kept.end);
-    }
-    least_horizon(day, kept, minute, job.deadline)
+    least_horizon(&kept, minute, job.deadline)
 }
 
 // The least end of the accepted plans of a job for its own goal: at minute 0 no step is kept.
-pub fn shortest(job: Job) -> Makespan {
+pub fn shortest(job: Job) -> Result<u32, NoMakespan> {
     shortest_from(job, &[], 0, job.goal)
 }

@@ -2,16 +2,13 @@
 // hours and the reserve.
 ghost use Rattle.std.specs.Prelude.{◌<◌};
 
-use crate::day::less;
 use job::{Action, Form, Job, StoreRule};
 
 // How many minutes a share of each pool stays in use after its step. A job of four entries means 0.
-pub fn handovers(job: Job) -> [u8; Job::POOLS] {
-    let form = job.form;
-    let handovers = job.handovers;
-    match form {
-        Form::Four => [0u8; Job::POOLS],
-        _ => handovers,
+pub fn handovers(job: &Job) -> [u8; Job::POOLS] {
+    match job.form {
+        Form::Four => [0; Job::POOLS],
+        _ => job.handovers,
     }
 }
 
@@ -20,7 +17,7 @@ pub fn handovers(job: Job) -> [u8; Job::POOLS] {
 fn uses(rule: StoreRule, minutes: u8) -> u32 {
     match rule {
         StoreRule::PerStep => 1,
-        StoreRule::PerHour => less(minutes as u32, 1) / 60 + 1,
+        StoreRule::PerHour => u32::from(minutes.saturating_sub(1) / 60 + 1),
     }
 }
 
@@ -28,7 +25,7 @@ fn uses(rule: StoreRule, minutes: u8) -> u32 {
 fn percent(rule: StoreRule, reserve: u8) -> u32 {
     match rule {
         StoreRule::PerStep => 100,
-        StoreRule::PerHour => less(100, reserve as u32),
+        StoreRule::PerHour => 100u32.saturating_sub(u32::from(reserve)),
     }
 }
 
@@ -37,36 +34,21 @@ fn percent(rule: StoreRule, reserve: u8) -> u32 {
 fn scaled(amount: u32, times: u32, parts: u32) -> u32
     requires { 0 < parts }
 {
-    let number = amount as u64 * times as u64 / parts as u64;
-    if number <= u32::MAX as u64 {
-        return number as u32;
-    }
-    u32::MAX
-}
-
-// The same of each of four amounts.
-fn all_scaled(amounts: [u32; Job::STORES], times: u32, parts: u32) -> [u32; Job::STORES]
-    requires { 0 < parts }
-{
-    let first = scaled(amounts[0], times, parts);
-    let second = scaled(amounts[1], times, parts);
-    let third = scaled(amounts[2], times, parts);
-    let fourth = scaled(amounts[3], times, parts);
-    [first, second, third, fourth]
+    let number = u64::from(amount) * u64::from(times) / u64::from(parts);
+    u32::try_from(number).unwrap_or(u32::MAX)
 }
 
 // The action with what a step of it uses up of each store.
-pub fn charged(job: Job, mut action: Action) -> Action {
-    let rule = job.rule;
-    let amounts = action.stores;
-    let charged = all_scaled(amounts, uses(rule, action.duration), 1);
-    action.stores = charged;
-    action
+pub fn charged(job: &Job, action: Action) -> Action {
+    let times = uses(job.rule, action.duration);
+    Action {
+        stores: action.stores.map(|amount| scaled(amount, times, 1)),
+        ..action
+    }
 }
 
 // How much of each store may be used up.
-pub fn allowed(job: Job) -> [u32; Job::STORES] {
-    let rule = job.rule;
-    let amounts = job.stores;
-    all_scaled(amounts, percent(rule, job.reserve), 100)
+pub fn allowed(job: &Job) -> [u32; Job::STORES] {
+    let percent = percent(job.rule, job.reserve);
+    job.stores.map(|amount| scaled(amount, percent, 100))
 }

@@ -1,135 +1,128 @@
 // The steps of a plan: one more of them, the same without one of them, and their bytes.
-use crate::day;
+ghost use Rattle.std.specs.Prelude.{◌≤◌};
+
 use crate::day::{Day, State};
 
-// How many values a byte has.
-const VALUES: usize = 256;
+// A step: the number of its action, and its start.
+#[derive(Clone, Copy)]
+pub struct Step {
+    pub number: u8,
+    pub start: u16,
+}
 
-// The first `count` of these actions and starts, in order. A start fits in a byte, since no deadline is over 60.
+impl Step {
+    // The bytes of a step: its action (1 byte) and its start (2 bytes, the low one first).
+    pub const BYTES: usize = 3;
+}
+
+impl From<[u8; Step::BYTES]> for Step {
+    fn from([number, low, high]: [u8; Step::BYTES]) -> Step {
+        Step {
+            number,
+            start: u16::from_le_bytes([low, high]),
+        }
+    }
+}
+
+impl From<Step> for [u8; Step::BYTES] {
+    fn from(step: Step) -> [u8; Step::BYTES] {
+        let [low, high] = step.start.to_le_bytes();
+        [step.number, low, high]
+    }
+}
+
+// The bytes of each step of a plan.
+pub fn bytes_of(plan: &[u8]) -> &[[u8; Step::BYTES]] {
+    plan.as_chunks::<{ Step::BYTES }>().0
+}
+
+// The first `count` of these steps, in order: fixed memory, no heap.
 #[derive(Clone, Copy)]
 pub struct Steps {
-    pub numbers: [u8; Day::STEPS],
-    pub starts: [u8; Day::STEPS],
-    pub count: usize,
+    places: [Step; Day::STEPS],
+    count: usize,
+    ghost few: { count ≤ 32 },
 }
 
 impl Steps {
-    // The bytes of a plan in a list: the number of its steps, then each step's action (1 byte) and start (2 bytes).
-    pub const BYTES: usize = 97;
+    // The bytes of a plan in a list: the number of its steps, then each step.
+    pub const BYTES: usize = 1 + Day::STEPS * Step::BYTES;
 
     pub fn none() -> Steps {
         Steps {
-            numbers: [0u8; Day::STEPS],
-            starts: [0u8; Day::STEPS],
+            places: [Step {
+                number: 0,
+                start: 0,
+            }; Day::STEPS],
             count: 0,
         }
     }
 
     // The steps with one more, where there are fewer than 32.
-    pub fn with(mut self, number: usize, start: u32) -> Steps {
-        let at = self.count;
-        if at < Day::STEPS {
-            self.numbers[at] = (number % VALUES) as u8;
-            self.starts[at] = (start as usize % VALUES) as u8;
-            self.count = at + 1;
+    pub fn with(mut self, step: Step) -> Steps {
+        if self.count < Day::STEPS {
+            self.places[self.count] = step;
+            self.count += 1;
         }
         self
     }
+
+    fn as_slice(&self) -> &[Step] {
+        &self.places[..self.count]
+    }
 }
 
-// A day, the state before any step, and the minute at which its plans end.
+// The state of a day before any step, and the minute at which its plans end.
 #[derive(Clone, Copy)]
-pub struct Task {
-    pub day: Day,
-    pub before: State,
+pub struct Task<'d> {
+    pub before: State<'d>,
     pub horizon: u32,
-}
-
-// The state at a minute, and whether each step so far was allowed to start.
-#[derive(Clone, Copy)]
-struct Replay {
-    state: State,
-    minute: u32,
-    allowed: bool,
-}
-
-// The state so many minutes later, where no step starts.
-pub fn minutes_later(day: Day, mut state: State, minutes: u32) -> State {
-    let mut k = 0;
-    while k < minutes {
-        state = day::tick(day, state);
-        k += 1;
-    }
-    state
-}
-
-// The replay with a step more, which starts at this minute.
-fn with_start(task: Task, mut replay: Replay, action: u8, minute: u8) -> Replay {
-    let number = action as usize;
-    let start = minute as u32;
-    if Day::ACTIONS <= number {
-        replay.allowed = false;
-        return replay;
-    }
-    let state = minutes_later(task.day, replay.state, day::less(start, replay.minute));
-    let may = day::may_start(task.day, state, number, day::less(task.horizon, start));
-    Replay {
-        state: day::started(task.day, state, number),
-        minute: start,
-        allowed: replay.allowed & may,
-    }
 }
 
 // Whether the steps but the one at this place are accepted: each may start, and the goal holds at the horizon. What holds
 // at their own end still holds then, since no step runs in between.
-fn accepted_without(task: Task, steps: Steps, dropped: usize) -> bool {
-    let state = task.before;
-    let day = task.day;
-    let mut replay = Replay {
-        state,
-        minute: 0,
-        allowed: true,
-    };
-    let mut k = 0;
-    while k < Day::STEPS {
-        if (k < steps.count) & (k != dropped) {
-            replay = with_start(task, replay, steps.numbers[k], steps.starts[k]);
+fn accepted_without(task: &Task, steps: &Steps, dropped: usize) -> bool {
+    let mut state = task.before;
+    let mut minute = 0u32;
+    for (k, step) in steps.as_slice().iter().enumerate() {
+        if k != dropped {
+            let number = usize::from(step.number);
+            let start = u32::from(step.start);
+            state = state.minutes_later(start.saturating_sub(minute));
+            if Day::ACTIONS <= number
+                || !state.may_start(number, task.horizon.saturating_sub(start))
+            {
+                return false;
+            }
+            state = state.started(number);
+            minute = start;
         }
-        k += 1;
     }
-    let last = minutes_later(day, replay.state, day::less(task.horizon, replay.minute));
-    replay.allowed & day::within(day.goal, last.facts)
+    state
+        .minutes_later(task.horizon.saturating_sub(minute))
+        .goal_holds()
 }
 
 // Whether some single step can be dropped with the rest still accepted.
-pub fn any_dropped(task: Task, steps: Steps) -> bool {
-    let mut k = 0;
-    while k < steps.count {
-        if accepted_without(task, steps, k) {
-            return true;
-        }
-        k += 1;
-    }
-    false
-}
-
-// Writes a byte, where the slice has that place.
-pub fn put(out: &mut [u8], at: usize, byte: u8) {
-    if at < out.len() {
-        out[at] = byte;
-    }
+pub fn any_dropped(task: &Task, steps: &Steps) -> bool {
+    (0..steps.count).any(|k| accepted_without(task, steps, k))
 }
 
 // Writes the steps as the plan at this place of a list.
-pub fn write(out: &mut [u8], place: u32, steps: Steps) {
+pub fn write(out: &mut [u8], place: u32, steps: &Steps) {
     let from = place as usize * Steps::BYTES;
-    put(out, from, (steps.count % VALUES) as u8);
-    let mut k = 0;
-    while k < Day::STEPS {
-        let at = from + k * 3;
-        put(out, at + 1, steps.numbers[k]);
-        put(out, at + 2, steps.starts[k]);
-        put(out, at + 3, 0);
-        k += 1;
+    if let Some((count, bytes)) = out
+        .get_mut(from..from + Steps::BYTES)
+        .and_then(|plan| plan.split_first_mut())
+    {
+        *count = steps.count as u8;
+        for (to, step) in bytes
+            .as_chunks_mut::<{ Step::BYTES }>()
+            .0
+            .iter_mut()
+            .zip(&steps.places)
+        {
+            *to = <[u8; Step::BYTES]>::from(*step);
+        }
     }
 }

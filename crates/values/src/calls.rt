@@ -4,7 +4,6 @@ use job::refusal::{Verdict, number};
 use job::{Job, StoreRule};
 use jobfile::Written;
 use made_jobs::parts;
-use output::text;
 use pooling::Pooled;
 use price::{Priced, Rates};
 use std::io;
@@ -26,12 +25,6 @@ fn judged(verdict: Verdict) -> u8 {
         Verdict::Pass => 0,
         Verdict::Refused(why) => number(why),
     }
-}
-
-// Whether each of a day's peaks is 0.
-fn no_peaks(day: Day) -> bool {
-    let peaks = day.peaks;
-    (peaks[0] == 0) & (peaks[1] == 0) & (peaks[2] == 0) & (peaks[3] == 0)
 }
 
 fn timed(answer: EarliestTime) -> u8 {
@@ -60,13 +53,13 @@ fn rates_over() -> Rates {
 
 // The planner and the list, lent the same slice.
 fn lend_planners(rt: &impl Print, job: Job, slice: &mut [u8]) -> io::Result<()> {
-    show_day(rt, b", plan ", planner::plan(job, slice))?;
-    show_day(rt, b", list ", lister::list(job, u32::MAX, slice))
+    show_day(rt, ", plan ", planner::plan(job, slice))?;
+    show_day(rt, ", list ", lister::list(job, u32::MAX, slice))
 }
 
 // The writer too.
 fn lend_alone(rt: &impl Print, job: Job, slice: &mut [u8]) -> io::Result<()> {
-    show(rt, b"write ", written(writer::write(job, slice)))?;
+    show(rt, "write ", written(writer::write(job, slice)))?;
     lend_planners(rt, job, slice)
 }
 
@@ -78,8 +71,8 @@ fn lend_halves(
     plan: &[u8],
     set: u64,
 ) -> io::Result<()> {
-    show_day(rt, b", join ", joining::join(job, plan, plan, slice))?;
-    show_day(rt, b", halves ", halving::halves(job, set, slice))
+    show_day(rt, ", join ", joining::join(job, plan, plan, slice))?;
+    show_day(rt, ", halves ", halving::halves(job, set, slice))
 }
 
 // All of these calls, lent the same slice.
@@ -88,44 +81,23 @@ fn lend(rt: &impl Print, job: Job, slice: &mut [u8], plan: &[u8], set: u64) -> i
     lend_halves(rt, job, slice, plan, set)
 }
 
-// The same with the first bytes of a slice, so many.
-fn lend_front(
-    rt: &impl Print,
-    job: Job,
-    slice: &mut [u8],
-    length: usize,
-    plan: &[u8],
-    set: u64,
-) -> io::Result<()> {
-    if length <= slice.len() {
-        lend(rt, job, &mut slice[0..length], plan, set)
-    } else {
-        lend(rt, job, slice, plan, set)
-    }
-}
-
-// The same, and whether the slice is as before.
+// The same with the first bytes of a slice, so many, and whether the slice is as before.
 fn lend_filled(rt: &impl Print, job: Job, length: usize, plan: &[u8], set: u64) -> io::Result<()> {
     let mut slice = [lent::FILL; ROOM];
-    lend_front(rt, job, &mut slice, length, plan, set)?;
-    if lent::kept(&slice, 0) {
-        text(rt, b", slice kept")
-    } else {
-        text(rt, b", slice changed")
-    }
+    lend(rt, job, lent::front_mut(&mut slice, length), plan, set)?;
+    let kept = lent::kept(&slice, 0);
+    print!(rt; ", slice {}", if kept { "kept" } else { "changed" })
 }
 
-fn show(rt: &impl Print, call: &[u8], number: u8) -> io::Result<()> {
-    text(rt, call)?;
-    output::number(rt, number as u64)
+fn show(rt: &impl Print, call: &str, number: u8) -> io::Result<()> {
+    print!(rt; "{call}{number}")
 }
 
 // The refusal of a day, beside which the peaks are all zero.
-fn show_day(rt: &impl Print, call: &[u8], day: Day) -> io::Result<()> {
-    let verdict = day.verdict;
-    show(rt, call, judged(verdict))?;
-    if !no_peaks(day) {
-        text(rt, b" with peaks")?;
+fn show_day(rt: &impl Print, call: &str, day: Day) -> io::Result<()> {
+    show(rt, call, judged(day.verdict))?;
+    if day.peaks != [0; Job::POOLS] {
+        print!(rt; " with peaks")?;
     }
     Ok(())
 }
@@ -136,11 +108,10 @@ fn partner() -> Job {
 }
 
 // The refusal of a pooling, beside which the job is all zero.
-pub fn show_pooled(rt: &impl Print, call: &[u8], answer: Pooled) -> io::Result<()> {
-    let verdict = answer.verdict;
-    show(rt, call, judged(verdict))?;
+pub fn show_pooled(rt: &impl Print, call: &str, answer: Pooled) -> io::Result<()> {
+    show(rt, call, judged(answer.verdict))?;
     if !parts::same_everywhere(answer.job, Job::zero()) {
-        text(rt, b" with a job")?;
+        print!(rt; " with a job")?;
     }
     Ok(())
 }
@@ -148,7 +119,7 @@ pub fn show_pooled(rt: &impl Print, call: &[u8], answer: Pooled) -> io::Result<(
 // The refusal of each call: with a slice of so many bytes, this plan and this set.
 pub fn refusals(
     rt: &impl Print,
-    case: &[u8],
+    case: &str,
     job: Job,
     length: usize,
     plan: &[u8],
@@ -156,16 +127,16 @@ pub fn refusals(
 ) -> io::Result<()> {
     output::name(rt, case)?;
     lend_filled(rt, job, length, plan, set)?;
-    show_day(rt, b", check ", checker::check(job, plan))?;
-    show_day(rt, b", check for ", checker::check_for(job, set, plan))?;
+    show_day(rt, ", check ", checker::check(job, plan))?;
+    show_day(rt, ", check for ", checker::check_for(job, set, plan))?;
     show(
         rt,
-        b", price ",
+        ", price ",
         priced(price::price(job, rates_over(), plan)),
     )?;
-    show_day(rt, b", true day ", true_day::true_day(job, plan, &[0]))?;
-    show(rt, b", earliest ", timed(earliest::earliest(job, set)))?;
-    show_pooled(rt, b", pool first ", pooling::pool(job, partner()))?;
-    show_pooled(rt, b", pool second ", pooling::pool(partner(), job))?;
-    text(rt, b"\n")
+    show_day(rt, ", true day ", true_day::true_day(job, plan, &[0]))?;
+    show(rt, ", earliest ", timed(earliest::earliest(job, set)))?;
+    show_pooled(rt, ", pool first ", pooling::pool(job, partner()))?;
+    show_pooled(rt, ", pool second ", pooling::pool(partner(), job))?;
+    println!(rt; "")
 }

@@ -5,18 +5,20 @@ use made_jobs::parts;
 
 // The one action of the crew, with these facts.
 fn crew_action(needs: u64, adds: u64) -> Action {
-    let mut action = parts::action(4, needs, adds, 0);
-    action.pools = [1, 6, 0, 0];
-    action.stores = [2, 8, 0, 0];
-    action
+    Action {
+        pools: [1, 6, 0, 0],
+        stores: [2, 8, 0, 0],
+        ..parts::action(4, needs, adds, 0)
+    }
 }
 
 // The job with these pools and stores, two of each, and no actions yet.
 fn geared(job: Job, pools: [u32; Job::POOLS], stores: [u32; Job::STORES]) -> Job {
-    let mut geared = parts::with_counts(job, 2, 2, 0);
-    geared.pools = pools;
-    geared.stores = stores;
-    geared
+    Job {
+        pools,
+        stores,
+        ..parts::with_counts(job, 2, 2, 0)
+    }
 }
 
 // A crew with a pool and a store more than the day has.

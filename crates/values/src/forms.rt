@@ -23,15 +23,15 @@ fn short_day() -> Job {
 }
 
 pub fn refused(rt: &impl Print) -> io::Result<()> {
-    output::heading(rt, b"27, a handover over 30; after 7 and before 8.")?;
+    output::heading(rt, "27, a handover over 30; after 7 and before 8.")?;
     let over = five(jobs::base(), 31);
     let idle = jobs::action(0, 2, 1, 0, 3, 7);
-    alone(rt, b"27, handover 31", over)?;
-    alone(rt, b"7 and 27", jobs::with_first_pool(over, 1_000_001))?;
-    alone(rt, b"27 and 8", jobs::with_action(over, 1, idle))?;
+    alone(rt, "27, handover 31", over)?;
+    alone(rt, "7 and 27", jobs::with_first_pool(over, 1_000_001))?;
+    alone(rt, "27 and 8", jobs::with_action(over, 1, idle))?;
     alone(
         rt,
-        b"8, 255 beyond the form",
+        "8, 255 beyond the form",
         jobs::with_action(four(jobs::base()), 1, idle),
     )
 }
@@ -39,24 +39,24 @@ pub fn refused(rt: &impl Print) -> io::Result<()> {
 pub fn ignored(rt: &impl Print) -> io::Result<()> {
     output::heading(
         rt,
-        b"What a job value holds beyond its form is ignored, in refusals and when jobs are compared too.",
+        "What a job value holds beyond its form is ignored, in refusals and when jobs are compared too.",
     )?;
     let plan = [0u8, 0, 0, 1, 3, 0];
-    answers(rt, b"four entries, zeros beyond", short_day(), &plan)?;
-    answers(rt, b"four entries, 255 beyond", four(short_day()), &plan)?;
-    answers(rt, b"five entries, handover 0", five(short_day(), 0), &plan)?;
-    answers(rt, b"five entries, handover 2", five(short_day(), 2), &plan)?;
-    compare(rt, b"four entries, 255 beyond", day(), four(day()))?;
+    answers(rt, "four entries, zeros beyond", short_day(), &plan)?;
+    answers(rt, "four entries, 255 beyond", four(short_day()), &plan)?;
+    answers(rt, "five entries, handover 0", five(short_day(), 0), &plan)?;
+    answers(rt, "five entries, handover 2", five(short_day(), 2), &plan)?;
+    compare(rt, "four entries, 255 beyond", day(), four(day()))?;
     compare(
         rt,
-        b"five entries, 255 beyond",
+        "five entries, 255 beyond",
         five(day(), 2),
         with_handovers(day(), Form::Five, [2, 0, 0, 0]),
     )?;
-    compare(rt, b"handover 3 for 2", five(day(), 2), five(day(), 3))?;
+    compare(rt, "handover 3 for 2", five(day(), 2), five(day(), 3))?;
     compare(
         rt,
-        b"five entries for four",
+        "five entries for four",
         day(),
         with_handovers(day(), Form::Five, [0; Job::POOLS]),
     )
@@ -65,17 +65,17 @@ pub fn ignored(rt: &impl Print) -> io::Result<()> {
 pub fn trips(rt: &impl Print) -> io::Result<()> {
     output::heading(
         rt,
-        b"A job written and read is the same job, its form included.",
+        "A job written and read is the same job, its form included.",
     )?;
     named(
         rt,
-        b"four entries, 255 beyond",
+        "four entries, 255 beyond",
         four(jobs::base()),
         jobs::base(),
     )?;
     named(
         rt,
-        b"five entries, 255 beyond",
+        "five entries, 255 beyond",
         five(jobs::base(), 30),
         with_handovers(jobs::base(), Form::Five, [30, 0, 0, 0]),
     )

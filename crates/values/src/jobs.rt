@@ -15,12 +15,14 @@ pub fn base() -> Job {
     parts::with_two(parts::with_store(pool, 1_000_000), first, second)
 }
 
-pub fn with_head(mut job: Job, facts: u8, deadline: u16, start: u64, goal: u64) -> Job {
-    job.facts = facts;
-    job.deadline = deadline;
-    job.start = start;
-    job.goal = goal;
-    job
+pub fn with_head(job: Job, facts: u8, deadline: u16, start: u64, goal: u64) -> Job {
+    Job {
+        facts,
+        deadline,
+        start,
+        goal,
+        ..job
+    }
 }
 
 pub fn with_first_pool(mut job: Job, amount: u32) -> Job {
@@ -34,8 +36,8 @@ pub fn with_first_store(mut job: Job, amount: u32) -> Job {
 }
 
 pub fn with_action(mut job: Job, at: usize, action: Action) -> Job {
-    if at < Job::ACTIONS {
-        job.actions[at] = action;
+    if let Some(place) = job.actions.get_mut(at) {
+        *place = action;
     }
     job
 }

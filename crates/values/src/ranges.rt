@@ -5,41 +5,40 @@ use crate::refused::alone;
 use crate::trips::named;
 use job::{Form, Job};
 use made_jobs::parts::with_shortest;
-use output::text;
 use std::io;
 
-// The shortest lengths of two actions, and 200 in the places beyond.
-fn of_two(first: u8, second: u8) -> [u8; Job::ACTIONS] {
-    let mut lengths = [200u8; Job::ACTIONS];
+// The shortest lengths of two actions, and this in the places beyond.
+fn of_two(first: u8, second: u8, beyond: u8) -> [u8; Job::ACTIONS] {
+    let mut lengths = [beyond; Job::ACTIONS];
     lengths[0] = first;
     lengths[1] = second;
     lengths
 }
 
 pub fn six(job: Job, first: u8, second: u8) -> Job {
-    with_shortest(job, Form::Six, of_two(first, second))
+    with_shortest(job, Form::Six, of_two(first, second, 200))
 }
 
 // The same beyond a form without shortest lengths.
 pub fn five(job: Job, first: u8, second: u8) -> Job {
-    with_shortest(job, Form::Five, of_two(first, second))
+    with_shortest(job, Form::Five, of_two(first, second, 200))
 }
 
 pub fn refused(rt: &impl Print) -> io::Result<()> {
     output::heading(
         rt,
-        b"29, a shortest length 0 or over the longest; after 8 and before 9.",
+        "29, a shortest length 0 or over the longest; after 8 and before 9.",
     )?;
     let over = six(jobs::base(), 255, 2);
     let idle = jobs::action(0, 2, 1, 0, 3, 7);
     let foreign = jobs::action(1, 4, 1, 0, 3, 7);
-    alone(rt, b"29, shortest 0", six(jobs::base(), 0, 1))?;
-    alone(rt, b"29, shortest 2 of 1", over)?;
-    alone(rt, b"8 and 29", jobs::with_action(over, 1, idle))?;
-    alone(rt, b"29 and 9", jobs::with_action(over, 1, foreign))?;
+    alone(rt, "29, shortest 0", six(jobs::base(), 0, 1))?;
+    alone(rt, "29, shortest 2 of 1", over)?;
+    alone(rt, "8 and 29", jobs::with_action(over, 1, idle))?;
+    alone(rt, "29 and 9", jobs::with_action(over, 1, foreign))?;
     alone(
         rt,
-        b"9, 0 beyond the form",
+        "9, 0 beyond the form",
         jobs::with_action(five(jobs::base(), 0, 0), 1, foreign),
     )
 }
@@ -47,27 +46,27 @@ pub fn refused(rt: &impl Print) -> io::Result<()> {
 pub fn ignored(rt: &impl Print) -> io::Result<()> {
     output::heading(
         rt,
-        b"Older forms have shortest equal to longest, whatever the value holds. Plans are made with the longest lengths.",
+        "Older forms have shortest equal to longest, whatever the value holds. Plans are made with the longest lengths.",
     )?;
     let plan = [0u8, 0, 0, 1, 3, 0];
-    answers(rt, b"five entries, 0 beyond", five(day(), 0, 0), &plan)?;
-    answers(rt, b"six entries, shortest 1 1", six(day(), 1, 1), &plan)?;
+    answers(rt, "five entries, 0 beyond", five(day(), 0, 0), &plan)?;
+    answers(rt, "six entries, shortest 1 1", six(day(), 1, 1), &plan)?;
     compare(
         rt,
-        b"five entries, 0 beyond",
+        "five entries, 0 beyond",
         five(day(), 3, 2),
         five(day(), 0, 0),
     )?;
     compare(
         rt,
-        b"six entries, 0 beyond the actions",
+        "six entries, 0 beyond the actions",
         six(day(), 1, 1),
         with_zeros(1, 1),
     )?;
-    compare(rt, b"shortest 2 for 1", six(day(), 1, 1), six(day(), 1, 2))?;
+    compare(rt, "shortest 2 for 1", six(day(), 1, 1), six(day(), 1, 2))?;
     compare(
         rt,
-        b"six entries for five",
+        "six entries for five",
         five(day(), 3, 2),
         six(day(), 3, 2),
     )
@@ -75,51 +74,48 @@ pub fn ignored(rt: &impl Print) -> io::Result<()> {
 
 // The day with these shortest lengths, and 0 in the places beyond.
 fn with_zeros(first: u8, second: u8) -> Job {
-    let mut lengths = [0u8; Job::ACTIONS];
-    lengths[0] = first;
-    lengths[1] = second;
-    with_shortest(day(), Form::Six, lengths)
+    with_shortest(day(), Form::Six, of_two(first, second, 0))
 }
 
 pub fn trips(rt: &impl Print) -> io::Result<()> {
     output::heading(
         rt,
-        b"A job written and read is the same job, its shortest lengths included.",
+        "A job written and read is the same job, its shortest lengths included.",
     )?;
     named(
         rt,
-        b"five entries, 200 beyond",
+        "five entries, 200 beyond",
         five(day(), 200, 200),
         with_shortest(day(), Form::Five, [0; Job::ACTIONS]),
     )?;
     named(
         rt,
-        b"six entries, 200 beyond",
+        "six entries, 200 beyond",
         six(day(), 3, 1),
         with_zeros(3, 1),
     )
 }
 
 // What the day of action 0 at 0 and action 1 at 3 was, with these lengths.
-fn run(rt: &impl Print, case: &[u8], job: Job, first: u8, second: u8) -> io::Result<()> {
+fn run(rt: &impl Print, case: &str, job: Job, first: u8, second: u8) -> io::Result<()> {
     output::name(rt, case)?;
     show_day(
         rt,
-        b"true day",
+        "true day",
         true_day::true_day(job, &[0, 0, 0, 1, 3, 0], &[first, second]),
     )?;
-    text(rt, b"\n")
+    println!(rt; "")
 }
 
 pub fn true_days(rt: &impl Print) -> io::Result<()> {
     output::heading(
         rt,
-        b"True lengths outside their range are 30; older forms have one length.",
+        "True lengths outside their range are 30; older forms have one length.",
     )?;
-    run(rt, b"six entries, 1 and 1", six(day(), 1, 1), 1, 1)?;
-    run(rt, b"six entries, 3 and 2", six(day(), 1, 1), 3, 2)?;
-    run(rt, b"30, 3 and 3", six(day(), 1, 1), 3, 3)?;
-    run(rt, b"30, 1 of 2 to 3", six(day(), 2, 1), 1, 1)?;
-    run(rt, b"five entries, 3 and 2", five(day(), 1, 1), 3, 2)?;
-    run(rt, b"30, five entries, 2 and 2", five(day(), 1, 1), 2, 2)
+    run(rt, "six entries, 1 and 1", six(day(), 1, 1), 1, 1)?;
+    run(rt, "six entries, 3 and 2", six(day(), 1, 1), 3, 2)?;
+    run(rt, "30, 3 and 3", six(day(), 1, 1), 3, 3)?;
+    run(rt, "30, 1 of 2 to 3", six(day(), 2, 1), 1, 1)?;
+    run(rt, "five entries, 3 and 2", five(day(), 1, 1), 3, 2)?;
+    run(rt, "30, five entries, 2 and 2", five(day(), 1, 1), 2, 2)
 }

@@ -18,34 +18,34 @@ pub fn old(job: Job, reserve: u8) -> Job {
 }
 
 pub fn refused(rt: &impl Print) -> io::Result<()> {
-    output::heading(rt, b"31, a reserve over 50; after 5 and before 6.")?;
+    output::heading(rt, "31, a reserve over 50; after 5 and before 6.")?;
     let over = hourly(jobs::base(), 51);
-    alone(rt, b"31, reserve 51", over)?;
-    alone(rt, b"31, reserve 255", hourly(jobs::base(), 255))?;
-    alone(rt, b"5 and 31", jobs::with_head(over, 2, 1_441, 1, 2))?;
-    alone(rt, b"31 and 6", jobs::with_head(over, 2, 1_440, 1, 4))?;
+    alone(rt, "31, reserve 51", over)?;
+    alone(rt, "31, reserve 255", hourly(jobs::base(), 255))?;
+    alone(rt, "5 and 31", jobs::with_head(over, 2, 1_441, 1, 2))?;
+    alone(rt, "31 and 6", jobs::with_head(over, 2, 1_440, 1, 4))?;
     alone(
         rt,
-        b"6, 255 under the old rule",
+        "6, 255 under the old rule",
         jobs::with_head(old(jobs::base(), 255), 2, 1_440, 1, 4),
     )?;
-    alone(rt, b"26, five hours of 1,000,000", hourly(jobs::base(), 0))
+    alone(rt, "26, five hours of 1,000,000", hourly(jobs::base(), 0))
 }
 
 pub fn ignored(rt: &impl Print) -> io::Result<()> {
     output::heading(
         rt,
-        b"A head of 19 bytes keeps the old rule, any reserve in such a job value is ignored.",
+        "A head of 19 bytes keeps the old rule, any reserve in such a job value is ignored.",
     )?;
     let plan = [0u8, 0, 0, 1, 3, 0];
-    answers(rt, b"old rule, reserve 255", old(day(), 255), &plan)?;
-    answers(rt, b"hourly, reserve 33", hourly(day(), 33), &plan)?;
-    answers(rt, b"hourly, reserve 34", hourly(day(), 34), &plan)?;
-    compare(rt, b"old rule, 255 for 0", day(), old(day(), 255))?;
-    compare(rt, b"hourly for the old rule", day(), hourly(day(), 0))?;
+    answers(rt, "old rule, reserve 255", old(day(), 255), &plan)?;
+    answers(rt, "hourly, reserve 33", hourly(day(), 33), &plan)?;
+    answers(rt, "hourly, reserve 34", hourly(day(), 34), &plan)?;
+    compare(rt, "old rule, 255 for 0", day(), old(day(), 255))?;
+    compare(rt, "hourly for the old rule", day(), hourly(day(), 0))?;
     compare(
         rt,
-        b"reserve 34 for 33",
+        "reserve 34 for 33",
         hourly(day(), 33),
         hourly(day(), 34),
     )
@@ -54,12 +54,12 @@ pub fn ignored(rt: &impl Print) -> io::Result<()> {
 pub fn trips(rt: &impl Print) -> io::Result<()> {
     output::heading(
         rt,
-        b"A job written and read is the same job, its head included.",
+        "A job written and read is the same job, its head included.",
     )?;
-    named(rt, b"old rule, reserve 255", old(day(), 255), day())?;
+    named(rt, "old rule, reserve 255", old(day(), 255), day())?;
     named(
         rt,
-        b"hourly, reserve 33",
+        "hourly, reserve 33",
         hourly(day(), 33),
         hourly(day(), 33),
     )

@@ -7,7 +7,6 @@ use jobfile::Written;
 use lent::front;
 use made_jobs::days;
 use made_jobs::parts::same_everywhere;
-use output::text;
 use std::io;
 
 // The length of the file that is written; 0 where the writer refuses.
@@ -18,12 +17,8 @@ fn write(job: Job, out: &mut [u8]) -> usize {
     }
 }
 
-pub fn same(rt: &impl Print, is_same: bool) -> io::Result<()> {
-    if is_same {
-        text(rt, b"same")
-    } else {
-        text(rt, b"different")
-    }
+pub fn same(is_same: bool) -> &'static str {
+    if is_same { "same" } else { "different" }
 }
 
 // What is read is `clean`: the same job, with zeros beyond its counts.
@@ -34,15 +29,15 @@ fn trip(rt: &impl Print, job: Job, clean: Job) -> io::Result<()> {
     let back = reading.job;
     let mut again = [0u8; ROOM];
     let length_again = write(back, &mut again);
-    output::number(rt, length as u64)?;
-    text(rt, b" bytes, job ")?;
-    same(rt, same_everywhere(back, clean))?;
-    text(rt, b", file ")?;
-    same(rt, front(&file, length) == front(&again, length_again))?;
-    text(rt, b"\n")
+    let same_file = front(&file, length) == front(&again, length_again);
+    println!(rt;
+        "{length} bytes, job {}, file {}",
+        same(same_everywhere(back, clean)),
+        same(same_file)
+    )
 }
 
-pub fn named(rt: &impl Print, case: &[u8], job: Job, clean: Job) -> io::Result<()> {
+pub fn named(rt: &impl Print, case: &str, job: Job, clean: Job) -> io::Result<()> {
     output::name(rt, case)?;
     trip(rt, job, clean)
 }
@@ -59,31 +54,25 @@ fn trip_filled(rt: &impl Print, pools: usize, stores: usize, actions: usize) -> 
 pub fn largest(rt: &impl Print) -> io::Result<()> {
     output::heading(
         rt,
-        b"Written, read and written again, with 4,000,000,000 beyond the counts.",
+        "Written, read and written again, with 4,000,000,000 beyond the counts.",
     )?;
-    named(rt, b"base", jobs::base(), jobs::base())?;
-    named(rt, b"base against case 6", jobs::base(), days::case_6(3))?;
-    output::name(rt, b"largest job")?;
+    named(rt, "base", jobs::base(), jobs::base())?;
+    named(rt, "base against case 6", jobs::base(), days::case_6(3))?;
+    output::name(rt, "largest job")?;
     trip_filled(rt, 4, 4, 64)?;
-    output::name(rt, b"4 pools, 64 actions")?;
+    output::name(rt, "4 pools, 64 actions")?;
     trip_filled(rt, 4, 0, 64)?;
-    output::name(rt, b"4 stores, 64 actions")?;
+    output::name(rt, "4 stores, 64 actions")?;
     trip_filled(rt, 0, 4, 64)
 }
 
 // Every number of pools and stores, with two actions.
 pub fn every_count(rt: &impl Print) -> io::Result<()> {
-    for i in 0..25usize {
-        with_counts(rt, i / 5, i % 5)?;
+    for pools in 0..5 {
+        for stores in 0..5 {
+            print!(rt; "  {pools} pools, {stores} stores: ")?;
+            trip_filled(rt, pools, stores, 2)?;
+        }
     }
     Ok(())
-}
-
-fn with_counts(rt: &impl Print, pools: usize, stores: usize) -> io::Result<()> {
-    text(rt, b"  ")?;
-    output::number(rt, pools as u64)?;
-    text(rt, b" pools, ")?;
-    output::number(rt, stores as u64)?;
-    text(rt, b" stores: ")?;
-    trip_filled(rt, pools, stores, 2)
 }
