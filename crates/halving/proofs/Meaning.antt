@@ -65,9 +65,9 @@ module _ (J : Job) (halfway : ℕ) (slice : List ℕ) (answer : Result Day Refus
   -- the joined steps are told of, and stand at the front of the slice
   joined_handed_out : verdict_of answer ≡ pass → (P : List Step) → JoinedHalves J P slice answer after
       → (answer ≡ Ok (told_of J P)) × (after ≡ overwrite slice 0 (plan_bytes P))
-  joined_handed_out pass P joined =
+  joined_handed_out handed P joined =
       let v = first (JoinedTooLong when too_long J P ∷ []) in
-      let passes : v ≡ pass = sym (verdict_of_day v J P answer joined.answers) ∙ pass in (
+      let passes : v ≡ pass = sym (verdict_of_day v J P answer joined.answers) ∙ handed in (
         joined.answers ∙ ap (λ (w : Verdict). day_of w J P) passes,
         joined.leaves ∙ ap (λ (w : Verdict). left_by w P slice) passes,
       )

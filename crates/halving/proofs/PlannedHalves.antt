@@ -51,9 +51,9 @@ pub record GoodDay (J : Job) (slice : List ℕ) (answer : Result Day Refusal) (a
   pub shortest : (e : ℕ) × (makespan J J.goal ≡ ends_at e) × (e ≤ (told answer).end)
 
 module _ (First : FirstOf) (good : FirstAccepted First) (J : Job) (halfway : ℕ) (slice : List ℕ) (answer : Result Day Refusal)
-    (after : List ℕ) (pass : verdict_of answer ≡ pass) where
+    (after : List ℕ) (handed : verdict_of answer ≡ pass) where
   verdict_passes : (v : Verdict) (P : List Step) → Answered v J P slice answer after → v ≡ pass
-  verdict_passes v P h = sym (verdict_of_day v J P answer h.answers) ∙ pass
+  verdict_passes v P h = sym (verdict_of_day v J P answer h.answers) ∙ handed
 
   module _ (valid : first (job_rows J) ≡ pass) where
     accepted_checked : (bytes : List ℕ) → Accepted J J.goal bytes
@@ -109,5 +109,5 @@ module _ (First : FirstOf) (good : FirstAccepted First) (J : Job) (halfway : ℕ
   pub halves_are_good : Halves First J halfway slice answer after → GoodDay J slice answer after
   halves_are_good h =
       ⊎_elim (λ day. good_of_halves day.valid day)
-      (λ refused. absurd (refused_not_passed answer refused.why refused.told.answers pass))
+      (λ refused. absurd (refused_not_passed answer refused.why refused.told.answers handed))
       (day_or_refused First J halfway slice answer after h)

@@ -5,6 +5,7 @@ use mathlib.Core.Bool.{Bool, true, false}
 use mathlib.Core.List.{List, [], ◌∷◌, ◌++◌}
 use Rattle.job.specs.declared.refusal.Refusal.{Refusal}
 use Rattle.std.specs.Prelude.{Option, Some, None, Result, Ok, Err}
+use Rattle.std.specs.Option.{ok_or}
 use Rattle.std.specs.Result.{result_ok}
 use Rattle.job.specs.Refusal.{pass}
 use Rattle.job.specs.Refusal.{Row, ◌when◌, first}
@@ -67,3 +68,13 @@ some_is_answered (Err why) value h = cc
 pub none_is_refused : {A : Type 0} (r : Result A Refusal) → result_ok r ≡ None → (why : Refusal) × (r ≡ Err why)
 none_is_refused (Ok x) h = cc
 none_is_refused (Err why) h = (why, refl)
+
+-- what stands behind an answer that a refusal is put in place of
+pub value_given : {A : Type 0} (given : Option A) (none : Refusal) (value : A) → ok_or given none ≡ Ok value → given ≡ Some value
+value_given (Some x) none value h = cc
+value_given None none value h = cc
+
+pub no_value_given : {A : Type 0} (given : Option A) (none why : Refusal) → ok_or given none ≡ Err why
+    → (given ≡ None) × (none ≡ why)
+no_value_given (Some x) none why h = (cc, cc)
+no_value_given None none why h = (refl, cc)

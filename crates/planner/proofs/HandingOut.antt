@@ -7,7 +7,6 @@ use mathlib.Core.Path.{◌≡◌, refl, sym, ap, ◌∙◌, subst}
 use mathlib.Core.Bool.{true, false}
 use mathlib.Core.Logic.{⊎_elim}
 use mathlib.Core.List.{List}
-use Rattle.std.specs.Option.{ok_or}
 use Rattle.encoding.specs.Bytes.{overwrite}
 use Rattle.job.specs.declared.refusal.Refusal.{Refusal}
 use Rattle.job.specs.Job.{Job}
@@ -24,16 +23,6 @@ use Rattle.planner.specs.Plan.{RefusedWith, HandsOut, PlansFor, Whole, HandedOut
 -- r is no day, and the slice is as it was
 pub refused_with_lem : (slice : List ℕ) (why : Refusal) (r : Result Day Refusal) → r ≡ Err why → RefusedWith why slice r slice
 refused_with_lem slice why r told = record { answers = told; replies = ap reply_of told; keeps = refl }
-
--- ---- whether there is a plan to hand out
-pub plan_given : {A : Type 0} (answer : Option A) (none : Refusal) (a : A) → ok_or answer none ≡ Ok a → answer ≡ Some a
-plan_given (Some x) none a h = cc
-plan_given None none a h = cc
-
-pub no_plan_given : {A : Type 0} (answer : Option A) (none why : Refusal) → ok_or answer none ≡ Err why
-    → (answer ≡ None) × (none ≡ why)
-no_plan_given (Some x) none why h = (cc, cc)
-no_plan_given None none why h = (refl, cc)
 
 -- ---- an answer of which the search's promise holds
 module _ (J : Job) (goal minute : ℕ) (K : List Step) (answer : Option Answer) (solved : Solved J goal minute K answer) where

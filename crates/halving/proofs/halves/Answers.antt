@@ -1,7 +1,7 @@
 -- `halves` meets its contract: three refusals, a half without a plan, and the day joined from both.
 use Rattle.std.proofs.Common.{rules, Err, ◌≡◌, refl, sym, ap, ◌∙◌}
 use Rattle.job.specs.declared.refusal.Refusal.TheVariants.{NoPlan}
-use Rattle.planner.proofs.HandingOut.{plan_given, no_plan_given}
+use Rattle.job.proofs.Table.{value_given, no_value_given}
 use Rattle.job.specs.Job.{job_in}
 use Rattle.halving.specs.Halves.{FirstListed}
 use Rattle.halving.proofs.WaysOut.{halves_refused, halves_foreign, halves_short_slice}
@@ -38,7 +38,7 @@ pub returns-in_err-first : goal.returns-in_err-first
 returns-in_err-first c =
     let valid = sym c.validate.ensures ∙ c.in_ok-validate.was in
     let own = sym c.foreign.ensures.0 ∙ c.if-foreign.false in
-    let none = no_plan_given c.flatten.result NoPlan _ (sym c.ok_or.ensures.value ∙ c.in_err-first.was) in
+    let none = no_value_given c.flatten.result NoPlan _ (sym c.ok_or.ensures.value ∙ c.in_err-first.was) in
     let e : c.from_residual-in_err-first.result ≡ Err c.in_err-first.field-0.0 = search rules in
     no_first (job_in c.args.job) c.args.halfway c.args.out.now valid own c.first_half.result
     c.first_half.ensures c.if-out-lt-BYTES.false (sym c.flatten.ensures ∙ none.0) _ (e ∙ ap Err (sym none.1))
@@ -47,7 +47,7 @@ pub overflow_mul-end : goal.overflow_mul-end
 overflow_mul-end c =
     let valid = sym c.validate.ensures ∙ c.in_ok-validate.was in
     let own = sym c.foreign.ensures.0 ∙ c.if-foreign.false in
-    let first = sym c.flatten.ensures ∙ plan_given c.flatten.result NoPlan _ (sym c.ok_or.ensures.value ∙ c.in_ok-first.was) in
+    let first = sym c.flatten.ensures ∙ value_given c.flatten.result NoPlan _ (sym c.ok_or.ensures.value ∙ c.in_ok-first.was) in
     let few = first_few (job_in c.args.job) c.args.halfway c.args.out.now valid own c.first_half.result
     c.first_half.ensures _ first in
     record { fits = omega arith }
@@ -56,7 +56,7 @@ pub slice_bounds-morning-end : goal.slice_bounds-morning-end
 slice_bounds-morning-end c =
     let valid = sym c.validate.ensures ∙ c.in_ok-validate.was in
     let own = sym c.foreign.ensures.0 ∙ c.if-foreign.false in
-    let first = sym c.flatten.ensures ∙ plan_given c.flatten.result NoPlan _ (sym c.ok_or.ensures.value ∙ c.in_ok-first.was) in
+    let first = sym c.flatten.ensures ∙ value_given c.flatten.result NoPlan _ (sym c.ok_or.ensures.value ∙ c.in_ok-first.was) in
     first_inside (job_in c.args.job) c.args.halfway c.args.out.now valid own c.first_half.result
     c.first_half.ensures _ first
 
@@ -64,7 +64,7 @@ pub slice_bounds-second_half-end : goal.slice_bounds-second_half-end
 slice_bounds-second_half-end c =
     let valid = sym c.validate.ensures ∙ c.in_ok-validate.was in
     let own = sym c.foreign.ensures.0 ∙ c.if-foreign.false in
-    let first = sym c.flatten.ensures ∙ plan_given c.flatten.result NoPlan _ (sym c.ok_or.ensures.value ∙ c.in_ok-first.was) in
+    let first = sym c.flatten.ensures ∙ value_given c.flatten.result NoPlan _ (sym c.ok_or.ensures.value ∙ c.in_ok-first.was) in
     sym (first_whole (job_in c.args.job) c.args.halfway c.args.out.now valid own c.first_half.result
     c.first_half.ensures _ first)
 
@@ -72,7 +72,7 @@ pub second_half-requires : goal.second_half-requires
 second_half-requires c =
     let valid = sym c.validate.ensures ∙ c.in_ok-validate.was in
     let own = sym c.foreign.ensures.0 ∙ c.if-foreign.false in
-    let first = sym c.flatten.ensures ∙ plan_given c.flatten.result NoPlan _ (sym c.ok_or.ensures.value ∙ c.in_ok-first.was) in
+    let first = sym c.flatten.ensures ∙ value_given c.flatten.result NoPlan _ (sym c.ok_or.ensures.value ∙ c.in_ok-first.was) in
     (valid, first_accepted (job_in c.args.job) c.args.halfway c.args.out.now valid own c.first_half.result
     c.first_half.ensures _ first)
 
@@ -80,8 +80,8 @@ pub returns-in_err-second : goal.returns-in_err-second
 returns-in_err-second c =
     let valid = sym c.validate.ensures ∙ c.in_ok-validate.was in
     let own = sym c.foreign.ensures.0 ∙ c.if-foreign.false in
-    let first = sym c.flatten.ensures ∙ plan_given c.flatten.result NoPlan _ (sym c.ok_or.ensures.value ∙ c.in_ok-first.was) in
-    let none = no_plan_given c.flatten-2.result NoPlan _ (sym c.ok_or-2.ensures.value ∙ c.in_err-second.was) in
+    let first = sym c.flatten.ensures ∙ value_given c.flatten.result NoPlan _ (sym c.ok_or.ensures.value ∙ c.in_ok-first.was) in
+    let none = no_value_given c.flatten-2.result NoPlan _ (sym c.ok_or-2.ensures.value ∙ c.in_err-second.was) in
     let e : c.from_residual-in_err-second.result ≡ Err c.in_err-second.field-0.0 = search rules in
     no_second (job_in c.args.job) c.args.halfway c.args.out.now valid own c.first_half.result
     c.first_half.ensures _ first c.if-out-lt-BYTES.false
@@ -91,8 +91,8 @@ pub overflow_mul-later-end : goal.overflow_mul-later-end
 overflow_mul-later-end c =
     let valid = sym c.validate.ensures ∙ c.in_ok-validate.was in
     let own = sym c.foreign.ensures.0 ∙ c.if-foreign.false in
-    let first = sym c.flatten.ensures ∙ plan_given c.flatten.result NoPlan _ (sym c.ok_or.ensures.value ∙ c.in_ok-first.was) in
-    let second = sym c.flatten-2.ensures ∙ plan_given c.flatten-2.result NoPlan _ (sym c.ok_or-2.ensures.value ∙ c.in_ok-second.was) in
+    let first = sym c.flatten.ensures ∙ value_given c.flatten.result NoPlan _ (sym c.ok_or.ensures.value ∙ c.in_ok-first.was) in
+    let second = sym c.flatten-2.ensures ∙ value_given c.flatten-2.result NoPlan _ (sym c.ok_or-2.ensures.value ∙ c.in_ok-second.was) in
     let few = second_few (job_in c.args.job) c.args.halfway c.args.out.now valid own c.first_half.result
     c.first_half.ensures _ first c.if-out-lt-BYTES.false
     c.second_half.result c.second_half.ensures _ second in
@@ -102,8 +102,8 @@ pub slice_bounds-later-end : goal.slice_bounds-later-end
 slice_bounds-later-end c =
     let valid = sym c.validate.ensures ∙ c.in_ok-validate.was in
     let own = sym c.foreign.ensures.0 ∙ c.if-foreign.false in
-    let first = sym c.flatten.ensures ∙ plan_given c.flatten.result NoPlan _ (sym c.ok_or.ensures.value ∙ c.in_ok-first.was) in
-    let second = sym c.flatten-2.ensures ∙ plan_given c.flatten-2.result NoPlan _ (sym c.ok_or-2.ensures.value ∙ c.in_ok-second.was) in
+    let first = sym c.flatten.ensures ∙ value_given c.flatten.result NoPlan _ (sym c.ok_or.ensures.value ∙ c.in_ok-first.was) in
+    let second = sym c.flatten-2.ensures ∙ value_given c.flatten-2.result NoPlan _ (sym c.ok_or-2.ensures.value ∙ c.in_ok-second.was) in
     second_inside (job_in c.args.job) c.args.halfway c.args.out.now valid own c.first_half.result
     c.first_half.ensures _ first c.if-out-lt-BYTES.false
     c.second_half.result c.second_half.ensures _ second
@@ -112,7 +112,7 @@ pub slice_bounds-join-end : goal.slice_bounds-join-end
 slice_bounds-join-end c =
     let valid = sym c.validate.ensures ∙ c.in_ok-validate.was in
     let own = sym c.foreign.ensures.0 ∙ c.if-foreign.false in
-    let first = sym c.flatten.ensures ∙ plan_given c.flatten.result NoPlan _ (sym c.ok_or.ensures.value ∙ c.in_ok-first.was) in
+    let first = sym c.flatten.ensures ∙ value_given c.flatten.result NoPlan _ (sym c.ok_or.ensures.value ∙ c.in_ok-first.was) in
     sym (first_whole (job_in c.args.job) c.args.halfway c.args.out.now valid own c.first_half.result
     c.first_half.ensures _ first)
 
@@ -120,8 +120,8 @@ pub slice_bounds-join-end-2 : goal.slice_bounds-join-end-2
 slice_bounds-join-end-2 c =
     let valid = sym c.validate.ensures ∙ c.in_ok-validate.was in
     let own = sym c.foreign.ensures.0 ∙ c.if-foreign.false in
-    let first = sym c.flatten.ensures ∙ plan_given c.flatten.result NoPlan _ (sym c.ok_or.ensures.value ∙ c.in_ok-first.was) in
-    let second = sym c.flatten-2.ensures ∙ plan_given c.flatten-2.result NoPlan _ (sym c.ok_or-2.ensures.value ∙ c.in_ok-second.was) in
+    let first = sym c.flatten.ensures ∙ value_given c.flatten.result NoPlan _ (sym c.ok_or.ensures.value ∙ c.in_ok-first.was) in
+    let second = sym c.flatten-2.ensures ∙ value_given c.flatten-2.result NoPlan _ (sym c.ok_or-2.ensures.value ∙ c.in_ok-second.was) in
     sym (second_whole (job_in c.args.job) c.args.halfway c.args.out.now valid own c.first_half.result
     c.first_half.ensures _ first c.if-out-lt-BYTES.false
     c.second_half.result c.second_half.ensures _ second)
@@ -130,8 +130,8 @@ pub returns : goal.returns
 returns c =
     let valid = sym c.validate.ensures ∙ c.in_ok-validate.was in
     let own = sym c.foreign.ensures.0 ∙ c.if-foreign.false in
-    let first = sym c.flatten.ensures ∙ plan_given c.flatten.result NoPlan _ (sym c.ok_or.ensures.value ∙ c.in_ok-first.was) in
-    let second = sym c.flatten-2.ensures ∙ plan_given c.flatten-2.result NoPlan _ (sym c.ok_or-2.ensures.value ∙ c.in_ok-second.was) in
+    let first = sym c.flatten.ensures ∙ value_given c.flatten.result NoPlan _ (sym c.ok_or.ensures.value ∙ c.in_ok-first.was) in
+    let second = sym c.flatten-2.ensures ∙ value_given c.flatten-2.result NoPlan _ (sym c.ok_or-2.ensures.value ∙ c.in_ok-second.was) in
     both_joined (job_in c.args.job) c.args.halfway c.args.out.now valid own c.first_half.result
     c.first_half.ensures _ first c.if-out-lt-BYTES.false
     c.second_half.result c.second_half.ensures _ second _ _ c.join.ensures

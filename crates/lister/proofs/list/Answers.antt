@@ -1,6 +1,6 @@
 -- `list` meets its contract: three refusals, and the plan at the place handed out.
 use Rattle.std.proofs.Common.{rules, Err, ◌≡◌, refl, sym, ap, ◌∙◌}
-use Rattle.planner.proofs.HandingOut.{plan_given, no_plan_given}
+use Rattle.job.proofs.Table.{value_given, no_value_given}
 use Rattle.job.specs.declared.refusal.Refusal.TheVariants.{NoPlan}
 use Rattle.job.specs.Job.{job_in}
 use Rattle.solver.proofs.TaskDays.{whole_day_fits}
@@ -27,7 +27,7 @@ pub returns-in_err-answer : goal.returns-in_err-answer
 returns-in_err-answer c =
     let passes = sym c.validate.ensures ∙ c.in_ok-validate.was in
     let page = page_of_whole_day c.args.job _ c.whole_day.ensures c.args.place c.plan_at.result c.plan_at.ensures in
-    let none = no_plan_given c.plan_at.result NoPlan _ (sym c.ok_or.ensures.value ∙ c.in_err-answer.was) in
+    let none = no_value_given c.plan_at.result NoPlan _ (sym c.ok_or.ensures.value ∙ c.in_err-answer.was) in
     let e : c.from_residual-in_err-answer.result ≡ Err c.in_err-answer.field-0.0 = search rules in
     lists_none (job_in c.args.job) c.args.place c.args.out.now passes c.if-out-lt-BYTES.false c.plan_at.result page
     none.0 _ (e ∙ ap Err (sym none.1))
@@ -36,7 +36,7 @@ pub hand_out-requires : goal.hand_out-requires
 hand_out-requires c =
     let passes = sym c.validate.ensures ∙ c.in_ok-validate.was in
     let page = page_of_whole_day c.args.job _ c.whole_day.ensures c.args.place c.plan_at.result c.plan_at.ensures in
-    let at = plan_given c.plan_at.result NoPlan _ (sym c.ok_or.ensures.value ∙ c.in_ok-answer.was) in (
+    let at = value_given c.plan_at.result NoPlan _ (sym c.ok_or.ensures.value ∙ c.in_ok-answer.was) in (
       whole_page (job_in c.args.job) c.args.place c.args.out.now passes c.if-out-lt-BYTES.false c.plan_at.result page _ at,
       c.if-out-lt-BYTES.false,
     )
@@ -45,6 +45,6 @@ pub returns : goal.returns
 returns c =
     let passes = sym c.validate.ensures ∙ c.in_ok-validate.was in
     let page = page_of_whole_day c.args.job _ c.whole_day.ensures c.args.place c.plan_at.result c.plan_at.ensures in
-    let at = plan_given c.plan_at.result NoPlan _ (sym c.ok_or.ensures.value ∙ c.in_ok-answer.was) in
+    let at = value_given c.plan_at.result NoPlan _ (sym c.ok_or.ensures.value ∙ c.in_ok-answer.was) in
     lists_answered (job_in c.args.job) c.args.place c.args.out.now passes c.if-out-lt-BYTES.false c.plan_at.result page _ at
     _ _ c.hand_out.ensures

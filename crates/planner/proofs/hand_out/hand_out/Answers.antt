@@ -3,18 +3,18 @@ use Rattle.std.proofs.Common.{rules, ◌≡◌, ◌*◌, Err, Some, None, refl, 
 use Rattle.std.proofs.Common.{length-take-le}
 use Rattle.planner.specs.Plan.{HandedOut}
 use Rattle.planner.proofs.Copying.{copied_front, long_enough}
-use Rattle.planner.proofs.HandingOut.{plan_given, no_plan_given}
+use Rattle.job.proofs.Table.{value_given, no_value_given}
 use Rattle.planner.proofs.hand_out.hand_out.Goals as goal
 
 pub returns-in_err-answer : goal.returns-in_err-answer
 returns-in_err-answer c =
-    let refused = no_plan_given c.args.answer c.args.none _ (sym c.ok_or.ensures.value ∙ c.in_err-answer.was) in
+    let refused = no_value_given c.args.answer c.args.none _ (sym c.ok_or.ensures.value ∙ c.in_err-answer.was) in
     let e : c.from_residual.result ≡ Err c.in_err-answer.field-0.0 = search rules in
     rw refused.0 (e ∙ ap Err (sym refused.1), refl)
 
 pub slice_bounds-copy_from_slice-end-2 : goal.slice_bounds-copy_from_slice-end-2
 slice_bounds-copy_from_slice-end-2 c =
-    let given = plan_given c.args.answer c.args.none _ (sym c.ok_or.ensures.value ∙ c.in_ok-answer.was) in
+    let given = value_given c.args.answer c.args.none _ (sym c.ok_or.ensures.value ∙ c.in_ok-answer.was) in
     let whole = c.requires.0 _ given in
     let few = whole.0 in
     let room = c.requires.1 in
@@ -26,7 +26,7 @@ slice_bounds-copy_from_slice-end-2 c =
 
 pub returns : goal.returns
 returns c =
-    let given = plan_given c.args.answer c.args.none _ (sym c.ok_or.ensures.value ∙ c.in_ok-answer.was) in
+    let given = value_given c.args.answer c.args.none _ (sym c.ok_or.ensures.value ∙ c.in_ok-answer.was) in
     let a = c.in_ok-answer.answer in
     let n : a.count * 3 ≡ 3 * a.count = omega arith in
     let piece = c.copy_from_slice.ensures.after ∙ ap (λ (k : ℕ). take k a.plan) n in

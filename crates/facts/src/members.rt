@@ -1,7 +1,9 @@
 // The facts of a set, one after the other.
 ghost use Rattle.std.specs.Prelude.{◌≡◌, ◌-◌, ◌≤◌};
 ghost use Rattle.std.specs.Iterator.{at_most};
-ghost use Rattle.landmarks.specs.Members.{GivesNext};
+ghost use Rattle.facts.specs.Members.{GivesNext};
+
+use crate::{BITS, next};
 
 // The facts of a set from a number on, lowest first.
 #[derive(Clone, Copy)]
@@ -19,8 +21,8 @@ impl Iterator for Members {
     ghost remaining = { λ s. at_most (64 - s.from) };
 
     fn next(&mut self) -> Option<u8> {
-        let fact = facts::next(self.set, self.from);
-        if fact == facts::BITS {
+        let fact = next(self.set, self.from);
+        if fact == BITS {
             return None;
         }
         self.from = fact + 1;
