@@ -8,10 +8,34 @@ ghost use Rattle.calls.specs.Calls.{price_answer, rates_in, true_day_answer, pea
 ghost use Rattle.calls.specs.Calls.{joined_answer, left_by_joining, peaks_by_joining};
 ghost use Rattle.calls.specs.Calls.{EarliestAnswers, PlanAnswers, ListAnswers, HalvesAnswers, ReplanAnswers};
 ghost use Rattle.calls.specs.Calls.{pool_answer, left_by_pool};
+ghost use Rattle.packing.specs.Answer.{checked_number, planned_number, FewSteps};
 
 use job::Job;
-use packing::{DONE, day_told, end_told, pack, price_told, put_peaks, refused, told, written};
+use job::refusal::Refusal;
+use packing::{DONE, day_told, pack, price_told, put_peaks, refused, told, written};
 use price::Rates;
+use timeline::Day;
+
+// A day by its end alone, or why there is none.
+fn checked(day: Result<Day, Refusal>) -> u64
+    ensures { result ≡ checked_number day }
+{
+    match day {
+        Ok(day) => day_told(day.end, 0),
+        Err(why) => refused(why),
+    }
+}
+
+// A day by its end and its number of steps, or why there is none.
+fn planned(day: Result<Day, Refusal>) -> u64
+    requires { FewSteps day }
+    ensures { result ≡ planned_number day }
+{
+    match day {
+        Ok(day) => day_told(day.end, day.steps as u16),
+        Err(why) => refused(why),
+    }
+}
 
 // Whether a job file is accepted: its length, or its first refusal.
 #[unsafe(no_mangle)]
@@ -53,7 +77,7 @@ pub extern "C" fn ruhkevois_check(file: &[u8], plan: &[u8], peaks: &mut [u32; Jo
     };
     let day = checker::check(job, plan);
     put_peaks(peaks, day);
-    end_told(day)
+    checked(day)
 }
 
 // What a plan for the job of a file costs at these rates for pools and stores and this evening percentage: the cents,
@@ -102,7 +126,7 @@ pub extern "C" fn ruhkevois_true_day(
     };
     let day = true_day::true_day(job, plan, lengths);
     put_peaks(peaks, day);
-    day_told(day)
+    planned(day)
 }
 
 // Joins two plans for the job of a file: writes the joined plan to the front of the slice. Its end and number of steps,
@@ -128,7 +152,7 @@ pub extern "C" fn ruhkevois_join(
     };
     let day = joining::join(job, first, second, out);
     put_peaks(peaks, day);
-    day_told(day)
+    planned(day)
 }
 
 // The earliest time of a set of facts in the job of a file: the minute, unreachable, or the first refusal of the
@@ -159,7 +183,7 @@ pub extern "C" fn ruhkevois_plan(file: &[u8], out: &mut [u8], peaks: &mut [u32; 
     };
     let day = planner::plan(job, out);
     put_peaks(peaks, day);
-    day_told(day)
+    planned(day)
 }
 
 // Writes the plan at a place, counted from 0, of the list of all shortest plans for the job of a file to the front of
@@ -180,7 +204,7 @@ pub extern "C" fn ruhkevois_list(
     };
     let day = lister::list(job, place, out);
     put_peaks(peaks, day);
-    day_told(day)
+    planned(day)
 }
 
 // Plans the day of a file in two halves, the first for the halfway set: writes the joined plan to the front of the slice.
@@ -201,7 +225,7 @@ pub extern "C" fn ruhkevois_halves(
     };
     let day = halving::halves(job, halfway, out);
     put_peaks(peaks, day);
-    day_told(day)
+    planned(day)
 }
 
 // Replans the day of a file that has begun: writes a shortest plan for the new goal that keeps the steps of the current
@@ -225,7 +249,7 @@ pub extern "C" fn ruhkevois_replan(
     };
     let day = replanner::replan(job, plan, minute, goal, out);
     put_peaks(peaks, day);
-    day_told(day)
+    planned(day)
 }
 
 // Pools the jobs of two files and writes the pooled job's file to the front of the slice: its length, or the first

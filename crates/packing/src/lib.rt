@@ -6,8 +6,8 @@ ghost use Rattle.std.specs.Prelude.{◌≡◌, ◌<◌};
 
 
 
-ghost use Rattle.packing.specs.Answer.{packed, refusal, written_number, ShortFile, checked_number, planned_number};
-ghost use Rattle.packing.specs.Answer.{FewSteps, peaks_by, cost, priced_number, SmallPrice, time_number};
+ghost use Rattle.packing.specs.Answer.{packed, done, refusal, written_number, ShortFile};
+ghost use Rattle.packing.specs.Answer.{peaks_by, cost, priced_number, SmallPrice, time_number};
 
 use job::Job;
 use job::refusal::Refusal;
@@ -53,25 +53,11 @@ pub fn written(answer: Result<usize, Refusal>) -> u64
     }
 }
 
-// A day told by its end alone, or why there is none.
-pub fn end_told(day: Result<Day, Refusal>) -> u64
-    ensures { result ≡ checked_number day }
+// A day with so many steps told: the plan's end.
+pub fn day_told(end: u32, steps: u16) -> u64
+    ensures { result ≡ done end steps }
 {
-    match day {
-        Ok(day) => pack(DONE, 0, day.end, 0),
-        Err(why) => refused(why),
-    }
-}
-
-// A day told by its end and its number of steps, or why there is none.
-pub fn day_told(day: Result<Day, Refusal>) -> u64
-    requires { FewSteps day }
-    ensures { result ≡ planned_number day }
-{
-    match day {
-        Ok(day) => pack(DONE, 0, day.end, day.steps as u16),
-        Err(why) => refused(why),
-    }
+    pack(DONE, 0, end, steps)
 }
 
 // Puts the peaks of a day into the array, and leaves it as it was where there is no day.

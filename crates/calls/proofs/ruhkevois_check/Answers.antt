@@ -15,6 +15,6 @@ returns-in-Ok c =
     let read = sym c.read.ensures.answers ∙ c.in-Ok.is in
     let told = c.check-day.ensures.answers in
     record {
-      value = rw read (c.end_told.ensures ∙ ap checked_number told);
+      value = rw read (c.checked.ensures ∙ ap checked_number told);
       peaks_after = rw read (c.put_peaks.ensures ∙ ap (λ (d : Result Day Refusal). peaks_by d c.args.peaks.now) told);
     }

@@ -13,8 +13,8 @@ returns-in-Err c =
     let read = sym c.read.ensures.answers ∙ c.in-Err.is in
     record { value = rw read c.refused.ensures; out_after = rw read refl; peaks_after = rw read refl }
 
-pub day_told-requires : goal.day_told-requires
-day_told-requires c =
+pub planned-requires : goal.planned-requires
+planned-requires c =
     few_steps _ (joined_steps_are_few (job_in c.in-Ok.job) c.args.first.now c.args.second.now c.args.out.now
     c.join-day.result c.join-day.ensures.answers)
 
@@ -23,7 +23,7 @@ returns-in-Ok c =
     let read = sym c.read.ensures.answers ∙ c.in-Ok.is in
     let joins = c.join-day.ensures in
     record {
-      value = rw read (c.day_told.ensures ∙ ap planned_number joins.answers);
+      value = rw read (c.planned.ensures ∙ ap planned_number joins.answers);
       out_after = rw read joins.leaves;
       peaks_after = rw read
           (c.put_peaks.ensures ∙ ap (λ (d : Result Day Refusal). peaks_by d c.args.peaks.now) joins.answers);

@@ -8,10 +8,10 @@ use Rattle.calls.proofs.ruhkevois_replan.Goals as goal
 pub returns-in-Err : goal.returns-in-Err
 returns-in-Err c = rw (sym c.read.ensures.answers ∙ c.in-Err.is) (c.refused.ensures, refl, refl)
 
-pub day_told-requires : goal.day_told-requires
-day_told-requires c = few_steps _ (replanned_steps_are_few (job_in c.in-Ok.job) c.args.plan.now c.args.minute c.args.goal c.args.out.now c.replan-day.result _ c.replan-day.ensures)
+pub planned-requires : goal.planned-requires
+planned-requires c = few_steps _ (replanned_steps_are_few (job_in c.in-Ok.job) c.args.plan.now c.args.minute c.args.goal c.args.out.now c.replan-day.result _ c.replan-day.ensures)
 
 pub returns-in-Ok : goal.returns-in-Ok
 returns-in-Ok c =
     rw (sym c.read.ensures.answers ∙ c.in-Ok.is)
-    (c.replan-day.result, c.replan-day.ensures, c.day_told.ensures, c.put_peaks.ensures)
+    (c.replan-day.result, c.replan-day.ensures, c.planned.ensures, c.put_peaks.ensures)

@@ -12,8 +12,8 @@ returns-in-Err c =
     let read = sym c.read.ensures.answers ∙ c.in-Err.is in
     record { value = rw read c.refused.ensures; peaks_after = rw read refl }
 
-pub day_told-requires : goal.day_told-requires
-day_told-requires c =
+pub planned-requires : goal.planned-requires
+planned-requires c =
     few_steps _ (true_steps_are_few (job_in c.in-Ok.job) c.args.plan.now c.args.lengths.now
     c.true_day-day.result c.true_day-day.ensures.answers)
 
@@ -22,6 +22,6 @@ returns-in-Ok c =
     let read = sym c.read.ensures.answers ∙ c.in-Ok.is in
     let told = c.true_day-day.ensures.answers in
     record {
-      value = rw read (c.day_told.ensures ∙ ap planned_number told);
+      value = rw read (c.planned.ensures ∙ ap planned_number told);
       peaks_after = rw read (c.put_peaks.ensures ∙ ap (λ (d : Result Day Refusal). peaks_by d c.args.peaks.now) told);
     }
