@@ -89,13 +89,22 @@ pub fn price_told(answer: Result<u64, Refusal>) -> u64
     }
 }
 
-// An earliest time: the minute, or the kind for unreachable.
+// A time: the minute, or the kind for unreachable.
+fn minute_told(time: Option<u32>) -> u64
+    ensures { result ≡ time_number (Ok time) }
+{
+    match time {
+        Some(minute) => pack(DONE, 0, minute, 0),
+        None => pack(UNREACHABLE, 0, 0, 0),
+    }
+}
+
+// An earliest time, or why there is none to tell.
 pub fn told(answer: Result<Option<u32>, Refusal>) -> u64
     ensures { result ≡ time_number answer }
 {
     match answer {
-        Ok(Some(minute)) => pack(DONE, 0, minute, 0),
-        Ok(None) => pack(UNREACHABLE, 0, 0, 0),
+        Ok(time) => minute_told(time),
         Err(why) => refused(why),
     }
 }

@@ -10,8 +10,8 @@ returns-in-Err c =
     let read = sym c.read.ensures.answers ∙ c.in-Err.is in
     record { value = rw read c.refused.ensures; peaks_after = rw read refl }
 
-pub returns-in-Ok : goal.returns-in-Ok
-returns-in-Ok c =
+pub returns : goal.returns
+returns c =
     let read = sym c.read.ensures.answers ∙ c.in-Ok.is in
     let told = c.check-day.ensures.answers in
     record {

@@ -18,8 +18,8 @@ planned-requires c =
     few_steps _ (joined_steps_are_few (job_in c.in-Ok.job) c.args.first.now c.args.second.now c.args.out.now
     c.join-day.result c.join-day.ensures.answers)
 
-pub returns-in-Ok : goal.returns-in-Ok
-returns-in-Ok c =
+pub returns : goal.returns
+returns c =
     let read = sym c.read.ensures.answers ∙ c.in-Ok.is in
     let joins = c.join-day.ensures in
     record {

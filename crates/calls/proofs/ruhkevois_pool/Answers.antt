@@ -1,8 +1,7 @@
--- `ruhkevois_pool` meets its contract: a file is refused, pooling is, or the writer has answered.
-use Rattle.std.proofs.Common.{refl, sym, ap, ◌∙◌}
-use Rattle.packing.specs.Answer.{written_number}
+-- `ruhkevois_pool` meets its contract: the file of the pooled job is short.
 use Rattle.calls.proofs.Fitting.{written_file_is_short}
 use Rattle.calls.proofs.ruhkevois_pool.Goals as goal
 
-pub returns-in-Err : goal.returns-in-Err
-returns-in-Err c = ?
+pub written-requires : goal.written-requires
+written-requires c =
+    written_file_is_short c.in-Ok-pool.job c.args.out.now c.write-answer.result c.write-answer.ensures.answers

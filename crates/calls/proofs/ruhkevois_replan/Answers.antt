@@ -11,7 +11,7 @@ returns-in-Err c = rw (sym c.read.ensures.answers ∙ c.in-Err.is) (c.refused.en
 pub planned-requires : goal.planned-requires
 planned-requires c = few_steps _ (replanned_steps_are_few (job_in c.in-Ok.job) c.args.plan.now c.args.minute c.args.goal c.args.out.now c.replan-day.result _ c.replan-day.ensures)
 
-pub returns-in-Ok : goal.returns-in-Ok
-returns-in-Ok c =
+pub returns : goal.returns
+returns c =
     rw (sym c.read.ensures.answers ∙ c.in-Ok.is)
     (c.replan-day.result, c.replan-day.ensures, c.planned.ensures, c.put_peaks.ensures)

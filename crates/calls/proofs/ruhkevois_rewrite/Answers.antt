@@ -13,8 +13,8 @@ pub written-requires : goal.written-requires
 written-requires c =
     written_file_is_short c.in-Ok.job c.args.out.now c.write-answer.result c.write-answer.ensures.answers
 
-pub returns-in-Ok : goal.returns-in-Ok
-returns-in-Ok c =
+pub returns : goal.returns
+returns c =
     let read = sym c.read.ensures.answers ∙ c.in-Ok.is in
     let wrote = c.write-answer.ensures in
     record {

@@ -17,8 +17,8 @@ planned-requires c =
     few_steps _ (true_steps_are_few (job_in c.in-Ok.job) c.args.plan.now c.args.lengths.now
     c.true_day-day.result c.true_day-day.ensures.answers)
 
-pub returns-in-Ok : goal.returns-in-Ok
-returns-in-Ok c =
+pub returns : goal.returns
+returns c =
     let read = sym c.read.ensures.answers ∙ c.in-Ok.is in
     let told = c.true_day-day.ensures.answers in
     record {
