@@ -14,11 +14,10 @@ fn exceed(numbers: &[u32], frame: Frame, i: usize, j: usize) -> bool
     requires { (length numbers.now ≡ 1220) × (frame.pools ≤ 4) × (i < 64) × (j < 64) }
     ensures { result ≡ true → Exceeded numbers.now frame i j }
 {
-    let available = frame.available;
     (0..frame.pools).any(|pool| {
         let first = u64::from(numbers[i * NumberTable::ROW + NumberTable::POOLS + pool]);
         let second = u64::from(numbers[j * NumberTable::ROW + NumberTable::POOLS + pool]);
-        u64::from(available[pool]) < first + second
+        u64::from(frame.available[pool]) < first + second
     })
 }
 
@@ -59,11 +58,9 @@ fn beside(sets: &[u64], numbers: &[u32], times: &[u32], frame: Frame, i: usize) 
 {
     let mut all: u64 = 0;
     for j in 0..frame.actions {
-        let apart = exclude(sets, numbers, times, frame, i, j);
-        all = facts::union(
-            facts::when(!apart, sets[j * SetTable::ROW + SetTable::ADDS]),
-            all,
-        );
+        if !exclude(sets, numbers, times, frame, i, j) {
+            all = facts::union(sets[j * SetTable::ROW + SetTable::ADDS], all);
+        }
     }
     all
 }

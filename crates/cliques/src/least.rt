@@ -1,7 +1,5 @@
 // The least minutes of an action that adds a fact: one number for each fact, behind the openings.
-ghost use Rattle.std.specs.Prelude.{◌≡◌, true, ◌≤◌, ◌<◌, length};
-ghost use Rattle.facts.specs.FactSet.{has};
-ghost use Rattle.tables.specs.Tables.{adds_at, duration_at};
+ghost use Rattle.std.specs.Prelude.{◌≡◌, ◌≤◌, ◌<◌, length};
 ghost use Rattle.cliques.specs.Cliques.{LeastTo, LeastPut};
 
 use job::Action;
@@ -9,18 +7,6 @@ use tables::layout::{NumberTable, SetTable};
 
 // No action takes longer.
 const LONGEST: u32 = Action::DURATION as u32;
-
-// The lesser of a number and the minutes of action i, if that adds q.
-fn shorter(sets: &[u64], numbers: &[u32], i: usize, q: u8, best: u32) -> u32
-    requires { (length sets.now ≡ 384) × (length numbers.now ≡ 1220) × (i < 64) }
-    ensures { (result ≤ best)
-        × (has (adds_at sets.now i) q ≡ true → result ≤ duration_at numbers.now i) }
-{
-    if !facts::has(sets[i * SetTable::ROW + SetTable::ADDS], q) {
-        return best;
-    }
-    best.min(numbers[i * NumberTable::ROW])
-}
 
 // The least minutes of an action that adds q, and none where nothing is apart from q.
 fn least(sets: &[u64], numbers: &[u32], actions: usize, q: u8) -> u32
@@ -32,7 +18,9 @@ fn least(sets: &[u64], numbers: &[u32], actions: usize, q: u8) -> u32
     }
     let mut best = LONGEST;
     for i in 0..actions {
-        best = shorter(sets, numbers, i, q, best);
+        if facts::has(sets[i * SetTable::ROW + SetTable::ADDS], q) {
+            best = best.min(numbers[i * NumberTable::ROW]);
+        }
     }
     best
 }

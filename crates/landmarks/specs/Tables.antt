@@ -56,12 +56,7 @@ Begun n start all = PutBehind 256 384 n (λ ys q set. set ≡ cond (not (has sta
 abbrev pub PutFrom : ℕ → ℕ → ℕ → List ℕ → List ℕ → Type 0
 PutFrom n at number = PutBehind at 1220 n (λ ys k entry. entry ≡ number)
 
--- r is within all, and within the landmarks of what action i needs, if it adds q
-pub record Through (sets : List ℕ) (i q all r : ℕ) : Type 0 where
-  pub inside : Subset r all
-  pub adder : has (adds_at sets i) q ≡ true → Subset r (marks_of (mark_at sets) 64 (needs_at sets i))
-
--- r is within those of each action that adds q
+-- r is within the landmarks of what each action needs that adds q
 abbrev pub ByAdders : List ℕ → ℕ → ℕ → ℕ → Type 0
 ByAdders sets actions q r =
     (i : ℕ) → i < actions → has (adds_at sets i) q ≡ true → Subset r (marks_of (mark_at sets) 64 (needs_at sets i))

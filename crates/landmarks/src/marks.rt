@@ -2,7 +2,7 @@
 // tested: only what passes the test is kept, so no more than the test has to be proved.
 ghost use Rattle.std.specs.Prelude.{◌≡◌, true, ◌≤◌, ◌<◌, length};
 ghost use Rattle.landmarks.specs.Landmarks.{marks_of};
-ghost use Rattle.landmarks.specs.Tables.{mark_at, KeptBefore, Begun, Through, ByAdders, ClosedAt, Closed};
+ghost use Rattle.landmarks.specs.Tables.{mark_at, KeptBefore, Begun, ByAdders, ClosedAt, Closed};
 
 use facts::members::Members;
 use tables::layout::SetTable;
@@ -22,17 +22,6 @@ pub fn of_set(sets: &[u64], set: u64) -> u64
     all
 }
 
-// What is common to a set and, where action i adds q, the landmarks of what it needs.
-fn through(sets: &[u64], i: usize, q: u8, all: u64) -> u64
-    requires { (length sets.now ≡ 384) × (i < 64) }
-    ensures { Through sets.now i q all result }
-{
-    if !facts::has(sets[i * SetTable::ROW + SetTable::ADDS], q) {
-        return all;
-    }
-    facts::common(of_set(sets, sets[i * SetTable::ROW]), all)
-}
-
 // What is common to the landmarks of the needs of all actions that add q.
 fn of_adders(sets: &[u64], actions: usize, q: u8) -> u64
     requires { (length sets.now ≡ 384) × (actions ≤ 64) }
@@ -40,7 +29,9 @@ fn of_adders(sets: &[u64], actions: usize, q: u8) -> u64
 {
     let mut all = facts::ALL;
     for i in 0..actions {
-        all = through(sets, i, q, all);
+        if facts::has(sets[i * SetTable::ROW + SetTable::ADDS], q) {
+            all = facts::common(of_set(sets, sets[i * SetTable::ROW]), all);
+        }
     }
     all
 }

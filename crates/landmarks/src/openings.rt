@@ -1,8 +1,6 @@
 // Openings: for each pool a minute before which no plan uses it, the earliest at which what one of its users needs can
 // be there. One number for each pool, behind the shares.
 ghost use Rattle.std.specs.Prelude.{◌≡◌, ◌≤◌, ◌<◌, length};
-ghost use Rattle.earliest.specs.Numbers.{set_number};
-ghost use Rattle.tables.specs.Tables.{needs_at, pool_use_at};
 ghost use Rattle.landmarks.specs.Marked.{WithinLimits};
 ghost use Rattle.landmarks.specs.Openings.{OpenTo, OpeningsPut};
 
@@ -10,27 +8,6 @@ use earliest::set_time;
 use job::Job;
 use tables::Frame;
 use tables::layout::{NumberTable, SetTable};
-
-// The earlier of a minute and the time of what action i needs, if that uses the pool.
-fn sooner(
-    sets: &[u64],
-    numbers: &[u32],
-    times: &[u32],
-    frame: Frame,
-    i: usize,
-    pool: usize,
-    best: u32,
-) -> u32
-    requires { (length sets.now ≡ 384) × (length numbers.now ≡ 1220) × WithinLimits times.now frame
-        × (i < 64) × (pool < 4) × (best ≤ 530400) }
-    ensures { (result ≤ best) × (0 < pool_use_at numbers.now i pool
-        → result ≤ set_number times.now (needs_at sets.now i) frame.facts) }
-{
-    if numbers[i * NumberTable::ROW + NumberTable::POOLS + pool] == 0 {
-        return best;
-    }
-    best.min(set_time::set_time(times, frame.facts, sets[i * SetTable::ROW]))
-}
 
 // The earliest time of what an action needs that uses the pool.
 fn opening(sets: &[u64], numbers: &[u32], times: &[u32], frame: Frame, pool: usize) -> u32
@@ -41,7 +18,9 @@ fn opening(sets: &[u64], numbers: &[u32], times: &[u32], frame: Frame, pool: usi
 {
     let mut best = set_time::LATEST;
     for i in 0..frame.actions {
-        best = sooner(sets, numbers, times, frame, i, pool, best);
+        if numbers[i * NumberTable::ROW + NumberTable::POOLS + pool] != 0 {
+            best = best.min(set_time::set_time(times, frame.facts, sets[i * SetTable::ROW]));
+        }
     }
     best
 }
