@@ -5,7 +5,7 @@ ghost use Rattle.landmarks.specs.Marked.{WithinLimits};
 ghost use Rattle.cliques.specs.Cliques.{Exceeded, Unreached, Exclude, Outside, Lessened, ApartTo};
 
 use earliest::set_time;
-use landmarks::members::Members;
+use facts::members::Members;
 use tables::Frame;
 use tables::layout::{NumberTable, SetTable};
 

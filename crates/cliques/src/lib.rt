@@ -13,7 +13,7 @@ ghost use Rattle.cliques.specs.Cliques.{Remaining, CliqueMinutes};
 ghost use Rattle.cliques.specs.Marked.{MarkedTables};
 
 use job::Job;
-use landmarks::members::Members;
+use facts::members::Members;
 use tables::Frame;
 use tables::layout::{NumberTable, SetTable};
 use tables::longer::longer;

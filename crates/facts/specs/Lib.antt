@@ -1,1 +1,2 @@
 pub mod FactSet
+pub mod Members

@@ -1,6 +1,8 @@
 // Sets of facts in a 64-bit word. A promise names the set that is returned and says which facts are in it.
 #![tactic(auto)]
 
+pub mod members; // the facts of a set, one after the other
+
 ghost use Rattle.std.specs.Prelude.{◌≡◌, not, cond, ◌&&◌, ◌||◌, ◌<◌};
 ghost use Rattle.lists.specs.Answer.{Decides};
 ghost use Rattle.facts.specs.FactSet.{has, Members, union, difference};

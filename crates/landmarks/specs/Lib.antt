@@ -1,4 +1,3 @@
-pub mod Members
 pub mod Landmarks
 pub mod Bounds
 pub mod Tables

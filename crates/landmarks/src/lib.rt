@@ -1,7 +1,6 @@
 // Landmarks: what every plan that makes a fact true must add on the way, and what that takes at least.
 #![tactic(auto)]
 
-pub mod members; // the facts of a set, one after the other
 pub mod marks; // the landmarks of each fact
 pub mod shares; // what a fact takes of each store, of each pool and of the steps at least
 mod openings; // before which minute a pool is not used

@@ -4,7 +4,7 @@ ghost use Rattle.std.specs.Prelude.{◌≡◌, true, ◌≤◌, ◌<◌, length}
 ghost use Rattle.landmarks.specs.Landmarks.{marks_of};
 ghost use Rattle.landmarks.specs.Tables.{mark_at, KeptBefore, Begun, Through, ByAdders, ClosedAt, Closed};
 
-use crate::members::Members;
+use facts::members::Members;
 use tables::layout::SetTable;
 
 // Rounds end when nothing changes; after so many the table is tested as it is.

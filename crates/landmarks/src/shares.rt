@@ -7,7 +7,7 @@ ghost use Rattle.landmarks.specs.Landmarks.{sum_over};
 ghost use Rattle.landmarks.specs.Tables.{KeptBefore, PutFrom, share_from, row_at, weight_at};
 ghost use Rattle.landmarks.specs.Tables.{WithinAt, Within, WithinAll};
 
-use crate::members::Members;
+use facts::members::Members;
 use job::Job;
 use tables::layout::{NumberTable, SetTable};
 

@@ -1,6 +1,6 @@
 -- `lessen` meets its contract: the set is taken away from the facts before the next one.
 use mathlib.Core.Path.{ap, ◌∙◌}
-use Rattle.landmarks.specs.declared.members.Members.{Members}
+use Rattle.facts.specs.declared.members.Members.{Members}
 use Rattle.cliques.proofs.FillLaws.{lessened_at_first, lessened_on, lessened_rest}
 use Rattle.cliques.proofs.apart.lessen.Goals as goal
 

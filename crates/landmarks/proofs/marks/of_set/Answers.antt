@@ -1,7 +1,7 @@
 -- `of_set` meets its contract: the landmarks of the facts before the next one are found.
 use mathlib.Core.Path.{sym, ap, ◌∙◌}
 use Rattle.facts.specs.FactSet.{union}
-use Rattle.landmarks.specs.declared.members.Members.{Members}
+use Rattle.facts.specs.declared.members.Members.{Members}
 use Rattle.landmarks.proofs.TableLaws.{marks_first, marks_on, marks_rest}
 use Rattle.landmarks.proofs.marks.of_set.Goals as goal
 

@@ -3,7 +3,7 @@ use Prim.Native.Nat.{◌+◌}
 use mathlib.Core.Path.{sym, ap, ◌∙◌}
 use native.Mathlib.Omega.{arith}
 use Rattle.landmarks.specs.Tables.{share_from}
-use Rattle.landmarks.specs.declared.members.Members.{Members}
+use Rattle.facts.specs.declared.members.Members.{Members}
 use Rattle.landmarks.proofs.TableLaws.{sum_first, sum_on, sum_rest}
 use Rattle.landmarks.proofs.shares.sum.Goals as goal
 

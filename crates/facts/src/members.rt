@@ -1,7 +1,7 @@
 // The facts of a set, one after the other.
 ghost use Rattle.std.specs.Prelude.{◌≡◌, ◌-◌, ◌≤◌};
 ghost use Rattle.std.specs.Iterator.{at_most};
-ghost use Rattle.landmarks.specs.Members.{GivesNext};
+ghost use Rattle.facts.specs.Members.{GivesNext};
 
 // The facts of a set from a number on, lowest first.
 #[derive(Clone, Copy)]
@@ -19,8 +19,8 @@ impl Iterator for Members {
     ghost remaining = { λ s. at_most (64 - s.from) };
 
     fn next(&mut self) -> Option<u8> {
-        let fact = facts::next(self.set, self.from);
-        if fact == facts::BITS {
+        let fact = crate::next(self.set, self.from);
+        if fact == crate::BITS {
             return None;
         }
         self.from = fact + 1;
