@@ -5,6 +5,7 @@ ghost use Rattle.states.specs.Moves.{NoEventBetween};
 ghost use Rattle.pruning.specs.Carried.{FitAll, AddsOf, LatestStart, DeadUnlessCarried};
 
 use earliest::set_time;
+use facts::members::Members;
 use states::moves;
 use states::state::State;
 use tables::Frame;
@@ -16,10 +17,8 @@ fn adds_of(sets: &[u64], left: u64) -> u64
     ensures { AddsOf sets.now left 64 result }
 {
     let mut set: u64 = 0;
-    let mut k = facts::next(left, 0);
-    while k < facts::BITS {
+    for k in Members::of(left) {
         set = facts::union(sets[k as usize * SetTable::ROW + SetTable::ADDS], set);
-        k = facts::next(left, k + 1);
     }
     set
 }
@@ -31,10 +30,8 @@ fn latest_start(numbers: &[u32], frame: Frame, st: State, left: u64, from: u16) 
     ensures { LatestStart numbers.now left st.minute from 64 result }
 {
     let mut m = from;
-    let mut k = facts::next(left, 0);
-    while k < facts::BITS {
+    for k in Members::of(left) {
         m = moves::later_start(m, moves::start_of(numbers, k, st.minute), st.minute);
-        k = facts::next(left, k + 1);
     }
     m
 }

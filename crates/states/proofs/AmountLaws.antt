@@ -69,7 +69,6 @@ pub record AddedTo (numbers : List ℕ) (at : ℕ) (counts : ℕ → Bool) (sums
     pub rest : (j : ℕ) → k ≤ j → get_or out j 0 ≡ get_or sums j 0
 
 module _ (numbers : List ℕ) (at : ℕ) (counts : ℕ → Bool) (sums : List ℕ) where
-
   pub added_on : (k amount : ℕ) (out : List ℕ) → k < 4 → amount ≡ cond (counts k) (get_or numbers (at + k) 0) 0
       → amount < 2 ^ 32 → AddedTo numbers at counts sums k out
       → AddedTo numbers at counts sums (k + 1) (set out k (amount + get_or out k 0))

@@ -1,9 +1,9 @@
 -- Sets of actions, gone over from one to the next: candidates.
 -- Assumes nothing.
 use Prim.Native.Nat.{ℕ, ◌+◌, ◌-◌, ◌/◌, ◌^◌, ◌≤◌, ◌<◌}
-use mathlib.Core.Path.{◌≡◌, refl, sym, ap, ◌∙◌}
+use mathlib.Core.Path.{◌≡◌, refl, ap, ◌∙◌}
 use mathlib.Core.Bool.{true, not}
-use mathlib.Core.Logic.{◌⊎◌, inl, inr, ⊎_elim}
+use mathlib.Core.Logic.{⊎_elim}
 use mathlib.Core.List.{List}
 use native.Mathlib.Nat.{eq-or-lt_of_le}
 use native.Mathlib.Omega.{arith}
@@ -19,37 +19,32 @@ use Rattle.tables.specs.declared.Frame.{Frame}
 use Rattle.states.specs.declared.state.State.{State}
 use Rattle.states.specs.States.{WithCandidate, Candidates}
 
--- below the next member, a number is below this one, is it, or is no member
-pub below_next : {X : Type 0} (set k next a : ℕ) → NextFact set (k + 1) next → a < next → has set a ≡ true → (a < k → X)
-    → (a ≡ k → X) → X
-below_next set k next a n l member before here =
-    ⊎_elim before
-    (λ after.
-    ⊎_elim (λ e. here (sym e)) (λ later. not_both member (n.skipped a (omega arith) l)) (eq-or-lt_of_le after))
-    (swap (le_or_lt k a))
-  where
-    swap : {A B : Type 0} → A ⊎ B → B ⊎ A
-    swap s = ⊎_elim inr inl s
+-- a member up to the next one from a number on is below that number, or is the next one
+pub up_to_next : {X : Type 0} (set from next a : ℕ) → NextFact set from next → a < next + 1 → has set a ≡ true
+    → (a < from → X) → (a ≡ next → X) → X
+up_to_next set from next a n l member before here =
+    ⊎_elim (λ after. ⊎_elim here (λ less. not_both member (n.skipped a after less)) (eq-or-lt_of_le (omega arith))) before
+    (le_or_lt from a)
 
 -- ---- candidates
 module _ (sets numbers : List ℕ) (frame : Frame) (st : State) (undecided : ℕ) where
-  pub candidates_at_first : (next : ℕ) → NextFact undecided 0 next → Candidates sets numbers frame st undecided next 0
-  candidates_at_first next n =
+  pub candidates_at_first : (from : ℕ) → from ≡ 0 → Candidates sets numbers frame st undecided from 0
+  candidates_at_first from z =
       record {
         within = λ a h. not_both h (has_zero a);
         may = λ a h. not_both h (has_zero a);
-        barred = λ a l known member out. not_both member (n.skipped a (omega arith) l);
+        barred = λ a l known member out. absurd (omega arith);
       }
 
-  pub candidates_on : (k next found r : ℕ) → has undecided k ≡ true
-      → WithCandidate sets numbers frame st k found r → NextFact undecided (k + 1) next
-      → Candidates sets numbers frame st undecided k found → Candidates sets numbers frame st undecided next r
-  candidates_on k next found r here with n before =
+  pub candidates_on : (from k found r : ℕ) → k < 64 → NextFact undecided from k
+      → WithCandidate sets numbers frame st k found r → Candidates sets numbers frame st undecided from found
+      → Candidates sets numbers frame st undecided (k + 1) r
+  candidates_on from k found r few n with before =
       record {
         within = λ a h.
             ⊎_elim (λ same. before.within a (rw same.0 at h))
             (λ more.
-            ⊎_elim (λ e. let same = only_in_single k a e in rw same here) (before.within a)
+            ⊎_elim (λ e. let same = only_in_single k a e in rw same (n.found few)) (before.within a)
             (in_union_cases (single k) found a (rw more.0 at h)))
             with;
         may = λ a h.
@@ -59,7 +54,7 @@ module _ (sets numbers : List ℕ) (frame : Frame) (st : State) (undecided : ℕ
             (in_union_cases (single k) found a (rw more.0 at h)))
             with;
         barred = λ a l known member out.
-            below_next undecided k next a n l member
+            up_to_next undecided from k a n l member
             (λ less.
             before.barred a less known member
             (⊎_elim (λ same. rw same.0 at out)

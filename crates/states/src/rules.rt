@@ -6,6 +6,7 @@ ghost use Rattle.states.specs.States.{Safe, BarredBy, SetsAllow, TellsNew, MaySt
 
 use crate::state::State;
 use crate::{amounts, beside, minute};
+use facts::members::Members;
 use job::Job;
 use tables::Frame;
 use tables::layout::{NumberTable, SetTable};
@@ -146,10 +147,8 @@ pub fn candidates(sets: &[u64], numbers: &[u32], frame: Frame, st: State, undeci
     ensures { Candidates sets.now numbers.now frame st undecided 64 result }
 {
     let mut found: u64 = 0;
-    let mut k = facts::next(undecided, 0);
-    while k < facts::BITS {
+    for k in Members::of(undecided) {
         found = with_candidate(sets, numbers, frame, st, k, found);
-        k = facts::next(undecided, k + 1);
     }
     found
 }
@@ -172,10 +171,8 @@ pub fn pick(numbers: &[u32], left: u64) -> u8
     ensures { (result < 64) × (has left result ≡ true) }
 {
     let mut longest = facts::next(left, 0);
-    let mut k = longest;
-    while k < facts::BITS {
+    for k in Members::of(left) {
         longest = longer(numbers, 0, NumberTable::ROW, k, longest);
-        k = facts::next(left, k + 1);
     }
     longest
 }
