@@ -4,12 +4,10 @@
 
 mod decimal; // numbers in decimal digits
 
-ghost use Rattle.std.specs.Prelude.{IfOk, IfSome, ◌<◌, length, take};
+ghost use Rattle.std.specs.Prelude.{IfOk, IfSome, ◌<◌, ◌≤◌, length, take};
 ghost use Rattle.std.specs.Io.KnownBytes.{Consumes, IsAtEnd};
 ghost use Rattle.input.specs.Loaded.{IsPrefixLen};
-ghost use Rattle.input.specs.Decimal.{AtMost};
 
-pub use decimal::Number;
 use decimal::decimal;
 use std::env::{Env, FillError};
 use std::fs::File;
@@ -32,10 +30,7 @@ pub fn tell_why(rt: &(impl Eprint + Alloc), what: &str, why: io::Error) {
 
 // The text of an error without the number that the system gives it.
 fn without_number(text: &str) -> &str {
-    match text.split_once(" (os error ") {
-        Some((reason, _)) => reason,
-        None => text,
-    }
+    text.split_once(" (os error ").map_or(text, |(reason, _)| reason)
 }
 
 fn line_of(rt: &(impl Eprint + Alloc), what: &str, why: io::Error) -> io::Result<()> {
@@ -75,10 +70,8 @@ pub fn argument_count(rt: &impl Env) -> usize {
 // The file name that argument i is. A name has to be UTF-8.
 fn file_name<'a>(rt: &impl Env, i: usize, buffer: &'a mut [u8]) -> io::Result<&'a str> {
     match rt.arg(i, buffer) {
-        Ok(length) => match str::from_utf8(&buffer[..length]) {
-            Ok(name) => Ok(name),
-            Err(_) => Err(io::Error::other("Invalid or incomplete multibyte or wide character")),
-        },
+        Ok(length) => str::from_utf8(&buffer[..length])
+            .map_err(|_| io::Error::other("Invalid or incomplete multibyte or wide character")),
         Err(FillError::TooLong) => Err(io::Error::other("File name too long")),
         Err(FillError::NotPresent) => Err(io::Error::other("Invalid argument")),
     }
@@ -119,13 +112,13 @@ pub fn load_named(
 
 // The decimal number that argument i is; where it is none, or over the most, the message goes to standard error.
 // An argument that is too long for the buffer is no number, like an empty one.
-pub fn number_in(rt: &(impl Env + Eprint), i: usize, most: u64, message: &str) -> Number
-    ensures { AtMost most result }
+pub fn number_in(rt: &(impl Env + Eprint), i: usize, most: u64, message: &str) -> Option<u64>
+    ensures { IfSome result (λ n. n ≤ most) }
 {
     let mut text = [0u8; ARGUMENT];
     let length = rt.arg(i, &mut text).unwrap_or(0);
     let number = decimal(&text[..length], most);
-    if let Number::Nothing = number {
+    if number.is_none() {
         tell(rt, message);
     }
     number
