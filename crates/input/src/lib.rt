@@ -9,11 +9,18 @@ ghost use Rattle.std.specs.Io.KnownBytes.{Consumes, IsAtEnd};
 ghost use Rattle.input.specs.Loaded.{IsPrefixLen};
 
 use decimal::decimal;
+use jobfile::Layout;
 use std::env::{Env, FillError};
 use std::fs::File;
 use std::io;
 use std::io::Read;
 use std::rt::Files;
+use timeline::Plan;
+
+// Room for a job file, and for a plan: one byte more than the longest, since what fills it is too long.
+pub const JOB: usize = Layout::FILE + 1;
+
+pub const PLAN: usize = Plan::BYTES + 1;
 
 // Room for an argument: the longest path there is, and more digits than any number has that is asked for.
 const ARGUMENT: usize = 4096;
