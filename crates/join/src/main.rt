@@ -2,6 +2,8 @@
 // Arguments: the job file and the files of both plans, by name. What cannot be read gets a message on standard error.
 #![tactic(auto)]
 
+ghost use Rattle.std.specs.Prelude.{◌≤◌, IfOk};
+
 use input::{JOB, PLAN, argument_count, load_named, tell};
 use printing::{print_answer, unless_left};
 use std::env::Env;
@@ -23,7 +25,13 @@ fn answer(rt: &(impl Env + Files + Print + Eprint + Alloc)) -> Option<io::Result
     let mut second = [0u8; PLAN];
     let length = load_named(rt, 3, &mut second)?;
     let second = &second[..length];
-    Some(print_answer(rt, file, |job, out| joining::join(job, first, second, out)))
+    Some(print_answer(
+        rt,
+        file,
+        |job, out|
+            ensures { IfOk result (λ day. day.steps ≤ 32) }
+        { joining::join(job, first, second, out) },
+    ))
 }
 
 fn main(rt: HostRuntime) -> io::Result<()> {

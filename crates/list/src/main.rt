@@ -3,6 +3,8 @@
 // number, gets a message on standard error.
 #![tactic(auto)]
 
+ghost use Rattle.std.specs.Prelude.{◌≤◌, IfOk};
+
 use input::{JOB, argument_count, load_named, number_in, tell};
 use printing::{print_answer, unless_left};
 use std::env::Env;
@@ -23,7 +25,13 @@ fn answer(rt: &(impl Env + Files + Print + Eprint + Alloc)) -> Option<io::Result
     let mut file = [0u8; JOB];
     let length = load_named(rt, 1, &mut file)?;
     let file = &file[..length];
-    Some(print_answer(rt, file, |job, out| lister::list(job, place, out)))
+    Some(print_answer(
+        rt,
+        file,
+        |job, out|
+            ensures { IfOk result (λ day. day.steps ≤ 32) }
+        { lister::list(job, place, out) },
+    ))
 }
 
 fn main(rt: HostRuntime) -> io::Result<()> {

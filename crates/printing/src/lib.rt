@@ -2,9 +2,8 @@
 // number a question is refused.
 #![tactic(auto)]
 
-ghost use Rattle.std.specs.Prelude.{◌≡◌, ◌≢◌, ◌≤◌, Ok, Err};
+ghost use Rattle.std.specs.Prelude.{◌≡◌, ◌≢◌, ◌≤◌, Err, IfOk, Ok};
 ghost use Rattle.std.specs.IoError.{error_kind};
-ghost use Rattle.timeline.specs.declared.Day.{Day};
 
 use job::Job;
 use job::refusal::Refusal;
@@ -69,7 +68,7 @@ pub fn print_day(
     day: Result<Day, Refusal>,
     plan: [u8; Plan::BYTES],
 ) -> io::Result<()>
-    requires { (told : Day) → day ≡ Ok told → told.steps ≤ 32 }
+    requires { IfOk day (λ day. day.steps ≤ 32) }
 {
     match day {
         Ok(day) => {
@@ -89,7 +88,7 @@ pub fn print_answer<F: FnOnce(Job, &mut [u8]) -> Result<Day, Refusal>>(
     plan_day: F,
 ) -> io::Result<()>
     requires callable { F.IsAlwaysCallable plan_day }
-    requires few { (job : _) (out : _) (day : Day) (left : _) → F.post plan_day job out (Ok day) left → day.steps ≤ 32 }
+    requires few { (job : _) (out : _) (day : _) (left : _) → F.post plan_day job out day left → IfOk day (λ day. day.steps ≤ 32) }
 {
     match reader::read(file) {
         Ok(job) => {

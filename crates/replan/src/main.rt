@@ -4,6 +4,8 @@
 // What cannot be read, or is no such number, gets a message on standard error.
 #![tactic(auto)]
 
+ghost use Rattle.std.specs.Prelude.{◌≤◌, IfOk};
+
 use input::{JOB, PLAN, argument_count, load_named, number_in, tell};
 use printing::{print_answer, unless_left};
 use std::env::Env;
@@ -29,7 +31,13 @@ fn answer(rt: &(impl Env + Files + Print + Eprint + Alloc)) -> Option<io::Result
     let mut current = [0u8; PLAN];
     let length = load_named(rt, 2, &mut current)?;
     let current = &current[..length];
-    Some(print_answer(rt, file, |job, out| replanner::replan(job, current, minute, goal, out)))
+    Some(print_answer(
+        rt,
+        file,
+        |job, out|
+            ensures { IfOk result (λ day. day.steps ≤ 32) }
+        { replanner::replan(job, current, minute, goal, out) },
+    ))
 }
 
 fn main(rt: HostRuntime) -> io::Result<()> {
