@@ -1,6 +1,5 @@
 -- A joined plan has at most 32 steps.
 -- Assumes nothing.
-use lib.ListN.{replicate}
 use Rattle.job.specs.Job.{job_in}
 use Rattle.joining.proofs.FewSteps.{joined_steps_are_few}
 use Rattle.printing.proofs.Few.{few_in_day}
