@@ -1,6 +1,5 @@
 -- A plan of the list has at most 32 steps.
 -- Assumes nothing.
-use lib.ListN.{replicate}
 use Rattle.job.specs.Job.{job_in}
 use Rattle.lister.proofs.FewSteps.{listed_steps_are_few}
 use Rattle.printing.proofs.Few.{few_in_day}
@@ -8,4 +7,4 @@ use Rattle.list.proofs.fn.answer.print_answer.Goals as goal
 
 pub returns : goal.returns
 returns c = few_in_day _ (λ pass.
-    listed_steps_are_few (job_in c.args.job) c.args.self.place c.args.out.now c.list.result _ c.list.ensures)
+    listed_steps_are_few (job_in c.args.job) _ c.args.out.now c.list.result _ c.list.ensures)

@@ -1,6 +1,5 @@
 -- A plan that is handed out has at most 32 steps.
 -- Assumes nothing.
-use lib.ListN.{replicate}
 use Rattle.job.specs.Job.{job_in}
 use Rattle.replanner.proofs.Shortest.{replan_is_shortest}
 use Rattle.printing.proofs.Few.{few_in_day}
@@ -8,5 +7,5 @@ use Rattle.replan.proofs.fn.answer.print_answer.Goals as goal
 
 pub returns : goal.returns
 returns c = few_in_day _ (λ pass.
-    (replan_is_shortest (job_in c.args.job) _ c.args.self.minute c.args.self.goal c.args.out.now
+    (replan_is_shortest (job_in c.args.job) _ _ _ c.args.out.now
     c.replan.result _ c.replan.ensures pass).few)
