@@ -37,7 +37,8 @@ pub fn tell_why(rt: &(impl Eprint + Alloc), what: &str, why: io::Error) {
 
 // The text of an error without the number that the system gives it.
 fn without_number(text: &str) -> &str {
-    text.split_once(" (os error ").map_or(text, |(reason, _)| reason)
+    text.split_once(" (os error ")
+        .map_or(text, |(reason, _)| reason)
 }
 
 fn line_of(rt: &(impl Eprint + Alloc), what: &str, why: io::Error) -> io::Result<()> {
@@ -77,8 +78,9 @@ pub fn argument_count(rt: &impl Env) -> usize {
 // The file name that argument i is. A name has to be UTF-8.
 fn file_name<'a>(rt: &impl Env, i: usize, buffer: &'a mut [u8]) -> io::Result<&'a str> {
     match rt.arg(i, buffer) {
-        Ok(length) => str::from_utf8(&buffer[..length])
-            .map_err(|_| io::Error::other("Invalid or incomplete multibyte or wide character")),
+        Ok(length) => str::from_utf8(&buffer[..length]).map_err(|_| io::Error::other(
+            "Invalid or incomplete multibyte or wide character",
+        )),
         Err(FillError::TooLong) => Err(io::Error::other("File name too long")),
         Err(FillError::NotPresent) => Err(io::Error::other("Invalid argument")),
     }

@@ -35,7 +35,9 @@ pub fn print_refusal(rt: &impl Print, why: Refusal) -> io::Result<()> {
 
 // The duration of an action. A plan that is handed out has only actions of the job.
 fn duration(job: &Job, action: u8) -> u8 {
-    job.actions.get(usize::from(action)).map_or(0, |found| found.duration)
+    job.actions
+        .get(usize::from(action))
+        .map_or(0, |found| found.duration)
 }
 
 // The steps in plan order: the start of each, its end and its action.

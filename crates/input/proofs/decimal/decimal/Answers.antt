@@ -19,6 +19,8 @@ loop-byte-preserved c =
 
 pub returns : goal.returns
 returns c =
-    let some : 0 < length c.args.text.now = search rules in
-    (some, all_read c.args.most _ c.loop-byte.x c.loop-byte.byte-index c.loop-byte.invariant.1 c.loop-byte-test.false
-    c.loop-byte.invariant.0)
+    let some : 0 < length c.args.text.now = search rules in (
+      some,
+      all_read c.args.most _ c.loop-byte.x c.loop-byte.byte-index c.loop-byte.invariant.1 c.loop-byte-test.false
+          c.loop-byte.invariant.0,
+    )
