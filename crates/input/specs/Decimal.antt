@@ -1,8 +1,6 @@
 -- What is read of a text as a decimal number.
 -- Assumes nothing.
-use Rattle.std.specs.Prelude.{ℕ, ◌+◌, ◌*◌, ◌-◌, ◌≤◌, ◌<◌, ◌≡◌, List, [], ◌∷◌, length}
-use Rattle.input.specs.declared.decimal.Number.{Number}
-use Rattle.input.specs.declared.decimal.Number.TheVariants.{Value, Nothing}
+use Rattle.std.specs.Prelude.{ℕ, ◌+◌, ◌*◌, ◌-◌, ◌≤◌, ◌<◌, ◌≡◌, List, [], ◌∷◌, length, Option, Some, None}
 
 -- the byte is the ASCII code of a digit, `0` to `9`
 abbrev pub Digit : ℕ → Type 0
@@ -23,16 +21,11 @@ value_from x [] = x
 value_from x (byte ∷ text) = value_from (extended x byte) text
 
 -- that number, where the text has only digits and the number is not over the most; nothing where it is
-abbrev pub ReadsFrom : ℕ → ℕ → List ℕ → Number → Type 0
-ReadsFrom most x text (Value n) = Digits text × (n ≡ value_from x text) × (n ≤ most)
-ReadsFrom most x text Nothing = Digits text → most < value_from x text
+abbrev pub ReadsFrom : ℕ → ℕ → List ℕ → Option ℕ → Type 0
+ReadsFrom most x text (Some n) = Digits text × (n ≡ value_from x text) × (n ≤ most)
+ReadsFrom most x text None = Digits text → most < value_from x text
 
 -- the number of the text, which has a digit; nothing where there is no such number
-abbrev pub Reads : ℕ → List ℕ → Number → Type 0
-Reads most text (Value n) = (0 < length text) × ReadsFrom most 0 text (Value n)
-Reads most text Nothing = 0 < length text → ReadsFrom most 0 text Nothing
-
--- a number is not over the most
-abbrev pub AtMost : ℕ → Number → Type 0
-AtMost most (Value n) = n ≤ most
-AtMost most Nothing = Unit {0}
+abbrev pub Reads : ℕ → List ℕ → Option ℕ → Type 0
+Reads most text (Some n) = (0 < length text) × ReadsFrom most 0 text (Some n)
+Reads most text None = 0 < length text → ReadsFrom most 0 text None

@@ -4,18 +4,23 @@
 
 mod decimal; // numbers in decimal digits
 
-ghost use Rattle.std.specs.Prelude.{IfOk, IfSome, ◌<◌, length, take};
+ghost use Rattle.std.specs.Prelude.{IfOk, IfSome, ◌<◌, ◌≤◌, length, take};
 ghost use Rattle.std.specs.Io.KnownBytes.{Consumes, IsAtEnd};
 ghost use Rattle.input.specs.Loaded.{IsPrefixLen};
-ghost use Rattle.input.specs.Decimal.{AtMost};
 
-pub use decimal::Number;
 use decimal::decimal;
+use jobfile::Layout;
 use std::env::{Env, FillError};
 use std::fs::File;
 use std::io;
 use std::io::Read;
 use std::rt::Files;
+use timeline::Plan;
+
+// Room for a job file, and for a plan: one byte more than the longest, since what fills it is too long.
+pub const JOB: usize = Layout::FILE + 1;
+
+pub const PLAN: usize = Plan::BYTES + 1;
 
 // Room for an argument: the longest path there is, and more digits than any number has that is asked for.
 const ARGUMENT: usize = 4096;
@@ -32,10 +37,8 @@ pub fn tell_why(rt: &(impl Eprint + Alloc), what: &str, why: io::Error) {
 
 // The text of an error without the number that the system gives it.
 fn without_number(text: &str) -> &str {
-    match text.split_once(" (os error ") {
-        Some((reason, _)) => reason,
-        None => text,
-    }
+    text.split_once(" (os error ")
+        .map_or(text, |(reason, _)| reason)
 }
 
 fn line_of(rt: &(impl Eprint + Alloc), what: &str, why: io::Error) -> io::Result<()> {
@@ -75,10 +78,9 @@ pub fn argument_count(rt: &impl Env) -> usize {
 // The file name that argument i is. A name has to be UTF-8.
 fn file_name<'a>(rt: &impl Env, i: usize, buffer: &'a mut [u8]) -> io::Result<&'a str> {
     match rt.arg(i, buffer) {
-        Ok(length) => match str::from_utf8(&buffer[..length]) {
-            Ok(name) => Ok(name),
-            Err(_) => Err(io::Error::other("Invalid or incomplete multibyte or wide character")),
-        },
+        Ok(length) => str::from_utf8(&buffer[..length]).map_err(|_| io::Error::other(
+            "Invalid or incomplete multibyte or wide character",
+        )),
         Err(FillError::TooLong) => Err(io::Error::other("File name too long")),
         Err(FillError::NotPresent) => Err(io::Error::other("Invalid argument")),
     }
@@ -119,13 +121,13 @@ pub fn load_named(
 
 // The decimal number that argument i is; where it is none, or over the most, the message goes to standard error.
 // An argument that is too long for the buffer is no number, like an empty one.
-pub fn number_in(rt: &(impl Env + Eprint), i: usize, most: u64, message: &str) -> Number
-    ensures { AtMost most result }
+pub fn number_in(rt: &(impl Env + Eprint), i: usize, most: u64, message: &str) -> Option<u64>
+    ensures { IfSome result (λ n. n ≤ most) }
 {
     let mut text = [0u8; ARGUMENT];
     let length = rt.arg(i, &mut text).unwrap_or(0);
     let number = decimal(&text[..length], most);
-    if let Number::Nothing = number {
+    if number.is_none() {
         tell(rt, message);
     }
     number

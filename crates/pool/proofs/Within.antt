@@ -11,7 +11,7 @@ use Rattle.job.specs.Job.{Job}
 use Rattle.job.specs.Refusal.{first}
 use Rattle.job.specs.Valid.{job_rows}
 use Rattle.job.specs.Refusal.{Verdict}
-use Rattle.std.specs.Prelude.{Ok, Err}
+use Rattle.std.specs.Prelude.{Ok, Err, IfOk}
 use Rattle.job.specs.Refusal.{pass}
 use Rattle.job.proofs.Table.{first_pass, pass_of_append}
 use Rattle.jobfile.specs.Answers.{Written}
@@ -25,14 +25,15 @@ told : (v : Verdict) (J : Job) (slice : List ℕ) (n : ℕ) → written_of v J �
 told (Ok _) J slice n h = (refl, cc)
 told (Err why) J slice n h = (cc, cc)
 
-pub written_within : (J : Job) (slice after : List ℕ) (answer : Written) (n : ℕ) → Wrote J slice answer after
-    → answer ≡ Ok n → n ≤ length after
+pub written_within : (J : Job) (slice after : List ℕ) (answer : Written) → Wrote J slice answer after
+    → IfOk answer (λ n. n ≤ length after)
 unfolding write_rows write_file left_by_write
-written_within J slice after answer n wrote same =
-    let w = told (first (write_rows J slice)) J slice n (sym wrote.answers ∙ same) in
+written_within J slice after (Ok n) wrote =
+    let w = told (first (write_rows J slice)) J slice n (sym wrote.answers) in
     let rows = (pass_of_append (job_rows J) _ w.0).1 in
     let room = ltb-false (length slice) (length (file_of J)) (first_pass _ _ _ rows).0 in
     let left = ap length (wrote.leaves ∙ ap (λ (v : Verdict). left_of v J slice) w.0) in
     let kept = length_overwrite slice 0 (file_of J) (omega arith) in
     let size = w.1 in
     omega arith
+written_within J slice after (Err why) wrote = tt

@@ -3,66 +3,50 @@
 // Arguments: the two job files, by name. A file that cannot be read gets a message on standard error.
 #![tactic(auto)]
 
-use input::{argument_count, load_named, tell};
-use job::Job;
-use job::refusal::Verdict;
-use jobfile::{Layout, Written};
+ghost use Rattle.std.specs.Prelude.{◌≤◌, IfOk, length};
+
+use input::{JOB, argument_count, load_named, tell};
+use job::refusal::Refusal;
+use jobfile::Layout;
 use printing::{print_refusal, unless_left};
 use std::env::Env;
 use std::io;
 use std::rt::Files;
 
-// One byte more than the longest file: what fills it is too long.
-const JOB: usize = Layout::FILE + 1;
+// Writes the file of the jobs of two files, pooled, and returns its length; or the first refusal.
+fn write_pooled(first: &[u8], second: &[u8], out: &mut [u8]) -> Result<usize, Refusal>
+    ensures { IfOk result (λ n. n ≤ length out.new) }
+{
+    let mine = reader::read(first)?;
+    let other = reader::read(second)?;
+    let pooled = pooling::pool(mine, other)?;
+    writer::write(pooled, out)
+}
 
-// The file of the job.
-fn print_file(rt: &impl Print, job: Job) -> io::Result<()> {
+// The answer for two files.
+fn print_pooled(rt: &impl Print, first: &[u8], second: &[u8]) -> io::Result<()> {
     let mut file = [0u8; Layout::FILE];
-    match writer::write(job, &mut file) {
-        Written::Length(length) => rt.write_all(&file[..length]),
-        Written::Refused(why) => print_refusal(rt, why),
+    match write_pooled(first, second, &mut file) {
+        Ok(length) => rt.write_all(&file[..length]),
+        Err(why) => print_refusal(rt, why),
     }
 }
 
-// The answer for two jobs.
-fn print_pooled(rt: &impl Print, first: Job, second: Job) -> io::Result<()> {
-    let pooled = pooling::pool(first, second);
-    match pooled.verdict {
-        Verdict::Pass => print_file(rt, pooled.job),
-        Verdict::Refused(why) => print_refusal(rt, why),
+// The answer to what the arguments ask; nothing where that cannot be read, which standard error says then.
+fn answer(rt: &(impl Env + Files + Print + Eprint + Alloc)) -> Option<io::Result<()>> {
+    if argument_count(rt) != 3 {
+        tell(rt, "usage: pool FIRST SECOND");
+        return None;
     }
-}
-
-// The answer for the jobs of two files.
-fn print_answer(rt: &impl Print, first: &[u8], second: &[u8]) -> io::Result<()> {
-    let mine = reader::read(first);
-    if let Verdict::Refused(why) = mine.verdict {
-        return print_refusal(rt, why);
-    }
-    let other = reader::read(second);
-    if let Verdict::Refused(why) = other.verdict {
-        return print_refusal(rt, why);
-    }
-    print_pooled(rt, mine.job, other.job)
-}
-
-// Reads the second file and answers.
-fn pool_with(rt: &(impl Env + Files + Print + Eprint + Alloc), first: &[u8]) -> io::Result<()> {
-    let mut file = [0u8; JOB];
-    match load_named(rt, 2, &mut file) {
-        Some(length) => print_answer(rt, first, &file[..length]),
-        None => Ok(()),
-    }
+    let mut first = [0u8; JOB];
+    let length = load_named(rt, 1, &mut first)?;
+    let first = &first[..length];
+    let mut second = [0u8; JOB];
+    let length = load_named(rt, 2, &mut second)?;
+    let second = &second[..length];
+    Some(print_pooled(rt, first, second))
 }
 
 fn main(rt: HostRuntime) -> io::Result<()> {
-    if argument_count(&rt) != 3 {
-        tell(&rt, "usage: pool FIRST SECOND");
-        return Ok(());
-    }
-    let mut file = [0u8; JOB];
-    match load_named(&rt, 1, &mut file) {
-        Some(length) => unless_left(pool_with(&rt, &file[..length])),
-        None => Ok(()),
-    }
+    answer(&rt).map_or(Ok(()), unless_left)
 }
