@@ -24,10 +24,8 @@ pub fn any_above(limits: [u64; Job::AMOUNTS], amounts: [u64; Job::AMOUNTS], n: u
     ensures { result ≡ any_below n (λ k. over (get_or limits k 0) (get_or amounts k 0)) }
 {
     let mut found = false;
-    let mut k = 0;
-    while k < Job::AMOUNTS {
-        found = found | ((k < n) & (limits[k] < amounts[k]));
-        k += 1;
+    for k in 0..Job::AMOUNTS {
+        found |= (k < n) & (limits[k] < amounts[k]);
     }
     found
 }
@@ -53,11 +51,8 @@ pub fn any_beyond(job: Job) -> bool
 {
     let counts = job.counts;
     let mut found = false;
-    let mut i = 0;
-    while i < counts.actions {
-        let action = job.actions[i];
-        found = found | uses_beyond(job, action);
-        i += 1;
+    for i in 0..counts.actions {
+        found |= uses_beyond(job, job.actions[i]);
     }
     found
 }

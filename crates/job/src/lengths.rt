@@ -33,12 +33,10 @@ pub fn any_wrong_range(job: Job) -> bool
     let form = job.form;
     let counts = job.counts;
     let mut found = false;
-    let mut i = 0;
-    while i < counts.actions {
+    for i in 0..counts.actions {
         let action = job.actions[i];
         let least = shortest(form, job.shortest[i], action.duration);
-        found = found | wrong_range(least, action.duration);
-        i += 1;
+        found |= wrong_range(least, action.duration);
     }
     found
 }

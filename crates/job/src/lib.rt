@@ -47,7 +47,7 @@ impl Action {
 }
 
 // How many pools, stores and actions a job has. What its arrays hold beyond that is ignored.
-#[derive(Clone, Copy)]
+#[derive(Clone, Copy, PartialEq, Eq)]
 pub struct Counts {
     pub pools: usize,
     pub stores: usize,
@@ -55,7 +55,7 @@ pub struct Counts {
 }
 
 // Which entries the contents of the job's file have. What a value holds beyond its form is ignored.
-#[derive(Clone, Copy)]
+#[derive(Clone, Copy, PartialEq, Eq)]
 pub enum Form {
     Four, // the head, the pools, the stores and the actions
     Five, // and the handovers of the pools
@@ -98,7 +98,7 @@ impl Form {
 }
 
 // How a step uses up stores: which head the job's file has. The reserve of a value under the old rule is ignored.
-#[derive(Clone, Copy)]
+#[derive(Clone, Copy, PartialEq, Eq)]
 pub enum StoreRule {
     PerStep, // its amount once: a head of 19 bytes
     PerHour, // its amount for each started hour, and a part of each store is kept back: a head of 20 bytes

@@ -47,10 +47,8 @@ fn any_too_long(handovers: [u8; Job::POOLS], n: usize) -> bool
     ensures { result ≡ any (over 30) (firsts n 0 handovers) }
 {
     let mut found = false;
-    let mut k = 0;
-    while k < Job::POOLS {
-        found = found | ((k < n) & (Job::HANDOVER < handovers[k]));
-        k += 1;
+    for k in 0..Job::POOLS {
+        found |= (k < n) & (Job::HANDOVER < handovers[k]);
     }
     found
 }
@@ -85,11 +83,8 @@ fn any_broken(job: Job) -> Broken
         effects: false,
         uses: false,
     };
-    let mut i = 0;
-    while i < counts.actions {
-        let action = job.actions[i];
-        broken = broken.either(broken_by(action, job.facts, counts));
-        i += 1;
+    for i in 0..counts.actions {
+        broken = broken.either(broken_by(job.actions[i], job.facts, counts));
     }
     broken
 }

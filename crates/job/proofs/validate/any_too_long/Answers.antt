@@ -10,23 +10,21 @@ use Rattle.job.proofs.validate.any_too_long.Invariants.{counts_at}
 use Rattle.job.proofs.validate.any_too_long.Goals as goal
 
 pub loop-k-init : goal.loop-k-init
-loop-k-init c = (omega arith, refl)
+loop-k-init c = refl
 
 pub loop-k-preserved : goal.loop-k-preserved
 loop-k-preserved c =
     let a = c.args in
     let l = c.loop-k in
-    let test = counts_at a.n a.handovers in (
-      omega arith,
-      ap (λ (b : Bool). b || test l.k) l.invariant.1
-          ∙ or_comm (any_below l.k test) (test l.k)
-          ∙ sym (below_more l.k test),
-    )
+    let test = counts_at a.n a.handovers in 
+    ap (λ (b : Bool). b || test l.k) l.invariant
+    ∙ or_comm (any_below l.k test) (test l.k)
+    ∙ sym (below_more l.k test)
 
 pub returns : goal.returns
 returns c =
     let a = c.args in
     let l = c.loop-k in
     let e : l.k ≡ 4 = omega arith in
-    (rw e at l.invariant.1) ∙ below_cut a.n 4 (λ k. over 30 (get_or a.handovers k 0)) (omega arith)
+    (rw e at l.invariant) ∙ below_cut a.n 4 (λ k. over 30 (get_or a.handovers k 0)) (omega arith)
     ∙ sym (any_below_lem (over 30) a.n (λ k. get_or a.handovers k 0))

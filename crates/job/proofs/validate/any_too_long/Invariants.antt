@@ -1,5 +1,5 @@
 -- `any_too_long` meets its contract: found among the first k handovers, of those that count.
-use Prim.Native.Nat.{ℕ, ◌-◌, ◌≤◌}
+use Prim.Native.Nat.{ℕ}
 use mathlib.Core.Path.{◌≡◌}
 use mathlib.Core.Bool.{Bool, ◌&&◌}
 use mathlib.Core.List.{List}
@@ -14,7 +14,4 @@ abbrev pub counts_at : ℕ → List ℕ → ℕ → Bool
 counts_at n handovers k = ltb k n && over 30 (get_or handovers k 0)
 
 abbrev pub invariant-loop-k : goal.invariant-loop-k
-invariant-loop-k l = (l.k ≤ 4) × (l.found ≡ any_below l.k (counts_at l.n l.handovers))
-
-abbrev pub decreases-loop-k : goal.decreases-loop-k
-decreases-loop-k l = 4 - l.k
+invariant-loop-k l = l.found ≡ any_below l.k (counts_at l.n l.handovers)
