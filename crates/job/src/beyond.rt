@@ -4,17 +4,18 @@ ghost use Rattle.lists.specs.Lists.{firsts, any, any_below};
 ghost use Rattle.job.specs.Job.{action_in, job_in, Fits};
 ghost use Rattle.job.specs.Valid.{over, uses_beyond};
 
-use crate::{Action, Job, resources, wide};
+use crate::{Action, Job, resources};
 
 // Four amounts as numbers of 64 bits.
 pub fn widened(amounts: [u32; Job::AMOUNTS]) -> [u64; Job::AMOUNTS]
     ensures { result ≡ firsts 4 0 amounts }
 {
-    let first = wide(amounts[0]);
-    let second = wide(amounts[1]);
-    let third = wide(amounts[2]);
-    let fourth = wide(amounts[3]);
-    [first, second, third, fourth]
+    [
+        u64::from(amounts[0]),
+        u64::from(amounts[1]),
+        u64::from(amounts[2]),
+        u64::from(amounts[3]),
+    ]
 }
 
 // Whether one of the first n amounts is over its own limit. All places are compared, and nothing leaves the loop: that
@@ -35,13 +36,10 @@ fn uses_beyond(job: Job, action: Action) -> bool
     requires { Fits job.counts }
     ensures { result ≡ uses_beyond (job_in job) (action_in job.counts action) }
 {
-    let counts = job.counts;
-    let available = job.pools;
-    let uses = action.pools;
     let allowed = resources::allowed(job);
     let charged = resources::charged(job, action);
-    any_above(widened(available), widened(uses), counts.pools)
-        | any_above(widened(allowed), charged, counts.stores)
+    any_above(widened(job.pools), widened(action.pools), job.counts.pools)
+        | any_above(widened(allowed), charged, job.counts.stores)
 }
 
 // Whether some action of the job does. Nothing leaves this loop either.

@@ -12,8 +12,7 @@ pub fn shortest(form: Form, held: u8, longest: u8) -> u8
     ensures { result ≡ shortest_by form held longest }
 {
     match form {
-        Form::Four => longest,
-        Form::Five => longest,
+        Form::Four | Form::Five => longest,
         Form::Six => held,
     }
 }

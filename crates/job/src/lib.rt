@@ -80,8 +80,7 @@ impl Form {
     {
         match self {
             Form::Four => 0,
-            Form::Five => pools,
-            Form::Six => pools,
+            Form::Five | Form::Six => pools,
         }
     }
 
@@ -90,8 +89,7 @@ impl Form {
         ensures { result ≡ shortest_count self actions }
     {
         match self {
-            Form::Four => 0,
-            Form::Five => 0,
+            Form::Four | Form::Five => 0,
             Form::Six => actions,
         }
     }
@@ -199,7 +197,7 @@ impl Job {
     }
 }
 
-// A number of 32 bits as one of 64. A function of its own, since a parameter is known to fit and a read element is not.
+// A number of 32 bits as one of 64, for callers that need the bound with it.
 pub fn wide(number: u32) -> u64
     ensures { (result ≡ number) × (result < 2 ^ 32) }
 {

@@ -14,7 +14,7 @@ pub loop-k-preserved : goal.loop-k-preserved
 loop-k-preserved c =
     let a = c.args in
     let l = c.loop-k in
-    let test = counts_at a.n a.limits a.amounts in 
+    let test = counts_at a.n a.limits a.amounts in
     ap (λ (b : Bool). b || test l.k) l.invariant
     ∙ or_comm (any_below l.k test) (test l.k)
     ∙ sym (below_more l.k test)

@@ -15,7 +15,7 @@ loop-i-init c =
 pub loop-i-preserved : goal.loop-i-preserved
 loop-i-preserved c =
     let j = c.args.job in
-    let l = c.loop-i in 
+    let l = c.loop-i in
     ap₂ ◌||◌ l.invariant c.uses_beyond-found.ensures ∙ sym (any_next (uses_beyond (job_in j)) (action_at j) l.i)
 
 pub returns : goal.returns

@@ -23,7 +23,7 @@ loop-i-preserved c =
     let known = c-if1.true in
     let test = has_wrong_range (job_in j) in
     let here = c.wrong_range-found.ensures
-    ∙ ap₂ wrong_range (c.shortest-least.ensures ∙ shortest_is j l.i known) (longest_is j l.i known) in 
+    ∙ ap₂ wrong_range (c.shortest-least.ensures ∙ shortest_is j l.i known) (longest_is j l.i known) in
     ap₂ ◌||◌ l.invariant here ∙ or_comm (any_below l.i test) (test l.i) ∙ sym (below_more l.i test)
 
 pub returns : goal.returns

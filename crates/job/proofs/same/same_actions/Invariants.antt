@@ -8,4 +8,3 @@ use Rattle.job.proofs.same.same_actions.Given as goal
 abbrev pub invariant-loop-i : goal.invariant-loop-i
 invariant-loop-i l =
     (k : ℕ) → k < l.i → action_in l.counts (get_or l.a k beyond) ≡ action_in l.counts (get_or l.b k beyond)
-

@@ -14,7 +14,7 @@ loop-i-init c =
 pub loop-i-preserved : goal.loop-i-preserved
 loop-i-preserved c =
     let j = c.args.job in
-    let l = c.loop-i in 
+    let l = c.loop-i in
     c.either-broken.ensures
     ∙ ap₂ either_broken l.invariant c.broken_by.ensures
     ∙ sym (broken_next j.facts (action_at j) l.i)
