@@ -4,23 +4,14 @@
 ghost use Rattle.std.specs.Prelude.{◌≡◌, ◌+◌, ◌*◌, ◌^◌, ◌≤◌, ◌<◌, length};
 ghost use Rattle.encoding.specs.Bytes.{from_bytes, to_bytes, part, overwrite};
 
-// The byte as a wider number.
-fn widen(byte: u8) -> u64
-    ensures { (result ≡ byte) × (result < 256) }
-{
-    byte as u64
-}
-
 // The number in the n bytes from place `at` on.
 pub fn read_number(bytes: &[u8], at: usize, n: usize) -> u64
     requires { (n ≤ 8) × (at + n ≤ length bytes.now) }
     ensures { (result ≡ from_bytes (part bytes.now at n)) × (result < 256 ^ n) }
 {
     let mut x: u64 = 0;
-    let mut i = n;
-    while 0 < i {
-        i -= 1;
-        x = x * 256 + widen(bytes[at + i]);
+    for i in (0..n).rev() {
+        x = x * 256 + u64::from(bytes[at + i]);
     }
     x
 }
@@ -31,10 +22,8 @@ pub fn write_number(out: &mut [u8], at: usize, n: usize, x: u64)
     ensures { out.new ≡ overwrite out.old at (to_bytes n x) }
 {
     let mut rest = x;
-    let mut i = 0;
-    while i < n {
+    for i in 0..n {
         out[at + i] = (rest % 256) as u8;
-        rest = rest / 256;
-        i += 1;
+        rest /= 256;
     }
 }

@@ -1,56 +1,38 @@
 -- Two counts, two actions and two jobs are the same exactly if all their parts are.
 -- Assumes nothing.
 use Prim.Native.Nat.{ℕ}
-use mathlib.Core.Path.{◌≡◌, refl, ap, ap₂, sym, ◌∙◌}
+use mathlib.Core.Path.{◌≡◌, ap, ap₂, sym, ◌∙◌}
 use mathlib.Core.Bool.{Bool, ◌&&◌}
 use mathlib.Core.List.{List}
-use native.Mathlib.Omega.{arith}
 use lib.Dec.{eqb}
+use denote.Enum.Bare.{sameb, same_true, true_same}
 use Rattle.lists.specs.Lists.{firsts}
 use Rattle.lists.specs.Answer.{Decides}
 use Rattle.lists.proofs.Answers.{decides_iff}
-use Rattle.lists.proofs.Bools.{absurd}
+use Rattle.job.specs.contracts.Form as form
+use Rattle.job.specs.contracts.StoreRule as rule
 use Rattle.job.specs.declared.Action as act
 use Rattle.job.specs.declared.Counts.{Counts}
 use Rattle.job.specs.declared.Form.{Form}
-use Rattle.job.specs.declared.Form.TheVariants.{Four, Five, Six}
 use Rattle.job.specs.declared.StoreRule.{StoreRule}
-use Rattle.job.specs.declared.StoreRule.TheVariants.{PerStep, PerHour}
 use Rattle.job.specs.declared.Job as held
-use Rattle.job.specs.Job.{Job, entries, handover_count, shortest_count, head_size, reserve_in, action_in, job_in}
+use Rattle.job.specs.Job.{Job, handover_count, shortest_count, reserve_in, action_in, job_in}
 use Rattle.job.proofs.Answers.{equal, ◌and◌, ◌also◌}
 use Rattle.job.proofs.Agree.{same_count_lem}
 
 pub same_counts : (n m : Counts)
-    → Decides (eqb n.pools m.pools && eqb n.stores m.stores && eqb n.actions m.actions) (n ≡ m)
+    → Decides (eqb n.pools m.pools && (eqb n.stores m.stores && eqb n.actions m.actions)) (n ≡ m)
 same_counts n m =
     decides_iff
-    (equal n.pools m.pools and equal n.stores m.stores and equal n.actions m.actions)
-    (λ h. λ i. record { pools = h.0.0 i; stores = h.0.1 i; actions = h.1 i })
-    (λ e. (λ i. (e i).pools) also (λ i. (e i).stores) also (λ i. (e i).actions))
+    (equal n.pools m.pools and (equal n.stores m.stores and equal n.actions m.actions))
+    (λ h. λ i. record { pools = h.0 i; stores = h.1.0 i; actions = h.1.1 i })
+    (λ e. (λ i. (e i).pools) also ((λ i. (e i).stores) also (λ i. (e i).actions)))
 
-pub same_form : (a b : Form) → Decides (eqb (entries a) (entries b)) (a ≡ b)
-same_form a b = decides_iff (equal (entries a) (entries b)) (one_form a b) (λ e. ap entries e)
-  where
-    one_form : (a b : Form) → entries a ≡ entries b → a ≡ b
-    one_form Four Four e = refl
-    one_form Four Five e = absurd (omega arith)
-    one_form Four Six e = absurd (omega arith)
-    one_form Five Four e = absurd (omega arith)
-    one_form Five Five e = refl
-    one_form Five Six e = absurd (omega arith)
-    one_form Six Four e = absurd (omega arith)
-    one_form Six Five e = absurd (omega arith)
-    one_form Six Six e = refl
+pub same_form : (a b : Form) → Decides (sameb form.the_type a b) (a ≡ b)
+same_form a b = record { sound = same_true form.the_type tt a b; complete = true_same form.the_type a b }
 
-pub same_rule : (a b : StoreRule) → Decides (eqb (head_size a) (head_size b)) (a ≡ b)
-same_rule a b = decides_iff (equal (head_size a) (head_size b)) (one_rule a b) (λ e. ap head_size e)
-  where
-    one_rule : (a b : StoreRule) → head_size a ≡ head_size b → a ≡ b
-    one_rule PerStep PerStep e = refl
-    one_rule PerStep PerHour e = absurd (omega arith)
-    one_rule PerHour PerStep e = absurd (omega arith)
-    one_rule PerHour PerHour e = refl
+pub same_rule : (a b : StoreRule) → Decides (sameb rule.the_type a b) (a ≡ b)
+same_rule a b = record { sound = same_true rule.the_type tt a b; complete = true_same rule.the_type a b }
 
 -- n amounts of two arrays are the same
 abbrev SameAmounts : ℕ → List ℕ → List ℕ → Type 0

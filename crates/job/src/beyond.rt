@@ -4,17 +4,18 @@ ghost use Rattle.lists.specs.Lists.{firsts, any, any_below};
 ghost use Rattle.job.specs.Job.{action_in, job_in, Fits};
 ghost use Rattle.job.specs.Valid.{over, uses_beyond};
 
-use crate::{Action, Job, resources, wide};
+use crate::{Action, Job, resources};
 
 // Four amounts as numbers of 64 bits.
 pub fn widened(amounts: [u32; Job::AMOUNTS]) -> [u64; Job::AMOUNTS]
     ensures { result ≡ firsts 4 0 amounts }
 {
-    let first = wide(amounts[0]);
-    let second = wide(amounts[1]);
-    let third = wide(amounts[2]);
-    let fourth = wide(amounts[3]);
-    [first, second, third, fourth]
+    [
+        u64::from(amounts[0]),
+        u64::from(amounts[1]),
+        u64::from(amounts[2]),
+        u64::from(amounts[3]),
+    ]
 }
 
 // Whether one of the first n amounts is over its own limit. All places are compared, and nothing leaves the loop: that
@@ -24,10 +25,8 @@ pub fn any_above(limits: [u64; Job::AMOUNTS], amounts: [u64; Job::AMOUNTS], n: u
     ensures { result ≡ any_below n (λ k. over (get_or limits k 0) (get_or amounts k 0)) }
 {
     let mut found = false;
-    let mut k = 0;
-    while k < Job::AMOUNTS {
-        found = found | ((k < n) & (limits[k] < amounts[k]));
-        k += 1;
+    for k in 0..Job::AMOUNTS {
+        found |= (k < n) & (limits[k] < amounts[k]);
     }
     found
 }
@@ -37,13 +36,10 @@ fn uses_beyond(job: Job, action: Action) -> bool
     requires { Fits job.counts }
     ensures { result ≡ uses_beyond (job_in job) (action_in job.counts action) }
 {
-    let counts = job.counts;
-    let available = job.pools;
-    let uses = action.pools;
     let allowed = resources::allowed(job);
     let charged = resources::charged(job, action);
-    any_above(widened(available), widened(uses), counts.pools)
-        | any_above(widened(allowed), charged, counts.stores)
+    any_above(widened(job.pools), widened(action.pools), job.counts.pools)
+        | any_above(widened(allowed), charged, job.counts.stores)
 }
 
 // Whether some action of the job does. Nothing leaves this loop either.
@@ -53,11 +49,8 @@ pub fn any_beyond(job: Job) -> bool
 {
     let counts = job.counts;
     let mut found = false;
-    let mut i = 0;
-    while i < counts.actions {
-        let action = job.actions[i];
-        found = found | uses_beyond(job, action);
-        i += 1;
+    for i in 0..counts.actions {
+        found |= uses_beyond(job, job.actions[i]);
     }
     found
 }

@@ -12,8 +12,7 @@ pub fn shortest(form: Form, held: u8, longest: u8) -> u8
     ensures { result ≡ shortest_by form held longest }
 {
     match form {
-        Form::Four => longest,
-        Form::Five => longest,
+        Form::Four | Form::Five => longest,
         Form::Six => held,
     }
 }
@@ -33,12 +32,10 @@ pub fn any_wrong_range(job: Job) -> bool
     let form = job.form;
     let counts = job.counts;
     let mut found = false;
-    let mut i = 0;
-    while i < counts.actions {
+    for i in 0..counts.actions {
         let action = job.actions[i];
         let least = shortest(form, job.shortest[i], action.duration);
-        found = found | wrong_range(least, action.duration);
-        i += 1;
+        found |= wrong_range(least, action.duration);
     }
     found
 }

@@ -47,7 +47,7 @@ impl Action {
 }
 
 // How many pools, stores and actions a job has. What its arrays hold beyond that is ignored.
-#[derive(Clone, Copy)]
+#[derive(Clone, Copy, PartialEq, Eq)]
 pub struct Counts {
     pub pools: usize,
     pub stores: usize,
@@ -55,7 +55,7 @@ pub struct Counts {
 }
 
 // Which entries the contents of the job's file have. What a value holds beyond its form is ignored.
-#[derive(Clone, Copy)]
+#[derive(Clone, Copy, PartialEq, Eq)]
 pub enum Form {
     Four, // the head, the pools, the stores and the actions
     Five, // and the handovers of the pools
@@ -80,8 +80,7 @@ impl Form {
     {
         match self {
             Form::Four => 0,
-            Form::Five => pools,
-            Form::Six => pools,
+            Form::Five | Form::Six => pools,
         }
     }
 
@@ -90,15 +89,14 @@ impl Form {
         ensures { result ≡ shortest_count self actions }
     {
         match self {
-            Form::Four => 0,
-            Form::Five => 0,
+            Form::Four | Form::Five => 0,
             Form::Six => actions,
         }
     }
 }
 
 // How a step uses up stores: which head the job's file has. The reserve of a value under the old rule is ignored.
-#[derive(Clone, Copy)]
+#[derive(Clone, Copy, PartialEq, Eq)]
 pub enum StoreRule {
     PerStep, // its amount once: a head of 19 bytes
     PerHour, // its amount for each started hour, and a part of each store is kept back: a head of 20 bytes
@@ -199,7 +197,7 @@ impl Job {
     }
 }
 
-// A number of 32 bits as one of 64. A function of its own, since a parameter is known to fit and a read element is not.
+// A number of 32 bits as one of 64, for callers that need the bound with it.
 pub fn wide(number: u32) -> u64
     ensures { (result ≡ number) × (result < 2 ^ 32) }
 {

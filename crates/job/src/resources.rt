@@ -5,7 +5,7 @@ ghost use Rattle.job.specs.Job.{job_in};
 ghost use Rattle.job.specs.Resources.{HandoversOf, hours, charged_by, SmallCharge, allowed_by, charged_in};
 ghost use Rattle.job.specs.Resources.{allowed_in};
 
-use crate::{Action, Form, Job, StoreRule, wide};
+use crate::{Action, Form, Job, StoreRule};
 
 // Minutes of an hour; a begun one counts.
 const HOUR: u64 = 60;
@@ -19,12 +19,9 @@ const WHOLE: u64 = 100;
 pub fn handovers(job: Job) -> [u8; Job::POOLS]
     ensures { HandoversOf (job_in job) result }
 {
-    let form = job.form;
-    let handovers = job.handovers;
-    match form {
+    match job.form {
         Form::Four => [0u8; Job::POOLS],
-        Form::Five => handovers,
-        Form::Six => handovers,
+        Form::Five | Form::Six => job.handovers,
     }
 }
 
@@ -32,7 +29,7 @@ pub fn handovers(job: Job) -> [u8; Job::POOLS]
 fn hours(minutes: u8) -> u64
     ensures { (result ≡ hours minutes) × (result ≤ 5) }
 {
-    (minutes as u64 + BEGUN) / HOUR
+    (u64::from(minutes) + BEGUN) / HOUR
 }
 
 // What a step of so many minutes uses up of a store, by its amount.
@@ -40,8 +37,8 @@ fn charge(rule: StoreRule, minutes: u8, amount: u32) -> u64
     ensures { (result ≡ charged_by rule minutes amount) × SmallCharge amount result }
 {
     match rule {
-        StoreRule::PerStep => wide(amount),
-        StoreRule::PerHour => wide(amount) * hours(minutes),
+        StoreRule::PerStep => u64::from(amount),
+        StoreRule::PerHour => u64::from(amount) * hours(minutes),
     }
 }
 
@@ -63,10 +60,7 @@ pub fn charged(job: Job, action: Action) -> [u64; Job::STORES]
 fn unreserved(reserve: u8) -> u64
     ensures { (result ≡ 100 - reserve) × (result ≤ 100) }
 {
-    if WHOLE <= reserve as u64 {
-        return 0;
-    }
-    WHOLE - reserve as u64
+    WHOLE.saturating_sub(u64::from(reserve))
 }
 
 // How much of so much may be used up.
@@ -75,7 +69,7 @@ fn allowance(rule: StoreRule, reserve: u8, available: u32) -> u32
 {
     match rule {
         StoreRule::PerStep => available,
-        StoreRule::PerHour => (wide(available) * unreserved(reserve) / WHOLE) as u32,
+        StoreRule::PerHour => (u64::from(available) * unreserved(reserve) / WHOLE) as u32,
     }
 }
 

@@ -6,7 +6,7 @@ ghost use Rattle.job.specs.Refusal.{first};
 ghost use Rattle.job.specs.Valid.{over, breaks, broken_where, either_broken, action_rows, limit_rows, job_rows};
 
 use crate::refusal::Refusal;
-use crate::{Action, Counts, Job, beyond, lengths, wide};
+use crate::{Action, Counts, Job, beyond, lengths};
 
 // Which of tests 8, 9, 10 and 11 fail: true for each that does.
 #[derive(Clone, Copy)]
@@ -36,8 +36,7 @@ pub fn any_over(limit: u32, amounts: [u32; Job::AMOUNTS], n: usize) -> bool
     requires { n ≤ 4 }
     ensures { result ≡ any (over limit) (firsts n 0 amounts) }
 {
-    let most = wide(limit);
-    let limits = [most; Job::AMOUNTS];
+    let limits = [u64::from(limit); Job::AMOUNTS];
     beyond::any_above(limits, beyond::widened(amounts), n)
 }
 
@@ -47,10 +46,8 @@ fn any_too_long(handovers: [u8; Job::POOLS], n: usize) -> bool
     ensures { result ≡ any (over 30) (firsts n 0 handovers) }
 {
     let mut found = false;
-    let mut k = 0;
-    while k < Job::POOLS {
-        found = found | ((k < n) & (Job::HANDOVER < handovers[k]));
-        k += 1;
+    for k in 0..n {
+        found |= Job::HANDOVER < handovers[k];
     }
     found
 }
@@ -85,11 +82,8 @@ fn any_broken(job: Job) -> Broken
         effects: false,
         uses: false,
     };
-    let mut i = 0;
-    while i < counts.actions {
-        let action = job.actions[i];
-        broken = broken.either(broken_by(action, job.facts, counts));
-        i += 1;
+    for i in 0..counts.actions {
+        broken = broken.either(broken_by(job.actions[i], job.facts, counts));
     }
     broken
 }

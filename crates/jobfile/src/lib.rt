@@ -158,4 +158,3 @@ impl Layout {
             | (self.shortest != Layout::MINUTES * form.shortest(self.actions / action))
     }
 }
-

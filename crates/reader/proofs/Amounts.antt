@@ -1,12 +1,13 @@
 -- Four amounts, place by place; and a byte as a number.
 -- Assumes nothing.
 use Prim.Native.Nat.{ℕ, ◌*◌, ◌/◌, ◌<◌, ◌≤◌}
-use mathlib.Core.Path.{◌≡◌, refl, ◌∙◌}
-use mathlib.Core.List.{List, [], ◌∷◌}
+use mathlib.Core.Path.{◌≡◌, refl, ap, ◌∙◌}
+use mathlib.Core.List.{List, [], ◌∷◌, ◌++◌}
 use native.Mathlib.Omega.{arith}
-use lib.ListN.{length, get_or, get_or-eq_default}
+use lib.ListN.{length, get_or, drop, replicate, get_or-eq_default}
+use Rattle.std.proofs.lemmas.List.{drop-replicate}
 use Rattle.lists.specs.Lists.{filled}
-use Rattle.lists.proofs.Tabulate.{length_tabulate, get_d_tabulate}
+use Rattle.lists.proofs.Tabulate.{length_tabulate, get_d_tabulate, tabulate_same, firsts_all}
 use Rattle.encoding.specs.Bytes.{from_bytes, part, split}
 use Rattle.encoding.proofs.ReadLoop.{number_step}
 
@@ -39,3 +40,17 @@ four_amounts bytes l =
 pub byte_there : (bytes : List ℕ) (i : ℕ) → i < length bytes → from_bytes (part bytes (i * 1) 1) ≡ get_or bytes i 0
 unfolding from_bytes
 byte_there bytes i l = let e : i * 1 ≡ i = omega arith in rw e (number_step bytes i 0 l ∙ omega arith)
+
+-- each byte as a number: the bytes themselves
+pub minutes_are : (bytes : List ℕ) → split 1 from_bytes bytes ≡ bytes
+minutes_are bytes =
+    let e : length bytes / 1 ≡ length bytes = omega arith in
+    rw e
+    (tabulate_same (length bytes) (λ i. from_bytes (part bytes (i * 1) 1)) (λ i. get_or bytes i 0) (byte_there bytes)
+    ∙ firsts_all bytes 0)
+
+-- they stand in front of what is left of the zeros
+pub minutes_put : (n : ℕ) (bytes : List ℕ) → bytes ++ drop (length bytes) (replicate n 0)
+    ≡ filled n 0 (split 1 from_bytes bytes)
+minutes_put n bytes =
+    rw (minutes_are bytes) (ap (λ (zs : List ℕ). bytes ++ zs) (drop-replicate (length bytes) n 0))

@@ -21,10 +21,8 @@ fn actions(bytes: &[u8], pools: usize, stores: usize) -> [Action; Job::ACTIONS]
     let count = view.count();
     let unused = Action::unused();
     let mut out = [unused; Job::ACTIONS];
-    let mut i = 0;
-    while i < count {
+    for i in 0..count {
         out[i] = view.action(i, pools, stores);
-        i += 1;
     }
     out
 }
@@ -35,11 +33,7 @@ fn put_minutes(out: &mut [u8], bytes: &[u8])
     ensures { out.new ≡
         filled (length out.old) 0 (split 1 from_bytes bytes.now) }
 {
-    let mut i = 0;
-    while i < bytes.len() {
-        out[i] = bytes[i];
-        i += 1;
-    }
+    out[..bytes.len()].copy_from_slice(bytes);
 }
 
 // The rule of a job with such a head.

@@ -59,13 +59,11 @@ fn gapless(file: &[u8], entries: usize) -> bool
     ensures { result ≡ gapless file.now (4 * entries) 0 entries }
 {
     let mut at = Layout::ENTRY * entries;
-    let mut k = 0;
-    while k < entries {
+    for k in 0..entries {
         if short(file, Layout::ENTRY * k) != at {
             return false;
         }
         at += short(file, Layout::ENTRY * k + Layout::LENGTH_AT);
-        k += 1;
     }
     at == file.len()
 }

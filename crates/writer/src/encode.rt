@@ -61,10 +61,8 @@ fn contents(out: &mut [u8], xs: [usize; NUMBERS], n: usize)
     requires { (n ≤ 12) × (2 * n ≤ length out.old) }
     ensures { out.new ≡ overwrite out.old 0 (joined (to_bytes 2) (firsts n 0 xs)) }
 {
-    let mut k = 0;
-    while k < n {
+    for k in 0..n {
         write_number(out, Layout::NUMBER * k, Layout::NUMBER, xs[k] as u64);
-        k += 1;
     }
 }
 
@@ -76,7 +74,7 @@ fn reserve(out: &mut [u8], at: usize, job: Job)
 {
     let rule = job.rule;
     if let StoreRule::PerHour = rule {
-        write_number(out, at, Layout::RESERVE, job.reserve as u64);
+        write_number(out, at, Layout::RESERVE, u64::from(job.reserve));
     }
 }
 
@@ -85,12 +83,12 @@ fn head(out: &mut [u8], at: usize, job: Job)
     requires { at + head_size job.rule ≤ length out.old }
     ensures { out.new ≡ overwrite out.old at (head_bytes (job_in job)) }
 {
-    write_number(out, at, Layout::FACTS, job.facts as u64);
+    write_number(out, at, Layout::FACTS, u64::from(job.facts));
     write_number(
         out,
         at + Layout::DEADLINE_AT,
         Layout::DEADLINE,
-        job.deadline as u64,
+        u64::from(job.deadline),
     );
     write_number(out, at + Layout::START_AT, Layout::SET, job.start);
     write_number(out, at + Layout::GOAL_AT, Layout::SET, job.goal);
@@ -102,23 +100,14 @@ fn amounts(out: &mut [u8], at: usize, xs: [u32; Job::AMOUNTS], n: usize)
     requires { (n ≤ 4) × (at + 4 * n ≤ length out.old) }
     ensures { out.new ≡ overwrite out.old at (amount_bytes (firsts n 0 xs)) }
 {
-    let mut i = 0;
-    while i < n {
+    for i in 0..n {
         write_number(
             out,
             at + Layout::AMOUNT * i,
             Layout::AMOUNT,
-            job::wide(xs[i]),
+            u64::from(xs[i]),
         );
-        i += 1;
     }
-}
-
-// A byte as a number of 64 bits. A function of its own, since a parameter is known to fit and a read element is not.
-fn wide(byte: u8) -> u64
-    ensures { result ≡ byte }
-{
-    byte as u64
 }
 
 // The first n minutes, a byte each, from place `at` on.
@@ -127,10 +116,8 @@ fn minutes(out: &mut [u8], at: usize, xs: &[u8], n: usize)
     ensures { out.new ≡
         overwrite out.old at (minute_bytes (firsts n 0 xs.now)) }
 {
-    let mut i = 0;
-    while i < n {
-        write_number(out, at + i, Layout::MINUTES, wide(xs[i]));
-        i += 1;
+    for i in 0..n {
+        write_number(out, at + i, Layout::MINUTES, u64::from(xs[i]));
     }
 }
 
@@ -159,7 +146,7 @@ fn action(out: &mut [u8], at: usize, counts: Counts, a: Action)
     let taken = a.stores;
     let uses = at + Layout::ACTION;
     let middle = uses + Layout::AMOUNT * counts.pools;
-    write_number(out, at, Layout::DURATION, a.duration as u64);
+    write_number(out, at, Layout::DURATION, u64::from(a.duration));
     write_number(out, at + Layout::NEEDS_AT, Layout::SET, a.needs);
     write_number(out, at + Layout::ADDS_AT, Layout::SET, a.adds);
     write_number(out, at + Layout::DELETES_AT, Layout::SET, a.deletes);
@@ -174,11 +161,8 @@ fn actions(out: &mut [u8], at: usize, size: usize, job: Job)
     ensures { out.new ≡ overwrite out.old at (joined action_bytes (job_in job).actions) }
 {
     let counts = job.counts;
-    let mut i = 0;
-    while i < counts.actions {
-        let a = job.actions[i];
-        action(out, at + i * size, counts, a);
-        i += 1;
+    for i in 0..counts.actions {
+        action(out, at + i * size, counts, job.actions[i]);
     }
 }
 

@@ -21,4 +21,4 @@ pub shape_of-out : goal.shape_of-out
 shape_of-out c = c.loop-i.invariant.1
 
 pub returns : goal.returns
-returns c = writing_end _ _ _ _ _ _ _ c.loop-i-test.false c.loop-i.invariant.0
+returns c = writing_end _ _ _ _ _ _ _ (omega arith) c.loop-i.invariant.0

@@ -1,5 +1,4 @@
 -- `write_number` meets its contract: `Writing` is the loop's invariant.
-use Prim.Native.Nat.{◌-◌}
 use mathlib.Core.Path.{◌≡◌}
 use lib.ListN.{length}
 use Rattle.encoding.proofs.WriteLoop.{Writing}
@@ -7,6 +6,3 @@ use Rattle.encoding.proofs.write_number.Given as goal
 
 abbrev pub invariant-loop-i : goal.invariant-loop-i
 invariant-loop-i l = Writing l.initial.out l.at l.n l.x l.out l.rest l.i × (length l.out ≡ length l.initial.out)
-
-abbrev pub decreases-loop-i : goal.decreases-loop-i
-decreases-loop-i l = l.n - l.i

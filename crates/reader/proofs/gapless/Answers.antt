@@ -10,14 +10,14 @@ pub loop-k-init : goal.loop-k-init
 loop-k-init c =
     let n = c.args.entries in
     let e : n - 0 ≡ n = omega arith in
-    (omega arith, omega arith, rw e)
+    (omega arith, rw e)
 
 pub returns-then-short-at : goal.returns-then-short-at
 returns-then-short-at c =
     let file = c.args.file.now in
     let n = c.args.entries in
     let l = c.loop-k in
-    sym (l.invariant.2 ∙ gapless_broken file l.at l.k (n - l.k) (omega arith)
+    sym (l.invariant.1 ∙ gapless_broken file l.at l.k (n - l.k) (omega arith)
     (λ e. c.if-short-at.true (c.short.ensures.0 ∙ e)))
 
 pub loop-k-preserved : goal.loop-k-preserved
@@ -27,8 +27,7 @@ loop-k-preserved c =
     let l = c.loop-k in
     let d : n - l.k - 1 ≡ n - (l.k + 1) = omega arith in (
       omega arith,
-      omega arith,
-      l.invariant.2
+      l.invariant.1
           ∙ gapless_next file l.at l.k (n - l.k) (omega arith)
           (sym c.short.ensures.0 ∙ c.if-short-at.false)
           ∙ rw (c.short-at.ensures.0, d),
@@ -40,4 +39,4 @@ returns c =
     let n = c.args.entries in
     let l = c.loop-k in
     let d : n - l.k ≡ 0 = omega arith in
-    sym (l.invariant.2 ∙ ap (gapless file l.at l.k) d ∙ gapless_end file l.at l.k)
+    sym (l.invariant.1 ∙ ap (gapless file l.at l.k) d ∙ gapless_end file l.at l.k)

@@ -6,9 +6,5 @@ use Rattle.reader.proofs.gapless.Given as goal
 
 abbrev pub invariant-loop-k : goal.invariant-loop-k
 invariant-loop-k l =
-    (l.k ≤ l.entries)
-    × (l.at ≤ 4 * l.entries + 65536 * l.k)
+    (l.at ≤ 4 * l.entries + 65536 * l.k)
     × (gapless l.file (4 * l.entries) 0 l.entries ≡ gapless l.file l.at l.k (l.entries - l.k))
-
-abbrev pub decreases-loop-k : goal.decreases-loop-k
-decreases-loop-k l = l.entries - l.k

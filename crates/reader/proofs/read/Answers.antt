@@ -53,7 +53,7 @@ returns-in_err-validate c =
     let t3 = rw c.layout-layout.ensures.0 at (sym c.missized.ensures ∙ c.if-missized.false) in
     let why = c.in_err-validate.field-0.0 in
     let read : read_file file ≡ Err why
-      = read_refused file t1 t2 t3 c.job_in-job.result c.job_in-job.ensures why (sym c.validate.ensures ∙ c.in_err-validate.was) in
+    = read_refused file t1 t2 t3 c.job_in-job.result c.job_in-job.ensures why (sym c.validate.ensures ∙ c.in_err-validate.was) in
     reads_of_answer _ _ (search rules)
 
 pub returns : goal.returns

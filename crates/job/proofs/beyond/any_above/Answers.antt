@@ -8,22 +8,20 @@ use Rattle.job.proofs.beyond.any_above.Invariants.{above_at, counts_at}
 use Rattle.job.proofs.beyond.any_above.Goals as goal
 
 pub loop-k-init : goal.loop-k-init
-loop-k-init c = (omega arith, refl)
+loop-k-init c = refl
 
 pub loop-k-preserved : goal.loop-k-preserved
 loop-k-preserved c =
     let a = c.args in
     let l = c.loop-k in
-    let test = counts_at a.n a.limits a.amounts in (
-      omega arith,
-      ap (λ (b : Bool). b || test l.k) l.invariant.1
-          ∙ or_comm (any_below l.k test) (test l.k)
-          ∙ sym (below_more l.k test),
-    )
+    let test = counts_at a.n a.limits a.amounts in
+    ap (λ (b : Bool). b || test l.k) l.invariant
+    ∙ or_comm (any_below l.k test) (test l.k)
+    ∙ sym (below_more l.k test)
 
 pub returns : goal.returns
 returns c =
     let a = c.args in
     let l = c.loop-k in
     let e : l.k ≡ 4 = omega arith in
-    (rw e at l.invariant.1) ∙ below_cut a.n 4 (above_at a.limits a.amounts) (omega arith)
+    (rw e at l.invariant) ∙ below_cut a.n 4 (above_at a.limits a.amounts) (omega arith)

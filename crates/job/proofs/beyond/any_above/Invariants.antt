@@ -1,5 +1,5 @@
 -- `any_above` meets its contract: found among the first k amounts, of those that count.
-use Prim.Native.Nat.{ℕ, ◌-◌, ◌≤◌}
+use Prim.Native.Nat.{ℕ}
 use mathlib.Core.Path.{◌≡◌}
 use mathlib.Core.Bool.{Bool, ◌&&◌}
 use mathlib.Core.List.{List}
@@ -18,7 +18,4 @@ abbrev pub counts_at : ℕ → List ℕ → List ℕ → ℕ → Bool
 counts_at n limits amounts k = ltb k n && above_at limits amounts k
 
 abbrev pub invariant-loop-k : goal.invariant-loop-k
-invariant-loop-k l = (l.k ≤ 4) × (l.found ≡ any_below l.k (counts_at l.n l.limits l.amounts))
-
-abbrev pub decreases-loop-k : goal.decreases-loop-k
-decreases-loop-k l = 4 - l.k
+invariant-loop-k l = l.found ≡ any_below l.k (counts_at l.n l.limits l.amounts)

@@ -10,18 +10,16 @@ use Rattle.job.proofs.beyond.any_beyond.Goals as goal
 pub loop-i-init : goal.loop-i-init
 loop-i-init c =
     let j = c.args.job in
-    (omega arith, sym (any_start (uses_beyond (job_in j)) (action_at j)))
+    sym (any_start (uses_beyond (job_in j)) (action_at j))
 
 pub loop-i-preserved : goal.loop-i-preserved
 loop-i-preserved c =
     let j = c.args.job in
-    let l = c.loop-i in (
-      omega arith,
-      ap₂ ◌||◌ l.invariant.1 c.uses_beyond-found.ensures ∙ sym (any_next (uses_beyond (job_in j)) (action_at j) l.i),
-    )
+    let l = c.loop-i in
+    ap₂ ◌||◌ l.invariant c.uses_beyond-found.ensures ∙ sym (any_next (uses_beyond (job_in j)) (action_at j) l.i)
 
 pub returns : goal.returns
 returns c =
     let l = c.loop-i in
     let e : l.i ≡ c.args.job.counts.actions = omega arith in
-    rw e at l.invariant.1
+    rw e at l.invariant

@@ -4,5 +4,4 @@ use Rattle.job.proofs.beyond.widened.Goals as goal
 
 pub returns : goal.returns
 unfolding tabulate
-returns c =
-    rw (c.wide-first.ensures.0, c.wide-second.ensures.0, c.wide-third.ensures.0, c.wide-fourth.ensures.0)
+returns c = rw (c.from.ensures, c.from-2.ensures, c.from-3.ensures, c.from-4.ensures)

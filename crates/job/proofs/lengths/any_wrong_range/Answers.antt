@@ -11,7 +11,7 @@ use native.Mathlib.Omega.{arith}
 use Rattle.job.proofs.lengths.any_wrong_range.Goals as goal
 
 pub loop-i-init : goal.loop-i-init
-loop-i-init c = (omega arith, refl)
+loop-i-init c = refl
 
 pub loop-i-preserved : goal.loop-i-preserved
 loop-i-preserved c =
@@ -23,10 +23,8 @@ loop-i-preserved c =
     let known = c-if1.true in
     let test = has_wrong_range (job_in j) in
     let here = c.wrong_range-found.ensures
-    ∙ ap₂ wrong_range (c.shortest-least.ensures ∙ shortest_is j l.i known) (longest_is j l.i known) in (
-      omega arith,
-      ap₂ ◌||◌ l.invariant.1 here ∙ or_comm (any_below l.i test) (test l.i) ∙ sym (below_more l.i test),
-    )
+    ∙ ap₂ wrong_range (c.shortest-least.ensures ∙ shortest_is j l.i known) (longest_is j l.i known) in
+    ap₂ ◌||◌ l.invariant here ∙ or_comm (any_below l.i test) (test l.i) ∙ sym (below_more l.i test)
 
 pub returns : goal.returns
 returns c =
@@ -35,4 +33,4 @@ returns c =
     let l = c.loop-i in
     let n = length_tabulate j.counts.actions (action_at j) in
     let e : l.i ≡ j.counts.actions = omega arith in
-    (rw e at l.invariant.1) ∙ ap (λ m. any_below m (has_wrong_range (job_in j))) (sym n)
+    (rw e at l.invariant) ∙ ap (λ m. any_below m (has_wrong_range (job_in j))) (sym n)

@@ -1,5 +1,4 @@
 -- `any_wrong_range` meets its contract: found among the first i actions.
-use Prim.Native.Nat.{◌-◌, ◌≤◌}
 use mathlib.Core.Path.{◌≡◌}
 use Rattle.lists.specs.Lists.{any_below}
 use Rattle.job.specs.Job.{job_in}
@@ -7,7 +6,4 @@ use Rattle.job.specs.Valid.{has_wrong_range}
 use Rattle.job.proofs.lengths.any_wrong_range.Given as goal
 
 abbrev pub invariant-loop-i : goal.invariant-loop-i
-invariant-loop-i l = (l.i ≤ l.job.counts.actions) × (l.found ≡ any_below l.i (has_wrong_range (job_in l.job)))
-
-abbrev pub decreases-loop-i : goal.decreases-loop-i
-decreases-loop-i l = l.job.counts.actions - l.i
+invariant-loop-i l = l.found ≡ any_below l.i (has_wrong_range (job_in l.job))

@@ -5,18 +5,18 @@ use Rattle.job.proofs.resources.allowance.Goals as goal
 
 pub overflow_mul-result : goal.overflow_mul-result
 overflow_mul-result c =
-    let c-wide = c.wide in
-    let available = c-wide.ensures.1 in
-    let few = mul-le-mul {n₁ = c-wide.result} {n₂ = 4294967296} {m₂ = 100} (omega arith) c.unreserved.ensures.1 in
+    let same = c.from.ensures in
+    let small = c.ranges.available.fits in
+    let few = mul-le-mul {n₁ = c.from.result} {n₂ = 4294967296} {m₂ = 100} (omega arith) c.unreserved.ensures.1 in
     record { fits = omega arith }
 
 pub overflow_cast-result : goal.overflow_cast-result
 overflow_cast-result c =
-    let c-wide = c.wide in
-    let available = c-wide.ensures.1 in
-    let part = mul-le-mul {m₂ = 100} (le_refl c-wide.result) c.unreserved.ensures.1 in
+    let same = c.from.ensures in
+    let small = c.ranges.available.fits in
+    let part = mul-le-mul {m₂ = 100} (le_refl c.from.result) c.unreserved.ensures.1 in
     record { fits = omega arith }
 
 pub returns-in-PerHour : goal.returns-in-PerHour
 returns-in-PerHour c =
-    rw (c.in-PerHour.is, c.wide.ensures.0, c.unreserved.ensures.0)
+    rw (c.in-PerHour.is, c.from.ensures, c.unreserved.ensures.0)

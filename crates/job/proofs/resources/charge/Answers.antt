@@ -5,22 +5,23 @@ use Rattle.job.proofs.resources.charge.Goals as goal
 
 pub overflow_mul-result : goal.overflow_mul-result
 overflow_mul-result c =
-    let c-wide2 = c.wide-in-PerHour in
-    let amount = c-wide2.ensures.1 in
-    let few = mul-le-mul {n₁ = c-wide2.result} {n₂ = 4294967296} {m₂ = 5} (omega arith) c.hours.ensures.1 in
+    let wide = c.from-in-PerHour in
+    let same = wide.ensures in
+    let small = c.ranges.amount.fits in
+    let few = mul-le-mul {n₁ = wide.result} {n₂ = 4294967296} {m₂ = 5} (omega arith) c.hours.ensures.1 in
     record { fits = omega arith }
 
 pub returns-in-PerStep : goal.returns-in-PerStep
 returns-in-PerStep c =
-    let amount = c.wide.ensures.1 in
-    let same = c.wide.ensures.0 in
+    let same = c.from.ensures in
+    let small = c.ranges.amount.fits in
     (rw c.in-PerStep.is same, (omega arith, omega arith))
 
 pub returns-in-PerHour : goal.returns-in-PerHour
 returns-in-PerHour c =
-    let c-wide2 = c.wide-in-PerHour in
-    let amount = c-wide2.ensures.1 in
-    let same = c-wide2.ensures.0 in
-    let few = mul-le-mul {n₁ = c-wide2.result} {n₂ = 4294967296} {m₂ = 5} (omega arith) c.hours.ensures.1 in
-    let part = mul-le-mul {m₂ = 5} (le_refl c-wide2.result) c.hours.ensures.1 in
-    (rw (c.in-PerHour.is, c-wide2.ensures.0, c.hours.ensures.0), (omega arith, omega arith))
+    let wide = c.from-in-PerHour in
+    let same = wide.ensures in
+    let small = c.ranges.amount.fits in
+    let few = mul-le-mul {n₁ = wide.result} {n₂ = 4294967296} {m₂ = 5} (omega arith) c.hours.ensures.1 in
+    let part = mul-le-mul {m₂ = 5} (le_refl wide.result) c.hours.ensures.1 in
+    (rw (c.in-PerHour.is, wide.ensures, c.hours.ensures.0), (omega arith, omega arith))

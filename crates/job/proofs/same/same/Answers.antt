@@ -1,23 +1,20 @@
 -- `same` meets its contract: each part of the two jobs is compared.
-use Rattle.job.proofs.SameParts.{same_job}
+use Rattle.std.proofs.Common.{rules}
+use Rattle.job.proofs.Agree.{first_decides}
+use Rattle.job.proofs.SameParts.{same_form, same_rule, same_counts, same_job}
 use Rattle.job.proofs.same.same.Goals as goal
 
 pub returns : goal.returns
 returns c =
-    let c-args = c.args in
-    let c-same-form = c.same_form in
-    let c-same-rule = c.same_rule in
-    let c-reserve = c.reserve in
-    let c-reserve2 = c.reserve-2 in
-    let c-same-counts = c.same_counts in
-    let c-same-amounts = c.same_amounts in
-    let c-handovers = c.handovers in
-    let c-same-handovers = c.same_handovers in
-    let c-same-amounts2 = c.same_amounts-2 in
-    rw (c-reserve.ensures, c-reserve2.ensures)
-    (same_job c-args.a c-args.b c-same-form.ensures c-same-rule.ensures c-same-counts.ensures
-    c-same-amounts.ensures
-    (rw c-handovers.ensures at c-same-handovers.ensures)
-    c-same-amounts2.ensures
-    (rw c.shortest.ensures at c.same_shortest.ensures)
+    let a = c.args.a in
+    let b = c.args.b in
+    let f = same_form a.form b.form in
+    let r = same_rule a.rule b.rule in
+    let n = same_counts a.counts b.counts in
+    rw (c.eq.ensures, c.eq-2.ensures, c.reserve.ensures, c.reserve-2.ensures, c.eq-3.ensures, c.same_first.ensures, c.same_first-2.ensures, c.handovers.ensures, c.same_first-3.ensures, c.same_first-4.ensures, c.shortest.ensures)
+    (same_job a b f r n
+    (first_decides _ a.pools b.pools (search rules))
+    (first_decides _ a.handovers b.handovers (search rules))
+    (first_decides _ a.stores b.stores (search rules))
+    (first_decides _ a.shortest b.shortest (search rules))
     c.same_actions.ensures)

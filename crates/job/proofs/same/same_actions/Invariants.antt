@@ -1,5 +1,5 @@
 -- `same_actions` meets its contract: the actions before place i agree.
-use Prim.Native.Nat.{ℕ, ◌-◌, ◌<◌}
+use Prim.Native.Nat.{ℕ, ◌<◌}
 use mathlib.Core.Path.{◌≡◌}
 use lib.ListN.{get_or}
 use Rattle.job.specs.Job.{beyond, action_in}
@@ -8,6 +8,3 @@ use Rattle.job.proofs.same.same_actions.Given as goal
 abbrev pub invariant-loop-i : goal.invariant-loop-i
 invariant-loop-i l =
     (k : ℕ) → k < l.i → action_in l.counts (get_or l.a k beyond) ≡ action_in l.counts (get_or l.b k beyond)
-
-abbrev pub decreases-loop-i : goal.decreases-loop-i
-decreases-loop-i l = l.counts.actions - l.i

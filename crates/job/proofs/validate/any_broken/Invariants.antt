@@ -1,5 +1,4 @@
 -- `any_broken` meets its contract: the rules that the first i actions break.
-use Prim.Native.Nat.{◌-◌, ◌≤◌}
 use mathlib.Core.Path.{◌≡◌}
 use Rattle.lists.specs.Lists.{tabulate}
 use Rattle.job.specs.Job.{action_at}
@@ -7,8 +6,4 @@ use Rattle.job.proofs.BrokenLaws.{broken_in}
 use Rattle.job.proofs.validate.any_broken.Given as goal
 
 abbrev pub invariant-loop-i : goal.invariant-loop-i
-invariant-loop-i l =
-    (l.i ≤ l.job.counts.actions) × (l.broken ≡ broken_in l.job.facts (tabulate l.i (action_at l.job)))
-
-abbrev pub decreases-loop-i : goal.decreases-loop-i
-decreases-loop-i l = l.job.counts.actions - l.i
+invariant-loop-i l = l.broken ≡ broken_in l.job.facts (tabulate l.i (action_at l.job))

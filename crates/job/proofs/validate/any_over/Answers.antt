@@ -11,6 +11,6 @@ returns c =
     let c-args = c.args in
     let c-pre = c.requires in
     c.any_above.ensures
-    ∙ ap₂ (λ (most : ℕ) (xs : List ℕ). any_above c-args.n (replicate 4 most) xs) c.wide-most.ensures.0
+    ∙ ap₂ (λ (most : ℕ) (xs : List ℕ). any_above c-args.n (replicate 4 most) xs) c.from-limits.ensures
     c.widened.ensures
     ∙ above_one_limit c-args.limit c-args.n c-args.amounts (c-pre)

@@ -1,20 +1,9 @@
--- `any_too_long` meets its contract: found among the first k handovers, of those that count.
-use Prim.Native.Nat.{ℕ, ◌-◌, ◌≤◌}
+-- `any_too_long` meets its contract: found among the first k handovers.
 use mathlib.Core.Path.{◌≡◌}
-use mathlib.Core.Bool.{Bool, ◌&&◌}
-use mathlib.Core.List.{List}
-use lib.Dec.{ltb}
 use lib.ListN.{get_or}
 use Rattle.lists.specs.Lists.{any_below}
 use Rattle.job.specs.Valid.{over}
 use Rattle.job.proofs.validate.any_too_long.Given as goal
 
--- the handover at place k is one of the first n, and too long
-abbrev pub counts_at : ℕ → List ℕ → ℕ → Bool
-counts_at n handovers k = ltb k n && over 30 (get_or handovers k 0)
-
 abbrev pub invariant-loop-k : goal.invariant-loop-k
-invariant-loop-k l = (l.k ≤ 4) × (l.found ≡ any_below l.k (counts_at l.n l.handovers))
-
-abbrev pub decreases-loop-k : goal.decreases-loop-k
-decreases-loop-k l = 4 - l.k
+invariant-loop-k l = l.found ≡ any_below l.k (λ k. over 30 (get_or l.handovers k 0))

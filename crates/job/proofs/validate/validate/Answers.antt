@@ -12,7 +12,7 @@ pub returns-in_err-validate_limits : goal.returns-in_err-validate_limits
 unfolding job_rows
 returns-in_err-validate_limits c =
     let limits : first (job_rows (job_in c.args.job)) ≡ Err c.in_err-validate_limits.field-0.0
-      = first_append_refused (limit_rows (job_in c.args.job)) _ _ (sym c.validate_limits.ensures ∙ c.in_err-validate_limits.was) in
+    = first_append_refused (limit_rows (job_in c.args.job)) _ _ (sym c.validate_limits.ensures ∙ c.in_err-validate_limits.was) in
     search rules
 
 pub any_beyond-requires : goal.any_beyond-requires

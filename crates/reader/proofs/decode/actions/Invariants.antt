@@ -1,5 +1,4 @@
 -- `actions`: the actions before place i stand at the front of the array.
-use Prim.Native.Nat.{◌-◌, ◌≤◌}
 use mathlib.Core.Path.{◌≡◌}
 use mathlib.Core.List.{map}
 use Rattle.lists.specs.Lists.{tabulate, filled}
@@ -9,8 +8,4 @@ use Rattle.reader.proofs.decode.actions.Given as goal
 
 abbrev pub invariant-loop-i : goal.invariant-loop-i
 invariant-loop-i l =
-    (l.i ≤ l.count)
-    × (l.out ≡ filled 64 unused_action (map action_value (tabulate l.i (action_at l.bytes l.pools l.stores))))
-
-abbrev pub decreases-loop-i : goal.decreases-loop-i
-decreases-loop-i l = l.count - l.i
+    l.out ≡ filled 64 unused_action (map action_value (tabulate l.i (action_at l.bytes l.pools l.stores)))

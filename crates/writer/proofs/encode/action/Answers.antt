@@ -19,6 +19,7 @@ returns c =
       c.write_number-3.ensures,
       c.write_number-2.ensures,
       c.write_number.ensures,
+      c.from.ensures,
     )
     (write_action a.out.now a.at (action_in a.counts a.a) (a.at + 25 + 4 * a.counts.pools) (omega arith)
     (omega arith))

@@ -12,7 +12,6 @@ use Rattle.writer.proofs.encode.actions.Goals as goal
 pub loop-i-init : goal.loop-i-init
 loop-i-init c =
     let j = c.args.job in (
-      omega arith,
       pieces_none action_bytes (action_at j) (action_size j.counts.pools j.counts.stores) (length_action_at j) _ _,
       refl,
     )
@@ -43,17 +42,16 @@ loop-i-preserved c =
     let w = piece_below a.job.counts.actions a.size l.i c.loop-i-test.true in
     let k = c.action.auto.out in
     let z = action_size a.job.counts.pools a.job.counts.stores in (
-      omega arith,
-      rw (c.action.ensures, l.invariant.1)
+      rw (c.action.ensures, l.invariant.0)
           (pieces_more action_bytes (action_at a.job) z (length_action_at a.job) a.out.now a.at l.i
           (a.at + l.i * a.size) (rw h.1) (omega arith)),
       omega arith,
     )
 
 pub shape_of-out : goal.shape_of-out
-shape_of-out c = c.loop-i.invariant.2
+shape_of-out c = c.loop-i.invariant.1
 
 pub returns : goal.returns
 returns c =
     let e : c.loop-i.i ≡ c.args.job.counts.actions = omega arith in
-    rw e at c.loop-i.invariant.1
+    rw e at c.loop-i.invariant.0

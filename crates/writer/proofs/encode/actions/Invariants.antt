@@ -1,5 +1,4 @@
 -- `actions` meets its contract: the first i are written.
-use Prim.Native.Nat.{◌-◌, ◌≤◌}
 use mathlib.Core.Path.{◌≡◌}
 use lib.ListN.{length}
 use Rattle.lists.specs.Lists.{tabulate}
@@ -10,9 +9,5 @@ use Rattle.writer.proofs.encode.actions.Given as goal
 
 abbrev pub invariant-loop-i : goal.invariant-loop-i
 invariant-loop-i l =
-    (l.i ≤ l.job.counts.actions)
-    × (l.out ≡ overwrite l.initial.out l.at (joined action_bytes (tabulate l.i (action_at l.job))))
+    (l.out ≡ overwrite l.initial.out l.at (joined action_bytes (tabulate l.i (action_at l.job))))
     × (length l.out ≡ length l.initial.out)
-
-abbrev pub decreases-loop-i : goal.decreases-loop-i
-decreases-loop-i l = l.job.counts.actions - l.i

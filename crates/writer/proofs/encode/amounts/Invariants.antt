@@ -1,5 +1,4 @@
 -- `amounts` meets its contract: the first i are written.
-use Prim.Native.Nat.{◌-◌, ◌≤◌}
 use mathlib.Core.Path.{◌≡◌}
 use lib.ListN.{length}
 use Rattle.lists.specs.Lists.{firsts}
@@ -9,7 +8,4 @@ use Rattle.writer.proofs.encode.amounts.Given as goal
 
 abbrev pub invariant-loop-i : goal.invariant-loop-i
 invariant-loop-i l =
-    (l.i ≤ l.n) × (l.out ≡ overwrite l.initial.out l.at (amount_bytes (firsts l.i 0 l.xs))) × (length l.out ≡ length l.initial.out)
-
-abbrev pub decreases-loop-i : goal.decreases-loop-i
-decreases-loop-i l = l.n - l.i
+    (l.out ≡ overwrite l.initial.out l.at (amount_bytes (firsts l.i 0 l.xs))) × (length l.out ≡ length l.initial.out)

@@ -1,5 +1,4 @@
 -- `contents` meets its contract: the first k numbers are written.
-use Prim.Native.Nat.{◌-◌, ◌≤◌}
 use mathlib.Core.Path.{◌≡◌}
 use lib.ListN.{length}
 use Rattle.lists.specs.Lists.{firsts}
@@ -8,7 +7,4 @@ use Rattle.writer.proofs.encode.contents.Given as goal
 
 abbrev pub invariant-loop-k : goal.invariant-loop-k
 invariant-loop-k l =
-    (l.k ≤ l.n) × (l.out ≡ overwrite l.initial.out 0 (joined (to_bytes 2) (firsts l.k 0 l.xs))) × (length l.out ≡ length l.initial.out)
-
-abbrev pub decreases-loop-k : goal.decreases-loop-k
-decreases-loop-k l = l.n - l.k
+    (l.out ≡ overwrite l.initial.out 0 (joined (to_bytes 2) (firsts l.k 0 l.xs))) × (length l.out ≡ length l.initial.out)

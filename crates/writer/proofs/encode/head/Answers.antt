@@ -40,5 +40,7 @@ returns c =
       c.write_number-3.ensures,
       c.write_number-2.ensures,
       c.write_number.ensures,
+      c.from.ensures,
+      c.from-2.ensures,
     )
     (write_head c.args.out.now c.args.at (job_in c.args.job) (omega arith))

@@ -11,7 +11,7 @@ use Rattle.writer.proofs.encode.minutes.Goals as goal
 pub loop-i-init : goal.loop-i-init
 loop-i-init c =
     let f : ℕ → ℕ = λ k. get_or c.args.xs.now k 0 in
-    (omega arith, pieces_none (to_bytes 1) f 1 (λ k. length_bytes 1 (f k)) _ _, refl)
+    (pieces_none (to_bytes 1) f 1 (λ k. length_bytes 1 (f k)) _ _, refl)
 
 pub loop-i-preserved : goal.loop-i-preserved
 loop-i-preserved c =
@@ -19,8 +19,7 @@ loop-i-preserved c =
     let a = c.args in
     let f : ℕ → ℕ = λ k. get_or a.xs.now k 0 in
     let k = c.write_number.auto.out in (
-      omega arith,
-      rw (c.write_number.ensures, c.wide.ensures, l.invariant.1)
+      rw (c.write_number.ensures, c.from.ensures, l.invariant.0)
           (pieces_more (to_bytes 1) f 1 (λ k. length_bytes 1 (f k)) a.out.now a.at l.i (a.at + l.i)
           (omega arith)
           (omega arith)),
@@ -28,10 +27,10 @@ loop-i-preserved c =
     )
 
 pub shape_of-out : goal.shape_of-out
-shape_of-out c = c.loop-i.invariant.2
+shape_of-out c = c.loop-i.invariant.1
 
 pub returns : goal.returns
 returns c =
     let l = c.loop-i in
     let e : l.i ≡ c.args.n = omega arith in
-    rw e at l.invariant.1
+    rw e at l.invariant.0

@@ -12,7 +12,7 @@ write_number-requires c =
 
 pub returns-in-PerHour : goal.returns-in-PerHour
 returns-in-PerHour c =
-    rw (c.write_number.ensures, c.in-PerHour.is)
+    rw (c.write_number.ensures, c.from.ensures, c.in-PerHour.is)
 
 pub returns-in_default : goal.returns-in_default
 returns-in_default c = rw c.in_default.is (sym (overwrite_none _ _))
