@@ -139,10 +139,10 @@ module _ (at : ℕ → Step) where
       ∙ rising_more (i - 1)
       ∙ ap (λ (k : ℕ). strictly_rising (tabulate k at) && before (at (i - 1)) (at k)) f
 
-  pub rising_end : (i n : ℕ) → n ≤ i → i ≤ suc (n - 1) → strictly_rising (tabulate i at) ≡ true
+  pub rising_end : (i n : ℕ) → n ≤ i → (1 ≤ n → i ≤ n) → strictly_rising (tabulate i at) ≡ true
       → strictly_rising (tabulate n at) ≡ true
   rising_end i zero l u h = short_rising 0 (omega arith)
-  rising_end i (suc n) l u h = let e : i ≡ suc n = omega arith in rw e at h
+  rising_end i (suc n) l u h = let m = u (omega arith) in let e : i ≡ suc n = omega arith in rw e at h
 
   -- none is larger than the largest
   pub largest_at : (f : Step → ℕ) (n k : ℕ) → k < n → f (at k) ≤ largest f (tabulate n at)

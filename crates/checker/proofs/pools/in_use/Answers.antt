@@ -11,7 +11,7 @@ use Rattle.checker.proofs.pools.in_use.Goals as goal
 
 pub loop-i-init : goal.loop-i-init
 unfolding tabulate
-loop-i-init c = (omega arith, omega arith, λ J e. refl)
+loop-i-init c = (omega arith, λ J e. refl)
 
 pub overflow_add-sum : goal.overflow_add-sum
 overflow_add-sum c = let s = c.share-sum.ensures.small in omega arith
@@ -23,9 +23,8 @@ loop-i-preserved c =
     let l = c.loop-i in
     let s = c.share-sum.ensures.small in (
       omega arith,
-      omega arith,
       λ J e.
-          rw (l.invariant.2 J e, c.share-sum.ensures.counts J p.counts e c.requires.2)
+          rw (l.invariant.1 J e, c.share-sum.ensures.counts J p.counts e c.requires.2)
           (sym (total_more (step_at p) (λ x. cond (has_share J a.pool a.minute x)
           (get_or x.action.pools a.pool 0) 0)
           l.i)),
@@ -34,4 +33,4 @@ loop-i-preserved c =
 pub returns : goal.returns
 returns c =
     let q : c.loop-i.i ≡ c.args.plan.length = omega arith in
-    λ J e. rw q at (c.loop-i.invariant.2 J e)
+    λ J e. rw q at (c.loop-i.invariant.1 J e)

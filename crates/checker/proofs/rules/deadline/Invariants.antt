@@ -1,5 +1,4 @@
 -- `deadline` meets its contract: none of the first i steps stops late.
-use Prim.Native.Nat.{◌-◌, ◌≤◌}
 use mathlib.Core.Path.{◌≡◌}
 use mathlib.Core.Bool.{false}
 use Rattle.lists.specs.Lists.{tabulate, any}
@@ -8,7 +7,4 @@ use Rattle.timeline.specs.Value.{step_at}
 use Rattle.checker.proofs.rules.deadline.Given as goal
 
 abbrev pub invariant-loop-i : goal.invariant-loop-i
-invariant-loop-i l = (l.i ≤ l.plan.length) × (any (λ x. over l.limit x.stop) (tabulate l.i (step_at l.plan)) ≡ false)
-
-abbrev pub decreases-loop-i : goal.decreases-loop-i
-decreases-loop-i l = l.plan.length - l.i
+invariant-loop-i l = (any (λ x. over l.limit x.stop) (tabulate l.i (step_at l.plan)) ≡ false)

@@ -8,16 +8,13 @@ use Rattle.checker.proofs.rules.end.Goals as goal
 
 pub loop-i-init : goal.loop-i-init
 unfolding tabulate
-loop-i-init c = (omega arith, refl)
+loop-i-init c = refl
 
 pub loop-i-preserved : goal.loop-i-preserved
 loop-i-preserved c =
-    let l = c.loop-i in (
-      omega arith,
-      c.later-latest.ensures ∙ rw l.invariant.1 (sym (largest_more (step_at c.args.plan) (λ x. x.stop) l.i)),
-    )
+    let l = c.loop-i in c.max-latest.ensures ∙ rw l.invariant (sym (largest_more (step_at c.args.plan) (λ x. x.stop) l.i))
 
 pub returns : goal.returns
 returns c =
     let e : c.loop-i.i ≡ c.args.plan.length = omega arith in
-    rw e at c.loop-i.invariant.1
+    rw e at c.loop-i.invariant

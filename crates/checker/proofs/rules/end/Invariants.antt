@@ -1,5 +1,4 @@
 -- `end` meets its contract: the latest stop of the first i steps.
-use Prim.Native.Nat.{◌-◌, ◌≤◌}
 use mathlib.Core.Path.{◌≡◌}
 use Rattle.lists.specs.Lists.{tabulate}
 use Rattle.timeline.specs.Timeline.{end}
@@ -7,7 +6,4 @@ use Rattle.timeline.specs.Value.{step_at}
 use Rattle.checker.proofs.rules.end.Given as goal
 
 abbrev pub invariant-loop-i : goal.invariant-loop-i
-invariant-loop-i l = (l.i ≤ l.plan.length) × (l.latest ≡ end (tabulate l.i (step_at l.plan)))
-
-abbrev pub decreases-loop-i : goal.decreases-loop-i
-decreases-loop-i l = l.plan.length - l.i
+invariant-loop-i l = (l.latest ≡ end (tabulate l.i (step_at l.plan)))

@@ -14,7 +14,7 @@ use Rattle.checker.proofs.rules.used_up.Goals as goal
 
 pub loop-i-init : goal.loop-i-init
 unfolding tabulate
-loop-i-init c = (omega arith, omega arith, refl)
+loop-i-init c = (omega arith, refl)
 
 pub overflow_add-sum : goal.overflow_add-sum
 overflow_add-sum c =
@@ -27,13 +27,9 @@ loop-i-preserved c =
     let small = (c.charged-amounts.ensures.1 a.store).0 in
     let x = get_or a.plan.steps c.loop-i.i beyond_step in
     let amount = ap (λ (l : List ℕ). get_or l a.store 0) c.charged-amounts.ensures.0
-    ∙ charged_is a.job x.action a.store c.requires.3 (omega arith) in (
-      omega arith,
-      omega arith,
-      one_more_step a.plan _ c.requires.1 (store_use (job_in a.job) a.store) c.loop-i.i _ _ c.loop-i.invariant.2 amount,
-    )
+    ∙ charged_is a.job x.action a.store c.requires.3 (omega arith) in (omega arith, one_more_step a.plan _ c.requires.1 (store_use (job_in a.job) a.store) c.loop-i.i _ _ c.loop-i.invariant.1 amount)
 
 pub returns : goal.returns
 returns c =
     let q : c.loop-i.i ≡ c.args.plan.length = omega arith in
-    rw q at c.loop-i.invariant.2
+    rw q at c.loop-i.invariant.1

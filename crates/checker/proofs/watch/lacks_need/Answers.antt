@@ -7,7 +7,7 @@ use native.Mathlib.Omega.{arith}
 use Rattle.checker.proofs.watch.lacks_need.Goals as goal
 
 pub loop-i-init : goal.loop-i-init
-loop-i-init c = (omega arith, any_start (lacks_at c.args.clock) (step_at c.args.plan))
+loop-i-init c = any_start (lacks_at c.args.clock) (step_at c.args.plan)
 
 pub returns-then-step-clock : goal.returns-then-step-clock
 returns-then-step-clock c =
@@ -16,13 +16,10 @@ returns-then-step-clock c =
     (rw c.subset.ensures.0 at c.if-step-clock.true))
 
 pub loop-i-preserved : goal.loop-i-preserved
-loop-i-preserved c = (
-  omega arith,
-  any_more (lacks_at c.args.clock) (step_at c.args.plan) c.loop-i.i c.loop-i.invariant.1
-      (rw c.subset.ensures.0 at c.if-step-clock.false),
-)
+loop-i-preserved c = any_more (lacks_at c.args.clock) (step_at c.args.plan) c.loop-i.i c.loop-i.invariant
+    (rw c.subset.ensures.0 at c.if-step-clock.false)
 
 pub returns : goal.returns
 returns c =
     let e : c.loop-i.i ≡ c.args.plan.length = omega arith in
-    sym (rw e at c.loop-i.invariant.1)
+    sym (rw e at c.loop-i.invariant)
