@@ -6,7 +6,8 @@ use mathlib.Core.Bool.{Bool, true, false, ◌&&◌, ◌||◌}
 use mathlib.Core.List.{List, [], ◌∷◌, ◌++◌, append_assoc}
 use native.Mathlib.Decide.{dec_lt}
 use native.Mathlib.Omega.{arith}
-use lib.ListN.{get_or}
+use lib.ListN.{get_or, length, take}
+use Rattle.std.proofs.lemmas.List.{get_or-take, length-take}
 use Rattle.lists.specs.Lists.{tabulate, any}
 use Rattle.lists.proofs.Bools.{absurd}
 use Rattle.lists.proofs.Tabulate.{tabulate_snoc}
@@ -155,6 +156,12 @@ module _ (at : ℕ → Step) where
         | yes l ↦ let i = largest_at f n k l in omega arith
         | no l ↦ let q : k ≡ n = omega arith in rw q (omega arith)
       ]
+
+-- ── a loop over the first steps of a plan, as a slice ──
+pub front_step : (plan : Plan) (i : ℕ) → i < length (take plan.length plan.steps)
+    → get_or (take plan.length plan.steps) i beyond_step ≡ get_or plan.steps i beyond_step
+front_step plan i here =
+    get_or-take plan.length plan.steps i beyond_step (omega (arith, length-take plan.length plan.steps))
 
 -- ── the steps of a plan by value, with one step more ──
 pub one_more_step : (plan : Plan) (n : Counts) → plan.counts ≡ n → (charge : Step → ℕ) (i sum r : ℕ)

@@ -43,8 +43,7 @@ pub fn deadline(plan: Plan, limit: u16) -> Result<(), Refusal>
     requires { plan.length ≤ 32 }
     ensures { result ≡ first (AfterDeadline when any (λ x. over limit x.stop) (steps_of plan) ∷ []) }
 {
-    for i in 0..plan.length {
-        let step = plan.steps[i];
+    for step in &plan.steps[..plan.length] {
         if u32::from(limit) < step.stop {
             return Err(Refusal::AfterDeadline);
         }
@@ -126,8 +125,7 @@ pub fn end(plan: Plan) -> u32
     ensures { result ≡ end (steps_of plan) }
 {
     let mut latest: u32 = 0;
-    for i in 0..plan.length {
-        let step = plan.steps[i];
+    for step in &plan.steps[..plan.length] {
         latest = latest.max(step.stop);
     }
     latest

@@ -6,5 +6,5 @@ use Rattle.job.specs.Valid.{over}
 use Rattle.timeline.specs.Value.{step_at}
 use Rattle.checker.proofs.rules.deadline.Given as goal
 
-abbrev pub invariant-loop-i : goal.invariant-loop-i
-invariant-loop-i l = (any (λ x. over l.limit x.stop) (tabulate l.i (step_at l.plan)) ≡ false)
+abbrev pub invariant-loop-step : goal.invariant-loop-step
+invariant-loop-step l = (any (λ x. over l.limit x.stop) (tabulate l.step-index (step_at l.fn.plan)) ≡ false)

@@ -5,5 +5,5 @@ use Rattle.timeline.specs.Timeline.{end}
 use Rattle.timeline.specs.Value.{step_at}
 use Rattle.checker.proofs.rules.end.Given as goal
 
-abbrev pub invariant-loop-i : goal.invariant-loop-i
-invariant-loop-i l = (l.latest ≡ end (tabulate l.i (step_at l.plan)))
+abbrev pub invariant-loop-step : goal.invariant-loop-step
+invariant-loop-step l = (l.latest ≡ end (tabulate l.step-index (step_at l.fn.plan)))
