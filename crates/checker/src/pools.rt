@@ -42,9 +42,8 @@ fn in_use(plan: Plan, pool: usize, handover: u8, minute: u32) -> u64
     ensures { InUse plan pool handover minute result }
 {
     let mut sum: u64 = 0;
-    for i in 0..plan.length {
-        let step = plan.steps[i];
-        sum += share(step, pool, handover, minute);
+    for step in &plan.steps[..plan.length] {
+        sum += share(*step, pool, handover, minute);
     }
     sum
 }
@@ -55,8 +54,7 @@ fn peak(plan: Plan, pool: usize, handover: u8) -> u64
     ensures { PeakOf plan pool handover result }
 {
     let mut most: u64 = 0;
-    for i in 0..plan.length {
-        let step = plan.steps[i];
+    for step in &plan.steps[..plan.length] {
         most = most.max(in_use(plan, pool, handover, step.start));
     }
     most

@@ -96,8 +96,7 @@ pub fn used_up(plan: Plan, job: Job, store: usize) -> u64
     ensures { result ≡ used_up (job_in job) store (steps_of plan) }
 {
     let mut sum: u64 = 0;
-    for i in 0..plan.length {
-        let step = plan.steps[i];
+    for step in &plan.steps[..plan.length] {
         let amounts = job::resources::charged(job, step.action);
         sum += amounts[store];
     }

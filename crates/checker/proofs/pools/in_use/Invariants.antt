@@ -8,7 +8,7 @@ use Rattle.timeline.specs.Timeline.{in_use}
 use Rattle.timeline.specs.Value.{step_at}
 use Rattle.checker.proofs.pools.in_use.Given as goal
 
-abbrev pub invariant-loop-i : goal.invariant-loop-i
-invariant-loop-i l =
-    (l.sum ≤ l.i * 4294967296)
-    × ((J : Job) → handover J l.pool ≡ l.handover → l.sum ≡ in_use J l.pool l.minute (tabulate l.i (step_at l.plan)))
+abbrev pub invariant-loop-step : goal.invariant-loop-step
+invariant-loop-step l =
+    (l.sum ≤ l.step-index * 4294967296)
+    × ((J : Job) → handover J l.pool ≡ l.handover → l.sum ≡ in_use J l.pool l.minute (tabulate l.step-index (step_at l.fn.plan)))

@@ -6,5 +6,5 @@ use Rattle.timeline.specs.Value.{step_at}
 use Rattle.checker.specs.Watch.{lacks_at}
 use Rattle.checker.proofs.watch.lacks_need.Given as goal
 
-abbrev pub invariant-loop-i : goal.invariant-loop-i
-invariant-loop-i l = (any (lacks_at l.clock) (tabulate l.i (step_at l.plan)) ≡ false)
+abbrev pub invariant-loop-step : goal.invariant-loop-step
+invariant-loop-step l = (any (lacks_at l.clock) (tabulate l.step-index (step_at l.fn.plan)) ≡ false)
