@@ -6,7 +6,8 @@ use mathlib.Core.Bool.{Bool, true, false, ◌&&◌, ◌||◌}
 use mathlib.Core.List.{List, [], ◌∷◌, ◌++◌, append_assoc}
 use native.Mathlib.Decide.{dec_lt}
 use native.Mathlib.Omega.{arith}
-use lib.ListN.{get_or}
+use lib.ListN.{get_or, length, take}
+use Rattle.std.proofs.lemmas.List.{get_or-take, length-take}
 use Rattle.lists.specs.Lists.{tabulate, any}
 use Rattle.lists.proofs.Bools.{absurd}
 use Rattle.lists.proofs.Tabulate.{tabulate_snoc}
@@ -139,10 +140,10 @@ module _ (at : ℕ → Step) where
       ∙ rising_more (i - 1)
       ∙ ap (λ (k : ℕ). strictly_rising (tabulate k at) && before (at (i - 1)) (at k)) f
 
-  pub rising_end : (i n : ℕ) → n ≤ i → i ≤ suc (n - 1) → strictly_rising (tabulate i at) ≡ true
+  pub rising_end : (i n : ℕ) → n ≤ i → (1 ≤ n → i ≤ n) → strictly_rising (tabulate i at) ≡ true
       → strictly_rising (tabulate n at) ≡ true
   rising_end i zero l u h = short_rising 0 (omega arith)
-  rising_end i (suc n) l u h = let e : i ≡ suc n = omega arith in rw e at h
+  rising_end i (suc n) l u h = let m = u (omega arith) in let e : i ≡ suc n = omega arith in rw e at h
 
   -- none is larger than the largest
   pub largest_at : (f : Step → ℕ) (n k : ℕ) → k < n → f (at k) ≤ largest f (tabulate n at)
@@ -155,6 +156,12 @@ module _ (at : ℕ → Step) where
         | yes l ↦ let i = largest_at f n k l in omega arith
         | no l ↦ let q : k ≡ n = omega arith in rw q (omega arith)
       ]
+
+-- ── a loop over the first steps of a plan, as a slice ──
+pub front_step : (plan : Plan) (i : ℕ) → i < length (take plan.length plan.steps)
+    → get_or (take plan.length plan.steps) i beyond_step ≡ get_or plan.steps i beyond_step
+front_step plan i here =
+    get_or-take plan.length plan.steps i beyond_step (omega (arith, length-take plan.length plan.steps))
 
 -- ── the steps of a plan by value, with one step more ──
 pub one_more_step : (plan : Plan) (n : Counts) → plan.counts ≡ n → (charge : Step → ℕ) (i sum r : ℕ)

@@ -1,7 +1,7 @@
 -- The peaks of an accepted plan are no more than a pool can have; those of any plan, no more than 32 steps can use.
 -- Assumes nothing.
 use Prim.Native.Nat.{ℕ, ◌*◌, ◌≤◌, ◌<◌}
-use mathlib.Core.Path.{◌≡◌, refl, sym, ap, ◌∙◌}
+use mathlib.Core.Path.{◌≡◌, ap}
 use mathlib.Core.Bool.{false}
 use mathlib.Core.Logic.{⊎_elim}
 use mathlib.Core.List.{List, [], ◌∷◌}
@@ -11,8 +11,6 @@ use borrow.Author.Tests.{leb-false}
 use Rattle.lists.specs.Lists.{any, Each}
 use Rattle.lists.proofs.Tabulate.{each_at, length_tabulate}
 use Rattle.job.specs.declared.Job as held
-use Rattle.job.specs.Refusal.{Verdict}
-use Rattle.std.specs.Prelude.{Ok, Err}
 use Rattle.job.specs.Refusal.{pass}
 use Rattle.job.specs.Job.{Action, Job, no_action, job_in}
 use Rattle.job.specs.Refusal.{first}
@@ -30,7 +28,6 @@ use Rattle.timeline.proofs.Peaks.{peak_at_most}
 use Rattle.timeline.proofs.Places.{each_here, each_rest, none_of_any}
 use Rattle.timeline.proofs.Shares.{use_at, use_at_most}
 use Rattle.timeline.proofs.Tests.{le_or_lt}
-use Rattle.std.specs.Prelude.{Ok, Err}
 use Rattle.checker.specs.Check.{SmallPeaks}
 
 pub small_peaks_of_pass : (job : held.Job) (plan : Plan) (goal : ℕ) → Passed (job_in job)

@@ -2,13 +2,11 @@
 -- Assumes nothing.
 use Rattle.std.specs.Prelude.{Result, Ok, Err}
 use Prim.Native.Nat.{ℕ}
-use mathlib.Core.Path.{◌≡◌, refl, sym, ap, subst, ◌∙◌}
+use mathlib.Core.Path.{◌≡◌, sym, ap, subst, ◌∙◌}
 use mathlib.Core.List.{List}
-use lib.ListN.{length}
-use Rattle.lists.proofs.Tabulate.{length_tabulate}
 use Rattle.job.specs.declared.Job as held
 use Rattle.job.specs.declared.refusal.Refusal.{Refusal}
-use Rattle.job.specs.Refusal.{reply_of, verdict_of, Verdict}
+use Rattle.job.specs.Refusal.{Verdict}
 use Rattle.std.specs.Prelude.{Ok, Err}
 use Rattle.job.specs.Refusal.{pass}
 use Rattle.job.specs.Job.{Job, job_in}
@@ -16,13 +14,10 @@ use Rattle.job.specs.Refusal.{first}
 use Rattle.job.specs.Valid.{job_rows}
 use Rattle.job.proofs.Table.{first_append_pass, first_append_refused}
 use Rattle.timeline.specs.declared.Day.{Day}
-use Rattle.timeline.specs.declared.Plan.{Plan}
-use Rattle.timeline.specs.Step.{Step, steps_in}
-use Rattle.timeline.specs.Accepted.{order_rows, shape_rows, step_rows, plan_rows}
-use Rattle.timeline.specs.Timeline.{peaks}
+use Rattle.timeline.specs.Step.{steps_in}
+use Rattle.timeline.specs.Accepted.{plan_rows}
 use Rattle.timeline.specs.Day.{told_of, day_of}
-use Rattle.timeline.specs.Value.{step_at, steps_of}
-use Rattle.timeline.proofs.DayLaws.{refused_not_passed, reply_of_day}
+use Rattle.timeline.proofs.DayLaws.{reply_of_day}
 use Rattle.checker.specs.declared.CheckedPlan.{CheckedPlan}
 use Rattle.checker.specs.Check.{check_rows, check_plan, Checks, Decodes, ChecksPlan}
 
@@ -39,7 +34,7 @@ module _ (job : held.Job) (goal : ℕ) (bytes : List ℕ) (r : Result CheckedPla
       record {
         day = rw (d, h) (ap Ok day);
         plan = λ other e. let same : checked ≡ other = let z = sym d ∙ e in cc in
-              subst (λ (x : CheckedPlan). Decodes job bytes x.plan) same decodes;
+            subst (λ (x : CheckedPlan). Decodes job bytes x.plan) same decodes;
       }
 
 module _ (J : Job) (bytes : List ℕ) (r : Result Day Refusal) where

@@ -6,16 +6,15 @@ use Rattle.std.specs.Prelude.{ℕ, ◌<◌, ◌≤◌, ◌≡◌, List, ◌∷�
 use Rattle.facts.specs.FactSet.{foreign}
 use Rattle.job.specs.declared.Job as held
 use Rattle.job.specs.Job.{Job, job_in}
-use Rattle.job.specs.Refusal.{reply_of, verdict_of, Row, ◌when◌, first, reply_by}
+use Rattle.job.specs.Refusal.{reply_of, Row, ◌when◌, first, reply_by}
 use Rattle.job.specs.Valid.{limit_rows, job_rows}
 use Rattle.job.specs.declared.refusal.Refusal.TheVariants.{ForeignAskedFact}
-use Rattle.job.specs.Refusal.{Verdict}
 use Rattle.std.specs.Prelude.{Ok, Err}
 use Rattle.job.specs.Refusal.{pass}
 use Rattle.timeline.specs.declared.Day.{Day}
 use Rattle.timeline.specs.declared.Plan.{Plan}
-use Rattle.timeline.specs.Step.{Step, steps_in}
-use Rattle.timeline.specs.Timeline.{end, peak}
+use Rattle.timeline.specs.Step.{steps_in}
+use Rattle.timeline.specs.Timeline.{peak}
 use Rattle.timeline.specs.Accepted.{shape_rows, plan_rows}
 use Rattle.timeline.specs.Day.{told_of, day_of}
 use Rattle.timeline.specs.Value.{steps_of}

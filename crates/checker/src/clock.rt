@@ -37,13 +37,9 @@ fn effects_at(plan: Plan, minute: u32) -> Effects
 {
     let mut deletes: u64 = 0;
     let mut adds: u64 = 0;
-    let mut i = 0;
-    while i < plan.length {
-        let step = plan.steps[i];
-        let action = step.action;
-        deletes = facts::union(deletes, if_stops(step, minute, action.deletes));
-        adds = facts::union(adds, if_stops(step, minute, action.adds));
-        i += 1;
+    for step in &plan.steps[..plan.length] {
+        deletes = facts::union(deletes, if_stops(*step, minute, step.action.deletes));
+        adds = facts::union(adds, if_stops(*step, minute, step.action.adds));
     }
     Effects { deletes, adds }
 }

@@ -29,12 +29,10 @@ pub fn known_actions(job: Job, bytes: &[u8]) -> Result<(), Refusal>
         first (UnknownAction when any (unknown (job_in job)) (steps_in (job_in job) bytes.now) ∷ []) }
 {
     let counts = job.counts;
-    let mut i = 0;
-    while i < bytes.len() / Plan::STEP {
-        if counts.actions <= bytes[i * Plan::STEP] as usize {
+    for i in 0..bytes.len() / Plan::STEP {
+        if counts.actions <= usize::from(bytes[i * Plan::STEP]) {
             return Err(Refusal::UnknownAction);
         }
-        i += 1;
     }
     Ok(())
 }
@@ -44,8 +42,7 @@ pub fn step(job: Job, number: u8, start: u32) -> Step
     requires { Fits job.counts × (number < job.counts.actions) × (start < 65536) }
     ensures { step_of_value job.counts result ≡ step_of (job_in job) number start }
 {
-    let i = number as usize;
-    let action = job.actions[i];
+    let action = job.actions[usize::from(number)];
     Step {
         number,
         action,
@@ -64,11 +61,9 @@ pub fn plan(job: Job, bytes: &[u8]) -> Plan
     let unused = Step::unused();
     let mut steps = [unused; Plan::STEPS];
     let count = bytes.len() / Plan::STEP;
-    let mut i = 0;
-    while i < count {
+    for i in 0..count {
         let at = i * Plan::STEP;
         steps[i] = step(job, bytes[at], read_number(bytes, at + 1, 2) as u32);
-        i += 1;
     }
     let counts = job.counts;
     Plan {

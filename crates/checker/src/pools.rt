@@ -1,5 +1,5 @@
 // How much of each pool is in use: test 17, and the peaks.
-ghost use Rattle.std.specs.Prelude.{◌≡◌, [], ◌∷◌, max, ◌+◌, ◌≤◌, ◌<◌, leb, length};
+ghost use Rattle.std.specs.Prelude.{◌≡◌, [], ◌∷◌, ◌+◌, ◌≤◌, ◌<◌, leb, length};
 ghost use Rattle.lists.specs.Lists.{any_below};
 ghost use Rattle.job.specs.Job.{job_in, Fits};
 ghost use Rattle.job.specs.Refusal.{◌when◌, first};
@@ -18,7 +18,7 @@ use timeline::{Plan, Step};
 fn freed(stop: u32, handover: u8, minute: u32) -> bool
     ensures { result ≡ leb (stop + handover) minute }
 {
-    job::wide(stop) + (handover as u64) <= job::wide(minute)
+    u64::from(stop) + u64::from(handover) <= u64::from(minute)
 }
 
 // What the step has of the pool in the minute.
@@ -33,7 +33,7 @@ fn share(step: Step, pool: usize, handover: u8, minute: u32) -> u64
     if freed(step.stop, handover, minute) {
         return 0;
     }
-    job::wide(action.pools[pool])
+    u64::from(action.pools[pool])
 }
 
 // How much of the pool is in use in the minute.
@@ -42,23 +42,10 @@ fn in_use(plan: Plan, pool: usize, handover: u8, minute: u32) -> u64
     ensures { InUse plan pool handover minute result }
 {
     let mut sum: u64 = 0;
-    let mut i = 0;
-    while i < plan.length {
-        let step = plan.steps[i];
-        sum += share(step, pool, handover, minute);
-        i += 1;
+    for step in &plan.steps[..plan.length] {
+        sum += share(*step, pool, handover, minute);
     }
     sum
-}
-
-// The larger of two amounts.
-fn larger(a: u64, b: u64) -> u64
-    ensures { result ≡ max a b }
-{
-    if a < b {
-        return b;
-    }
-    a
 }
 
 // The most of the pool that is in use in a minute. The use is largest where a step starts.
@@ -67,11 +54,8 @@ fn peak(plan: Plan, pool: usize, handover: u8) -> u64
     ensures { PeakOf plan pool handover result }
 {
     let mut most: u64 = 0;
-    let mut i = 0;
-    while i < plan.length {
-        let step = plan.steps[i];
-        most = larger(most, in_use(plan, pool, handover, step.start));
-        i += 1;
+    for step in &plan.steps[..plan.length] {
+        most = most.max(in_use(plan, pool, handover, step.start));
     }
     most
 }
@@ -82,14 +66,11 @@ pub fn within(plan: Plan, job: Job) -> Result<(), Refusal>
     ensures { result ≡ first
         (PoolExceeded when any_below (length (job_in job).pools) (exceeds_pool (job_in job) (steps_of plan)) ∷ []) }
 {
-    let counts = job.counts;
     let handovers = job::resources::handovers(job);
-    let mut k = 0;
-    while k < counts.pools {
-        if job::wide(job.pools[k]) < peak(plan, k, handovers[k]) {
+    for k in 0..job.counts.pools {
+        if u64::from(job.pools[k]) < peak(plan, k, handovers[k]) {
             return Err(Refusal::PoolExceeded);
         }
-        k += 1;
     }
     Ok(())
 }
@@ -99,13 +80,10 @@ pub fn peaks(plan: Plan, job: Job) -> [u32; Job::POOLS]
     requires { (plan.length ≤ 32) × (plan.counts ≡ job.counts) × Fits job.counts × SmallPeaks job plan }
     ensures { result ≡ peaks (job_in job) (steps_of plan) }
 {
-    let counts = job.counts;
     let handovers = job::resources::handovers(job);
     let mut out = [0u32; Job::POOLS];
-    let mut k = 0;
-    while k < counts.pools {
+    for k in 0..job.counts.pools {
         out[k] = peak(plan, k, handovers[k]) as u32;
-        k += 1;
     }
     out
 }

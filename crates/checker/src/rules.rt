@@ -28,14 +28,12 @@ pub fn order(plan: Plan) -> Result<(), Refusal>
     requires { plan.length ≤ 32 }
     ensures { result ≡ first (StepOrder when not (strictly_rising (steps_of plan)) ∷ []) }
 {
-    let mut i = 1;
-    while i < plan.length {
+    for i in 1..plan.length {
         let last = plan.steps[i - 1];
         let step = plan.steps[i];
         if !precedes(last, step) {
             return Err(Refusal::StepOrder);
         }
-        i += 1;
     }
     Ok(())
 }
@@ -45,13 +43,10 @@ pub fn deadline(plan: Plan, limit: u16) -> Result<(), Refusal>
     requires { plan.length ≤ 32 }
     ensures { result ≡ first (AfterDeadline when any (λ x. over limit x.stop) (steps_of plan) ∷ []) }
 {
-    let mut i = 0;
-    while i < plan.length {
-        let step = plan.steps[i];
-        if (limit as u32) < step.stop {
+    for step in &plan.steps[..plan.length] {
+        if u32::from(limit) < step.stop {
             return Err(Refusal::AfterDeadline);
         }
-        i += 1;
     }
     Ok(())
 }
@@ -72,13 +67,11 @@ fn clashes_earlier(plan: Plan, i: usize) -> bool
     ensures { result ≡ any (λ x. clashing x (step_at plan i)) (tabulate i (step_at plan)) }
 {
     let step = plan.steps[i];
-    let mut j = 0;
-    while j < i {
+    for j in 0..i {
         let other = plan.steps[j];
         if clashing(other, step) {
             return true;
         }
-        j += 1;
     }
     false
 }
@@ -88,12 +81,10 @@ pub fn clashes(plan: Plan) -> Result<(), Refusal>
     requires { plan.length ≤ 32 }
     ensures { result ≡ first (Clash when any_pair clashing (steps_of plan) ∷ []) }
 {
-    let mut i = 0;
-    while i < plan.length {
+    for i in 0..plan.length {
         if clashes_earlier(plan, i) {
             return Err(Refusal::Clash);
         }
-        i += 1;
     }
     Ok(())
 }
@@ -105,12 +96,9 @@ pub fn used_up(plan: Plan, job: Job, store: usize) -> u64
     ensures { result ≡ used_up (job_in job) store (steps_of plan) }
 {
     let mut sum: u64 = 0;
-    let mut i = 0;
-    while i < plan.length {
-        let step = plan.steps[i];
+    for step in &plan.steps[..plan.length] {
         let amounts = job::resources::charged(job, step.action);
         sum += amounts[store];
-        i += 1;
     }
     sum
 }
@@ -121,14 +109,11 @@ pub fn stores(plan: Plan, job: Job) -> Result<(), Refusal>
     ensures { result ≡ first
         (StoreExceeded when any_below (length (job_in job).stores) (exceeds_store (job_in job) (steps_of plan)) ∷ []) }
 {
-    let counts = job.counts;
     let limits = job::resources::allowed(job);
-    let mut k = 0;
-    while k < counts.stores {
-        if job::wide(limits[k]) < used_up(plan, job, k) {
+    for k in 0..job.counts.stores {
+        if u64::from(limits[k]) < used_up(plan, job, k) {
             return Err(Refusal::StoreExceeded);
         }
-        k += 1;
     }
     Ok(())
 }
@@ -139,11 +124,8 @@ pub fn end(plan: Plan) -> u32
     ensures { result ≡ end (steps_of plan) }
 {
     let mut latest: u32 = 0;
-    let mut i = 0;
-    while i < plan.length {
-        let step = plan.steps[i];
-        latest = timeline::later(latest, step.stop);
-        i += 1;
+    for step in &plan.steps[..plan.length] {
+        latest = latest.max(step.stop);
     }
     latest
 }

@@ -17,14 +17,10 @@ fn lacks_need(plan: Plan, clock: Clock) -> bool
     requires { plan.length ≤ 32 }
     ensures { result ≡ any (lacks_at clock) (steps_of plan) }
 {
-    let mut i = 0;
-    while i < plan.length {
-        let step = plan.steps[i];
-        let action = step.action;
-        if (step.start == clock.minute) & !facts::subset(action.needs, clock.facts) {
+    for step in &plan.steps[..plan.length] {
+        if (step.start == clock.minute) & !facts::subset(step.action.needs, clock.facts) {
             return true;
         }
-        i += 1;
     }
     false
 }

@@ -3,7 +3,7 @@
 use Rattle.std.specs.Prelude.{Option, Some, None, Result, Ok, Err}
 use Prim.Native.Nat.{ℕ, ◌+◌, ◌*◌, ◌≤◌, ◌<◌}
 use mathlib.Core.Path.{◌≡◌, refl, sym, ap, subst, ◌∙◌}
-use mathlib.Core.Bool.{Bool, true, false, cond}
+use mathlib.Core.Bool.{true, false, cond}
 use mathlib.Core.List.{List}
 use native.Mathlib.Omega.{arith}
 use lib.Dec.{ltb}
@@ -15,7 +15,7 @@ use Rattle.encoding.specs.Bytes.{overwrite}
 use Rattle.facts.specs.FactSet.{foreign}
 use Rattle.job.specs.declared.refusal.Refusal.{Refusal}
 use Rattle.job.specs.declared.refusal.Refusal.TheVariants.{ForeignAskedFact}
-use Rattle.job.specs.Refusal.{verdict_of, Verdict}
+use Rattle.job.specs.Refusal.{Verdict}
 use Rattle.std.specs.Prelude.{Ok, Err}
 use Rattle.job.specs.Refusal.{pass}
 use Rattle.job.specs.Job.{Job}
@@ -26,7 +26,6 @@ use Rattle.job.proofs.Table.{some_is_answered, none_is_refused, first_next, firs
 use Rattle.timeline.specs.Step.{Step, steps_in, plan_bytes}
 use Rattle.timeline.specs.Timeline.{end, peaks}
 use Rattle.timeline.specs.Accepted.{Accepted}
-use Rattle.timeline.proofs.Tests.{not_both}
 use Rattle.timeline.proofs.PlanBytes.{length_plan_bytes}
 use Rattle.timeline.specs.declared.Day.{Day}
 use Rattle.timeline.specs.Day.{told_of, day_of}
@@ -151,5 +150,5 @@ module _ (J : Job) (goal T : ℕ) (steps : Steps) where
       → day.end ≤ T → ⊥
   answer_not_found r told h day c l =
       let found : r ≡ Some (plan_of_day day (plan_of J steps))
-        = told ∙ ap (λ (d : Result Day Refusal). answer_of d T steps.count (plan_of J steps)) c ∙ plan_answered day l in
+      = told ∙ ap (λ (d : Result Day Refusal). answer_of d T steps.count (plan_of J steps)) c ∙ plan_answered day l in
       cc

@@ -1,15 +1,13 @@
 -- The end of the search at the first minute: a plan that is found is accepted, and otherwise the steps are a dead end.
 -- Assumes nothing.
 use Prim.Native.Nat.{ℕ, ◌≤◌, ◌<◌}
-use mathlib.Core.Path.{◌≡◌, refl, sym, ap, subst, ◌∙◌}
-use mathlib.Core.Bool.{Bool, true, false}
+use mathlib.Core.Path.{◌≡◌, sym, ap, subst, ◌∙◌}
 use mathlib.Core.List.{List}
 use native.Mathlib.Omega.{arith}
 use lib.ListN.{length, get_or}
 use Rattle.lists.proofs.Tabulate.{length_tabulate}
 use Rattle.job.specs.declared.Job as held
 use Rattle.job.specs.declared.refusal.Refusal.{Refusal}
-use Rattle.job.specs.Refusal.{verdict_of, Verdict}
 use Rattle.std.specs.Prelude.{Option, Some, None, Ok, Err}
 use Rattle.job.specs.Refusal.{pass}
 use Rattle.job.specs.Job.{Job, job_in}
@@ -28,7 +26,6 @@ use Rattle.timeline.specs.Timeline.{end}
 use Rattle.timeline.specs.Accepted.{step_rows}
 use Rattle.timeline.specs.Day.{told_of}
 use Rattle.timeline.specs.Places.{EachStep, Permutation}
-use Rattle.timeline.proofs.Tests.{not_both}
 use Rattle.timeline.proofs.Permutations.{permutation_trans, permutation_each}
 use Rattle.timeline.proofs.PlanBytes.{accepted_bytes_of_steps, bytes_of_steps}
 use Rattle.regression.specs.DeadEnd.{Until, Dead}

@@ -12,8 +12,8 @@ fn write_step(out: &mut [u8], at: usize, number: u8, start: u16)
     requires { at + 3 ≤ length out.old }
     ensures { out.new ≡ overwrite out.old at (to_bytes 1 number ++ to_bytes 2 start) }
 {
-    write_number(out, at, 1, number as u64);
-    write_number(out, at + 1, 2, start as u64);
+    write_number(out, at, 1, u64::from(number));
+    write_number(out, at + 1, 2, u64::from(start));
 }
 
 // Writes all steps.
@@ -21,11 +21,9 @@ pub fn write_plan(out: &mut [u8], steps: Steps)
     requires { (steps.count ≤ 32) × (steps.count * 3 ≤ length out.old) }
     ensures { WritesPlan steps out.old out.new }
 {
-    let mut k = 0;
-    while k < steps.count {
+    for k in 0..steps.count {
         let number = steps.numbers[k];
         let start = steps.starts[k];
         write_step(out, k * Plan::STEP, number, start);
-        k += 1;
     }
 }

@@ -31,7 +31,7 @@ pub fn as_plan(job: Job, goal: u64, horizon: u16, steps: Steps) -> Option<Answer
     let count = steps.count;
     let size = count * Plan::STEP;
     let day = checker::check_within(job, goal, &plan[..size]).ok()?;
-    if (horizon as u32) < day.end {
+    if u32::from(horizon) < day.end {
         return None;
     }
     let peaks = day.peaks;

@@ -25,10 +25,8 @@ pub fn kept_steps(plan: Plan, minute: u32) -> Steps
     ensures { Keeps plan plan.length minute result }
 {
     let mut kept = Steps::none();
-    let mut i = 0;
-    while i < plan.length {
+    for i in 0..plan.length {
         kept = with_step(kept, plan.steps[i], minute);
-        i += 1;
     }
     kept
 }

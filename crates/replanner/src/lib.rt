@@ -31,7 +31,7 @@ fn with_kept(job: Job, goal: u64, minute: u32, kept: Steps) -> Option<Answer>
     if let Some(alone) = leaf::as_plan(job, goal, job.deadline, kept) {
         return Some(alone);
     }
-    if job.deadline as u32 <= minute {
+    if u32::from(job.deadline) <= minute {
         return None;
     }
     solver::solve(job, Task::begun(job, goal, minute as u16, kept))

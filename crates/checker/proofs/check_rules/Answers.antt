@@ -11,17 +11,23 @@ returns-in_err-clashes c =
 
 pub returns-in_err-within : goal.returns-in_err-within
 returns-in_err-within c =
-    rw (check_passes Clash _ _ (sym c.clashes.ensures ∙ c.in_ok-clashes.was),
-    check_fails PoolExceeded _ _ _ (sym c.within.ensures ∙ c.in_err-within.was)) (search rules)
+    rw (
+      check_passes Clash _ _ (sym c.clashes.ensures ∙ c.in_ok-clashes.was),
+      check_fails PoolExceeded _ _ _ (sym c.within.ensures ∙ c.in_err-within.was),
+    ) (search rules)
 
 pub returns-in_err-stores : goal.returns-in_err-stores
 returns-in_err-stores c =
-    rw (check_passes Clash _ _ (sym c.clashes.ensures ∙ c.in_ok-clashes.was),
-    check_passes PoolExceeded _ _ (sym c.within.ensures ∙ c.in_ok-within.was),
-    check_fails StoreExceeded _ _ _ (sym c.stores.ensures ∙ c.in_err-stores.was)) (search rules)
+    rw (
+      check_passes Clash _ _ (sym c.clashes.ensures ∙ c.in_ok-clashes.was),
+      check_passes PoolExceeded _ _ (sym c.within.ensures ∙ c.in_ok-within.was),
+      check_fails StoreExceeded _ _ _ (sym c.stores.ensures ∙ c.in_err-stores.was),
+    ) (search rules)
 
 pub returns : goal.returns
 returns c =
-    rw (check_passes Clash _ _ (sym c.clashes.ensures ∙ c.in_ok-clashes.was),
-    check_passes PoolExceeded _ _ (sym c.within.ensures ∙ c.in_ok-within.was),
-    check_passes StoreExceeded _ _ (sym c.stores.ensures ∙ c.in_ok-stores.was)) (c.watch.ensures (job_in c.args.job) refl)
+    rw (
+      check_passes Clash _ _ (sym c.clashes.ensures ∙ c.in_ok-clashes.was),
+      check_passes PoolExceeded _ _ (sym c.within.ensures ∙ c.in_ok-within.was),
+      check_passes StoreExceeded _ _ (sym c.stores.ensures ∙ c.in_ok-stores.was),
+    ) (c.watch.ensures (job_in c.args.job) refl)

@@ -17,8 +17,10 @@ returns-in_err-size c = rw (check_fails PlanSize _ _ _ (sym c.size.ensures ∙ c
 pub returns-in_err-known_actions : goal.returns-in_err-known_actions
 unfolding shape_day shape_rows
 returns-in_err-known_actions c =
-    rw (check_passes PlanSize _ _ (sym c.size.ensures ∙ c.in_ok-size.was),
-    check_fails UnknownAction _ _ _ (sym c.known_actions.ensures ∙ c.in_err-known_actions.was)) (search rules)
+    rw (
+      check_passes PlanSize _ _ (sym c.size.ensures ∙ c.in_ok-size.was),
+      check_fails UnknownAction _ _ _ (sym c.known_actions.ensures ∙ c.in_err-known_actions.was),
+    ) (search rules)
 
 pub plan-plan-requires : goal.plan-plan-requires
 plan-plan-requires c =

@@ -1,5 +1,4 @@
 -- `told` meets its contract: the steps are counted.
-use Rattle.std.proofs.Common.{◌≡◌, ap, sym, ◌∙◌}
 use Rattle.lists.proofs.Tabulate.{length_tabulate}
 use Rattle.timeline.specs.Value.{step_at}
 use Rattle.checker.proofs.told.Goals as goal

@@ -13,12 +13,12 @@ returns-in_err-day c =
     (answers_refused (job_in c.args.job) c.args.goal c.args.horizon c.args.steps _ _ c.write_plan.ensures
     c.check_within.ensures (sym c.ok.ensures.value ∙ c.in_err-day.was))
 
-pub returns-then-horizon-day : goal.returns-then-horizon-day
-returns-then-horizon-day c =
+pub returns-then-from-day : goal.returns-then-from-day
+returns-then-from-day c =
     answers_late (job_in c.args.job) c.args.goal c.args.horizon c.args.steps _ _ c.write_plan.ensures
-    c.check_within.ensures _ (sym c.ok.ensures.value ∙ c.in_ok-day.was) c.if-horizon-day.true
+    c.check_within.ensures _ (sym c.ok.ensures.value ∙ c.in_ok-day.was) (rw c.from.ensures at c.if-from-day.true)
 
 pub returns : goal.returns
 returns c =
     answers_plan (job_in c.args.job) c.args.goal c.args.horizon c.args.steps _ _ c.write_plan.ensures
-    c.check_within.ensures _ (sym c.ok.ensures.value ∙ c.in_ok-day.was) c.if-horizon-day.false
+    c.check_within.ensures _ (sym c.ok.ensures.value ∙ c.in_ok-day.was) (rw c.from.ensures at c.if-from-day.false)

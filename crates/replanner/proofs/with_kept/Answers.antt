@@ -15,18 +15,18 @@ returns-in-Some c =
     replanned_alone (job_in c.args.job) c.args.goal c.args.minute c.args.kept c.requires.0 c.requires.1 c.requires.2
     c.as_plan.result c.as_plan.ensures _ c.in-Some.is
 
-pub returns-then-job-minute : goal.returns-then-job-minute
-returns-then-job-minute c =
-    replanned_late (job_in c.args.job) c.args.goal c.args.minute c.args.kept c.requires.0 c.requires.1 c.requires.2 c.as_plan.result c.as_plan.ensures c.in_default.is c.if-job-minute.true
+pub returns-then-from-minute : goal.returns-then-from-minute
+returns-then-from-minute c =
+    replanned_late (job_in c.args.job) c.args.goal c.args.minute c.args.kept c.requires.0 c.requires.1 c.requires.2 c.as_plan.result c.as_plan.ensures c.in_default.is (rw c.from.ensures at c.if-from-minute.true)
 
 pub overflow_cast-minute : goal.overflow_cast-minute
 overflow_cast-minute c =
-    let day = (passed (job_in c.args.job) c.requires.0).deadline in let early = c.if-job-minute.false in omega arith
+    let day = (passed (job_in c.args.job) c.requires.0).deadline in let early = (rw c.from.ensures at c.if-from-minute.false) in omega arith
 
 pub solve-requires : goal.solve-requires
 solve-requires c =
     let day = (passed (job_in c.args.job) c.requires.0).deadline in
-    let early = c.if-job-minute.false in
+    let early = (rw c.from.ensures at c.if-from-minute.false) in
     let fit = c.requires.2 in (
       c.requires.0,
       begun_day_fits c.args.job c.args.goal c.args.minute c.args.kept _ c.begun.ensures

@@ -5,27 +5,28 @@ use Rattle.timeline.specs.Timeline.{if_stops}
 use Rattle.timeline.specs.Value.{step_at}
 use Rattle.checker.proofs.Loops.{union_more}
 use native.Mathlib.Omega.{arith}
+use Rattle.std.proofs.lemmas.Grind.{common_steps}
+use Rattle.checker.proofs.Loops.{front_step}
 use Rattle.checker.proofs.clock.effects_at.Goals as goal
 
-pub loop-i-init : goal.loop-i-init
+pub loop-step-init : goal.loop-step-init
 unfolding tabulate
-loop-i-init c = (omega arith, refl, refl)
+loop-step-init c = (refl, refl)
 
-pub loop-i-preserved : goal.loop-i-preserved
-loop-i-preserved c =
+pub loop-step-preserved : goal.loop-step-preserved
+loop-step-preserved c =
     let p = c.args.plan in
     let t = c.args.minute in
-    let l = c.loop-i in (
-      omega arith,
+    let l = c.loop-step in (
       c.union-deletes.ensures.0
-          ∙ rw (l.invariant.1, c.if_stops.ensures p.counts)
-          (sym (union_more (step_at p) (λ x. if_stops t x.action.deletes x) l.i)),
+          ∙ rw (l.invariant.0, rw (front_step c.args.plan _ c.loop-step-test.true) at (c.if_stops.ensures p.counts))
+          (sym (union_more (step_at p) (λ x. if_stops t x.action.deletes x) l.step-index)),
       c.union-adds.ensures.0
-          ∙ rw (l.invariant.2, c.if_stops-in-loop-i.ensures p.counts)
-          (sym (union_more (step_at p) (λ x. if_stops t x.action.adds x) l.i)),
+          ∙ rw (l.invariant.1, rw (front_step c.args.plan _ c.loop-step-test.true) at (c.if_stops-in-loop-step.ensures p.counts))
+          (sym (union_more (step_at p) (λ x. if_stops t x.action.adds x) l.step-index)),
     )
 
 pub returns : goal.returns
 returns c =
-    let e : c.loop-i.i ≡ c.args.plan.length = omega arith in
-    rw (c.loop-i.invariant.1, c.loop-i.invariant.2, e)
+    let e : c.loop-step.step-index ≡ c.args.plan.length = grind (arith, common_steps) in
+    rw (c.loop-step.invariant.0, c.loop-step.invariant.1, e)

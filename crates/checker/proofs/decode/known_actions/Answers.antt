@@ -1,5 +1,5 @@
 -- `known_actions` meets its contract: the actions of the first i steps are known.
-use Prim.Native.Nat.{◌*◌, ◌/◌}
+use Prim.Native.Nat.{◌/◌}
 use mathlib.Core.Path.{◌≡◌, sym, ◌∙◌}
 use mathlib.Core.Bool.{false}
 use mathlib.Core.List.{[]}
@@ -22,29 +22,23 @@ use native.Mathlib.Omega.{arith}
 use Rattle.checker.proofs.decode.known_actions.Goals as goal
 
 pub loop-i-init : goal.loop-i-init
-loop-i-init c = (omega arith, λ k h. absurd (omega arith))
+loop-i-init c = λ k h. absurd (omega arith)
 
-pub overflow_cast-bytes : goal.overflow_cast-bytes
-overflow_cast-bytes c = omega (arith, c.shared_slice_known-1.given (c.loop-i.i * 3))
-
-pub returns-then-counts-bytes : goal.returns-then-counts-bytes
+pub returns-then-counts-from : goal.returns-then-counts-from
 unfolding steps_in
-returns-then-counts-bytes c =
+returns-then-counts-from c =
     let j = c.args.job in
     let bytes = c.args.bytes.now in
     let i = c.loop-i.i in
     sym (first_here UnknownAction _ []
     (any_found (unknown (job_in j)) (step_in_at (job_in j) bytes) i (length bytes / 3) (omega arith)
-    (unknown_by_byte j bytes i (omega arith) ∙ le-leb _ _ c.if-counts-bytes.true)))
+    (unknown_by_byte j bytes i (omega arith) ∙ (rw c.from.ensures at (le-leb _ _ c.if-counts-from.true)))))
 
 pub loop-i-preserved : goal.loop-i-preserved
 loop-i-preserved c =
     let l = c.loop-i in
-    let known = c.if-counts-bytes.false in (
-      omega arith,
-      λ k h. ⊎_elim (λ e. let q : k ≡ l.i = omega arith in rw q known) (λ b. l.invariant.1 k (omega arith))
-          (eq-or-lt_of_le h),
-    )
+    let known = rw c.from.ensures at c.if-counts-from.false in λ k h. ⊎_elim (λ e. let q : k ≡ l.i = omega arith in rw q known) (λ b. l.invariant k (omega arith))
+    (eq-or-lt_of_le h)
 
 pub returns : goal.returns
 unfolding first steps_in
@@ -55,4 +49,4 @@ returns c =
     sym (first_next UnknownAction _ []
     (none_any (unknown (job_in j)) (tabulate (length bytes / 3) (step_in_at (job_in j) bytes))
     (each_tabulate (λ x. unknown (job_in j) x ≡ false) (length bytes / 3) (step_in_at (job_in j) bytes)
-    (λ k h. unknown_by_byte j bytes k h ∙ lt-leb _ _ (l.invariant.1 k (omega arith))))))
+    (λ k h. unknown_by_byte j bytes k h ∙ lt-leb _ _ (l.invariant k (omega arith))))))

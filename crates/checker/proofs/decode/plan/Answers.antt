@@ -14,7 +14,7 @@ use native.Mathlib.Omega.{arith}
 use Rattle.checker.proofs.decode.plan.Goals as goal
 
 pub loop-i-init : goal.loop-i-init
-loop-i-init c = (omega arith, refl, λ k h. absurd (omega arith))
+loop-i-init c = (refl, λ k h. absurd (omega arith))
 
 pub overflow_mul-at : goal.overflow_mul-at
 overflow_mul-at c =
@@ -68,10 +68,9 @@ loop-i-preserved c =
     let e : step_of_value j.counts c.step.result ≡ step_in_at (job_in j) bytes l.i =
     c.step.ensures ∙ ap (step_of (job_in j) (get_or bytes (l.i * 3) 0)) start
     ∙ sym (step_by_bytes (job_in j) bytes l.i t) in (
-      omega arith,
-      simp length-set l.invariant.1,
+      simp length-set l.invariant.0,
       one_more (step_of_value j.counts) (step_in_at (job_in j) bytes) beyond_step l.steps l.i c.step.result
-          (omega arith) l.invariant.2 e,
+          (omega arith) l.invariant.1 e,
     )
 
 pub returns : goal.returns
@@ -79,4 +78,4 @@ unfolding steps_in
 returns c =
     let l = c.loop-i in
     let t = c.loop-i-test.false in
-    (few_steps_lem c.args.bytes.now c.requires.fits.1, refl, tabulate_same _ _ _ (λ k h. l.invariant.2 k (omega arith)))
+    (few_steps_lem c.args.bytes.now c.requires.fits.1, refl, tabulate_same _ _ _ (λ k h. l.invariant.1 k (omega arith)))

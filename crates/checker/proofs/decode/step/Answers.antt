@@ -6,4 +6,4 @@ use Rattle.checker.proofs.decode.step.Goals as goal
 pub returns : goal.returns
 returns c =
     let j = c.args.job in
-    rw (get_d_tabulate j.counts.actions (action_at j) c.args.number no_action c.requires.1)
+    rw (get_d_tabulate j.counts.actions (action_at j) c.args.number no_action c.requires.1) (simp c.from.ensures)

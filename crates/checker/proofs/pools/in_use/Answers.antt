@@ -7,31 +7,36 @@ use Rattle.timeline.specs.Timeline.{has_share}
 use Rattle.timeline.specs.Value.{step_at}
 use Rattle.checker.proofs.Loops.{total_more}
 use native.Mathlib.Omega.{arith}
+use Rattle.std.proofs.lemmas.Grind.{common_steps}
+use Rattle.checker.proofs.Loops.{front_step}
+use Prim.Native.Nat.{◌<◌}
 use Rattle.checker.proofs.pools.in_use.Goals as goal
 
-pub loop-i-init : goal.loop-i-init
+pub loop-step-init : goal.loop-step-init
 unfolding tabulate
-loop-i-init c = (omega arith, omega arith, λ J e. refl)
+loop-step-init c = (omega arith, λ J e. refl)
 
 pub overflow_add-sum : goal.overflow_add-sum
-overflow_add-sum c = let s = c.share-sum.ensures.small in omega arith
+overflow_add-sum c =
+    let s = c.share-sum.ensures.small in
+    let inside : c.loop-step.step-index < c.args.plan.length = grind (arith, common_steps) in
+    omega arith
 
-pub loop-i-preserved : goal.loop-i-preserved
-loop-i-preserved c =
+pub loop-step-preserved : goal.loop-step-preserved
+loop-step-preserved c =
     let a = c.args in
     let p = a.plan in
-    let l = c.loop-i in
+    let l = c.loop-step in
     let s = c.share-sum.ensures.small in (
       omega arith,
-      omega arith,
       λ J e.
-          rw (l.invariant.2 J e, c.share-sum.ensures.counts J p.counts e c.requires.2)
+          rw (l.invariant.1 J e, rw (front_step c.args.plan _ c.loop-step-test.true) at (c.share-sum.ensures.counts J p.counts e c.requires.2))
           (sym (total_more (step_at p) (λ x. cond (has_share J a.pool a.minute x)
           (get_or x.action.pools a.pool 0) 0)
-          l.i)),
+          l.step-index)),
     )
 
 pub returns : goal.returns
 returns c =
-    let q : c.loop-i.i ≡ c.args.plan.length = omega arith in
-    λ J e. rw q at (c.loop-i.invariant.2 J e)
+    let q : c.loop-step.step-index ≡ c.args.plan.length = grind (arith, common_steps) in
+    λ J e. rw q at (c.loop-step.invariant.1 J e)

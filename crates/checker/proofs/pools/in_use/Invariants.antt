@@ -1,5 +1,5 @@
 -- `in_use` meets its contract: what the first i steps use.
-use Prim.Native.Nat.{◌-◌, ◌*◌, ◌≤◌}
+use Prim.Native.Nat.{◌*◌, ◌≤◌}
 use mathlib.Core.Path.{◌≡◌}
 use Rattle.lists.specs.Lists.{tabulate}
 use Rattle.job.specs.Job.{Job}
@@ -8,11 +8,7 @@ use Rattle.timeline.specs.Timeline.{in_use}
 use Rattle.timeline.specs.Value.{step_at}
 use Rattle.checker.proofs.pools.in_use.Given as goal
 
-abbrev pub invariant-loop-i : goal.invariant-loop-i
-invariant-loop-i l =
-    (l.i ≤ l.plan.length)
-    × (l.sum ≤ l.i * 4294967296)
-    × ((J : Job) → handover J l.pool ≡ l.handover → l.sum ≡ in_use J l.pool l.minute (tabulate l.i (step_at l.plan)))
-
-abbrev pub decreases-loop-i : goal.decreases-loop-i
-decreases-loop-i l = l.plan.length - l.i
+abbrev pub invariant-loop-step : goal.invariant-loop-step
+invariant-loop-step l =
+    (l.sum ≤ l.step-index * 4294967296)
+    × ((J : Job) → handover J l.pool ≡ l.handover → l.sum ≡ in_use J l.pool l.minute (tabulate l.step-index (step_at l.fn.plan)))

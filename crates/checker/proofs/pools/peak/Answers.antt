@@ -6,22 +6,21 @@ use Rattle.timeline.specs.Value.{step_at, steps_of}
 use Rattle.timeline.proofs.Peaks.{peak_at_start}
 use Rattle.checker.proofs.Loops.{largest_more}
 use native.Mathlib.Omega.{arith}
+use Rattle.std.proofs.lemmas.Grind.{common_steps}
+use Rattle.checker.proofs.Loops.{front_step}
 use Rattle.checker.proofs.pools.peak.Invariants.{used_at}
 use Rattle.checker.proofs.pools.peak.Goals as goal
 
-pub loop-i-init : goal.loop-i-init
+pub loop-step-init : goal.loop-step-init
 unfolding tabulate
-loop-i-init c = (omega arith, λ J e. refl)
+loop-step-init c = λ J e. refl
 
-pub loop-i-preserved : goal.loop-i-preserved
-loop-i-preserved c = (
-  omega arith,
-  λ J e.
-      c.larger-most.ensures ∙ ap₂ max (c.loop-i.invariant.1 J e) (c.in_use.ensures J e)
-      ∙ sym (largest_more (step_at c.args.plan) (used_at J c.args.plan c.args.pool) c.loop-i.i),
-)
+pub loop-step-preserved : goal.loop-step-preserved
+loop-step-preserved c = λ J e.
+    c.max-most.ensures ∙ ap₂ max (c.loop-step.invariant J e) (rw (front_step c.args.plan _ c.loop-step-test.true) at (c.in_use.ensures J e))
+    ∙ sym (largest_more (step_at c.args.plan) (used_at J c.args.plan c.args.pool) c.loop-step.step-index)
 
 pub returns : goal.returns
 returns c =
-    let q : c.loop-i.i ≡ c.args.plan.length = omega arith in
-    λ J e. rw q at (c.loop-i.invariant.1 J e) ∙ sym (peak_at_start J c.args.pool (steps_of c.args.plan))
+    let q : c.loop-step.step-index ≡ c.args.plan.length = grind (arith, common_steps) in
+    λ J e. rw q at (c.loop-step.invariant J e) ∙ sym (peak_at_start J c.args.pool (steps_of c.args.plan))

@@ -1,5 +1,5 @@
 -- `peak` meets its contract: the most that is in use at the first i starts.
-use Prim.Native.Nat.{ℕ, ◌-◌, ◌≤◌}
+use Prim.Native.Nat.{ℕ}
 use mathlib.Core.Path.{◌≡◌}
 use Rattle.lists.specs.Lists.{tabulate}
 use Rattle.job.specs.Job.{Job}
@@ -14,10 +14,6 @@ use Rattle.checker.proofs.pools.peak.Given as goal
 abbrev pub used_at : Job → Plan → ℕ → Step → ℕ
 used_at J plan pool x = in_use J pool x.start (steps_of plan)
 
-abbrev pub invariant-loop-i : goal.invariant-loop-i
-invariant-loop-i l =
-    (l.i ≤ l.plan.length)
-    × ((J : Job) → handover J l.pool ≡ l.handover → l.most ≡ largest (used_at J l.plan l.pool) (tabulate l.i (step_at l.plan)))
-
-abbrev pub decreases-loop-i : goal.decreases-loop-i
-decreases-loop-i l = l.plan.length - l.i
+abbrev pub invariant-loop-step : goal.invariant-loop-step
+invariant-loop-step l =
+    ((J : Job) → handover J l.pool ≡ l.handover → l.most ≡ largest (used_at J l.fn.plan l.pool) (tabulate l.step-index (step_at l.fn.plan)))

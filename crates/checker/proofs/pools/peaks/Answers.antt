@@ -14,7 +14,7 @@ use Rattle.checker.proofs.pools.peaks.Goals as goal
 pub loop-k-init : goal.loop-k-init
 loop-k-init c =
     let P = steps_of c.args.plan in
-    (omega arith, λ J n h. sym (filled_tabulate_none 4 0 (λ pool. peak J pool P)))
+    λ J n h. sym (filled_tabulate_none 4 0 (λ pool. peak J pool P))
 
 pub peak-requires : goal.peak-requires
 peak-requires c =
@@ -33,19 +33,16 @@ pub loop-k-preserved : goal.loop-k-preserved
 loop-k-preserved c =
     let P = steps_of c.args.plan in
     let fits = c.requires.2.0 in
-    let taken = c.loop-k-test.true in (
-      omega arith,
-      λ J n h.
-          let f : ℕ → ℕ = λ pool. peak J pool P in
-          let inside : c.loop-k.k < length J.pools = omega arith in
-          ap (λ (n : ℕ). set c.loop-k.out c.loop-k.k n) (c.peak.ensures J (sym (h c.loop-k.k inside)))
-          ∙ ap (λ (xs : List ℕ). set xs c.loop-k.k (f c.loop-k.k)) (c.loop-k.invariant.1 J n h)
-          ∙ filled_tabulate 4 0 f c.loop-k.k (omega arith),
-    )
+    let taken = c.loop-k-test.true in λ J n h.
+    let f : ℕ → ℕ = λ pool. peak J pool P in
+    let inside : c.loop-k.k < length J.pools = omega arith in
+    ap (λ (n : ℕ). set c.loop-k.out c.loop-k.k n) (c.peak.ensures J (sym (h c.loop-k.k inside)))
+    ∙ ap (λ (xs : List ℕ). set xs c.loop-k.k (f c.loop-k.k)) (c.loop-k.invariant J n h)
+    ∙ filled_tabulate 4 0 f c.loop-k.k (omega arith)
 
 pub returns : goal.returns
 returns c =
     let j = c.args.job in
     let q : c.loop-k.k ≡ j.counts.pools = omega arith in
     let count = length_tabulate j.counts.pools _ in
-    rw length_tabulate (rw q at (c.loop-k.invariant.1 (job_in j) count c.handovers-handovers.ensures))
+    rw length_tabulate (rw q at (c.loop-k.invariant (job_in j) count c.handovers-handovers.ensures))

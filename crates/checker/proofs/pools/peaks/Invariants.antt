@@ -1,5 +1,4 @@
 -- `peaks` meets its contract: the peaks of the first k pools, zeros behind them.
-use Prim.Native.Nat.{◌-◌, ◌≤◌}
 use mathlib.Core.Path.{◌≡◌}
 use lib.ListN.{length}
 use Rattle.lists.specs.Lists.{tabulate, filled}
@@ -11,9 +10,5 @@ use Rattle.checker.proofs.pools.peaks.Given as goal
 
 abbrev pub invariant-loop-k : goal.invariant-loop-k
 invariant-loop-k l =
-    (l.k ≤ l.counts.pools)
-    × ((J : Job) → length J.pools ≡ l.counts.pools → HandoversOf J l.handovers
+    ((J : Job) → length J.pools ≡ l.fn.job.counts.pools → HandoversOf J l.handovers
     → l.out ≡ filled 4 0 (tabulate l.k (λ pool. peak J pool (steps_of l.plan))))
-
-abbrev pub decreases-loop-k : goal.decreases-loop-k
-decreases-loop-k l = l.counts.pools - l.k

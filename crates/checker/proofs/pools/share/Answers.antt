@@ -33,8 +33,8 @@ returns c =
     (sym c.freed.ensures ∙ c.if-freed.false) in
     record {
       counts = λ J n e h.
-          c.wide.ensures.0
+          c.from.ensures
           ∙ sym (share_while_held J a.pool a.minute _ (step_of_value n a.step) c.if-minute-step.false (rw e held)
           ∙ get_d_tabulate n.pools (λ k. get_or a.step.action.pools k 0) a.pool 0 h);
-      small = c.wide.ensures.1;
+      small = omega arith;
     }

@@ -20,7 +20,7 @@ use native.Mathlib.Omega.{arith}
 use Rattle.checker.proofs.pools.within.Goals as goal
 
 pub loop-k-init : goal.loop-k-init
-loop-k-init c = (omega arith, refl)
+loop-k-init c = refl
 
 pub peak-requires : goal.peak-requires
 peak-requires c =
@@ -28,15 +28,15 @@ peak-requires c =
     let e = ap (λ (n : Counts). n.pools) h.1 in
     (h.0, omega arith, omega arith)
 
-pub returns-then-wide-peak : goal.returns-then-wide-peak
-returns-then-wide-peak c =
+pub returns-then-from-peak : goal.returns-then-from-peak
+returns-then-from-peak c =
     let j = c.args.job in
     let P = steps_of c.args.plan in
     let k = c.loop-k.k in
     let available = get_d_tabulate j.counts.pools (λ i. get_or j.pools i 0) k 0 c.loop-k-test.true in
-    let cap = available ∙ sym c.wide.ensures.0 in
+    let cap = available ∙ sym c.from.ensures in
     let most = c.peak.ensures (job_in j) (sym (c.handovers-handovers.ensures k (rw length_tabulate c.loop-k-test.true))) in
-    let over = c.if-wide-peak.true in
+    let over = c.if-from-peak.true in
     let exceeds = exceeds_by_peak (job_in j) k P (get_or (job_in j).pools k 0)
     ∙ lt-ltb (get_or (job_in j).pools k 0) (peak (job_in j) k P) (omega arith) in
     sym (first_here PoolExceeded _ []
@@ -48,12 +48,12 @@ loop-k-preserved c =
     let P = steps_of c.args.plan in
     let k = c.loop-k.k in
     let available = get_d_tabulate j.counts.pools (λ i. get_or j.pools i 0) k 0 c.loop-k-test.true in
-    let cap = available ∙ sym c.wide.ensures.0 in
+    let cap = available ∙ sym c.from.ensures in
     let most = c.peak.ensures (job_in j) (sym (c.handovers-handovers.ensures k (rw length_tabulate c.loop-k-test.true))) in
-    let enough = c.if-wide-peak.false in
+    let enough = c.if-from-peak.false in
     let suffices = exceeds_by_peak (job_in j) k P (get_or (job_in j).pools k 0)
     ∙ le-ltb (get_or (job_in j).pools k 0) (peak (job_in j) k P) (omega arith) in
-    (omega arith, below_more k (exceeds_pool (job_in j) P) ∙ rw (suffices, c.loop-k.invariant.1))
+    below_more k (exceeds_pool (job_in j) P) ∙ rw (suffices, c.loop-k.invariant)
 
 pub returns : goal.returns
 unfolding first
@@ -61,5 +61,5 @@ returns c =
     let j = c.args.job in
     let q : c.loop-k.k ≡ j.counts.pools = omega arith in
     let none : any_below (length (job_in j).pools) (exceeds_pool (job_in j) (steps_of c.args.plan)) ≡ false =
-    rw length_tabulate (rw q at c.loop-k.invariant.1) in
+    rw length_tabulate (rw q at c.loop-k.invariant) in
     sym (first_next PoolExceeded _ [] none)

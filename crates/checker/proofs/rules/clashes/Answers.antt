@@ -15,7 +15,7 @@ use Rattle.checker.proofs.rules.clashes.Goals as goal
 
 pub loop-i-init : goal.loop-i-init
 unfolding tabulate
-loop-i-init c = (omega arith, refl)
+loop-i-init c = refl
 
 pub returns-then-clashes_earlier : goal.returns-then-clashes_earlier
 returns-then-clashes_earlier c =
@@ -28,17 +28,14 @@ returns-then-clashes_earlier c =
 
 pub loop-i-preserved : goal.loop-i-preserved
 loop-i-preserved c =
-    let p = c.args.plan in (
-      omega arith,
-      pair_more (step_at p) clashing c.loop-i.i ∙ rw (
-        c.loop-i.invariant.1,
-        sym c.clashes_earlier.ensures
-            ∙ c.if-clashes_earlier.false,
-      ),
+    let p = c.args.plan in pair_more (step_at p) clashing c.loop-i.i ∙ rw (
+      c.loop-i.invariant,
+      sym c.clashes_earlier.ensures
+          ∙ c.if-clashes_earlier.false,
     )
 
 pub returns : goal.returns
 unfolding first
 returns c =
     let e : c.loop-i.i ≡ c.args.plan.length = omega arith in
-    sym (first_next Clash _ [] (rw e at c.loop-i.invariant.1))
+    sym (first_next Clash _ [] (rw e at c.loop-i.invariant))

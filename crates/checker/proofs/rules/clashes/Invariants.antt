@@ -1,5 +1,4 @@
 -- `clashes` meets its contract: no two of the first i steps clash.
-use Prim.Native.Nat.{◌-◌, ◌≤◌}
 use mathlib.Core.Path.{◌≡◌}
 use mathlib.Core.Bool.{false}
 use Rattle.lists.specs.Lists.{tabulate}
@@ -9,7 +8,4 @@ use Rattle.timeline.specs.Value.{step_at}
 use Rattle.checker.proofs.rules.clashes.Given as goal
 
 abbrev pub invariant-loop-i : goal.invariant-loop-i
-invariant-loop-i l = (l.i ≤ l.plan.length) × (any_pair clashing (tabulate l.i (step_at l.plan)) ≡ false)
-
-abbrev pub decreases-loop-i : goal.decreases-loop-i
-decreases-loop-i l = l.plan.length - l.i
+invariant-loop-i l = (any_pair clashing (tabulate l.i (step_at l.plan)) ≡ false)

@@ -9,7 +9,7 @@ use Rattle.checker.proofs.rules.clashes_earlier.Goals as goal
 pub loop-j-init : goal.loop-j-init
 loop-j-init c =
     let p = c.args.plan in
-    (omega arith, any_start (λ x. clashing x (step_at p c.args.i)) (step_at p))
+    any_start (λ x. clashing x (step_at p c.args.i)) (step_at p)
 
 pub returns-then-clashing : goal.returns-then-clashing
 returns-then-clashing c =
@@ -21,13 +21,10 @@ returns-then-clashing c =
 pub loop-j-preserved : goal.loop-j-preserved
 loop-j-preserved c =
     let p = c.args.plan in
-    let i = c.args.i in (
-      omega arith,
-      any_more (λ x. clashing x (step_at p i)) (step_at p) c.loop-j.j c.loop-j.invariant.1
-          (sym (c.clashing.ensures p.counts) ∙ c.if-clashing.false),
-    )
+    let i = c.args.i in any_more (λ x. clashing x (step_at p i)) (step_at p) c.loop-j.j c.loop-j.invariant
+    (sym (c.clashing.ensures p.counts) ∙ c.if-clashing.false)
 
 pub returns : goal.returns
 returns c =
     let e : c.loop-j.j ≡ c.args.i = omega arith in
-    sym (rw e at c.loop-j.invariant.1)
+    sym (rw e at c.loop-j.invariant)

@@ -1,5 +1,4 @@
 -- `clashes_earlier` meets its contract: no step before place j clashes.
-use Prim.Native.Nat.{◌-◌, ◌≤◌}
 use mathlib.Core.Path.{◌≡◌}
 use mathlib.Core.Bool.{false}
 use Rattle.lists.specs.Lists.{tabulate, any}
@@ -8,7 +7,4 @@ use Rattle.timeline.specs.Value.{step_at}
 use Rattle.checker.proofs.rules.clashes_earlier.Given as goal
 
 abbrev pub invariant-loop-j : goal.invariant-loop-j
-invariant-loop-j l = (l.j ≤ l.i) × (any (λ x. clashing x (step_at l.plan l.i)) (tabulate l.j (step_at l.plan)) ≡ false)
-
-abbrev pub decreases-loop-j : goal.decreases-loop-j
-decreases-loop-j l = l.i - l.j
+invariant-loop-j l = (any (λ x. clashing x (step_at l.plan l.i)) (tabulate l.j (step_at l.plan)) ≡ false)

@@ -1,5 +1,4 @@
 -- `deadline` meets its contract: none of the first i steps stops late.
-use Prim.Native.Nat.{◌-◌, ◌≤◌}
 use mathlib.Core.Path.{◌≡◌}
 use mathlib.Core.Bool.{false}
 use Rattle.lists.specs.Lists.{tabulate, any}
@@ -7,8 +6,5 @@ use Rattle.job.specs.Valid.{over}
 use Rattle.timeline.specs.Value.{step_at}
 use Rattle.checker.proofs.rules.deadline.Given as goal
 
-abbrev pub invariant-loop-i : goal.invariant-loop-i
-invariant-loop-i l = (l.i ≤ l.plan.length) × (any (λ x. over l.limit x.stop) (tabulate l.i (step_at l.plan)) ≡ false)
-
-abbrev pub decreases-loop-i : goal.decreases-loop-i
-decreases-loop-i l = l.plan.length - l.i
+abbrev pub invariant-loop-step : goal.invariant-loop-step
+invariant-loop-step l = (any (λ x. over l.limit x.stop) (tabulate l.step-index (step_at l.fn.plan)) ≡ false)

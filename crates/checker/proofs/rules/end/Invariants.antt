@@ -1,13 +1,9 @@
 -- `end` meets its contract: the latest stop of the first i steps.
-use Prim.Native.Nat.{◌-◌, ◌≤◌}
 use mathlib.Core.Path.{◌≡◌}
 use Rattle.lists.specs.Lists.{tabulate}
 use Rattle.timeline.specs.Timeline.{end}
 use Rattle.timeline.specs.Value.{step_at}
 use Rattle.checker.proofs.rules.end.Given as goal
 
-abbrev pub invariant-loop-i : goal.invariant-loop-i
-invariant-loop-i l = (l.i ≤ l.plan.length) × (l.latest ≡ end (tabulate l.i (step_at l.plan)))
-
-abbrev pub decreases-loop-i : goal.decreases-loop-i
-decreases-loop-i l = l.plan.length - l.i
+abbrev pub invariant-loop-step : goal.invariant-loop-step
+invariant-loop-step l = (l.latest ≡ end (tabulate l.step-index (step_at l.fn.plan)))

@@ -14,7 +14,7 @@ use native.Mathlib.Omega.{arith}
 use Rattle.checker.proofs.rules.order.Goals as goal
 
 pub loop-i-init : goal.loop-i-init
-loop-i-init c = (omega arith, omega arith, short_rising (step_at c.args.plan) 1 (omega arith))
+loop-i-init c = short_rising (step_at c.args.plan) 1 (omega arith)
 
 pub returns-then-not-precedes : goal.returns-then-not-precedes
 returns-then-not-precedes c =
@@ -22,7 +22,7 @@ returns-then-not-precedes c =
     let i = c.loop-i.i in
     let broken = sym (c.precedes.ensures p.counts) ∙ c.if-not-precedes.true in
     let e : strictly_rising (tabulate (i + 1) (step_at p)) ≡ false
-    = rising_step (step_at p) i (omega arith) ∙ rw (c.loop-i.invariant.2, broken) in
+    = rising_step (step_at p) i (omega arith) ∙ rw (c.loop-i.invariant, broken) in
     sym (first_here StepOrder _ [] (ap not (rising_broken (step_at p) (i + 1) p.length (omega arith) e)))
 
 pub loop-i-preserved : goal.loop-i-preserved
@@ -30,11 +30,11 @@ loop-i-preserved c =
     let p = c.args.plan in
     let i = c.loop-i.i in
     let rises = sym (c.precedes.ensures p.counts) ∙ c.if-not-precedes.false in
-    (omega arith, omega arith, rising_step (step_at p) i (omega arith) ∙ rw (c.loop-i.invariant.2, rises))
+    rising_step (step_at p) i (omega arith) ∙ rw (c.loop-i.invariant, rises)
 
 pub returns : goal.returns
 unfolding first
 returns c =
     let p = c.args.plan in
-    let e = rising_end (step_at p) c.loop-i.i p.length (omega arith) (omega arith) c.loop-i.invariant.2 in
+    let e = rising_end (step_at p) c.loop-i.i p.length (omega arith) (λ h. omega arith) c.loop-i.invariant in
     sym (first_next StepOrder _ [] (ap not e))

@@ -19,21 +19,20 @@ use native.Mathlib.Omega.{arith}
 use Rattle.checker.proofs.rules.stores.Goals as goal
 
 pub loop-k-init : goal.loop-k-init
-loop-k-init c = (omega arith, refl)
+loop-k-init c = refl
 
 pub used_up-requires : goal.used_up-requires
 used_up-requires c =
     (c.requires.0, c.requires.1, omega arith, omega arith)
 
-pub returns-then-wide-used_up : goal.returns-then-wide-used_up
-returns-then-wide-used_up c =
+pub returns-then-from-used_up : goal.returns-then-from-used_up
+returns-then-from-used_up c =
     let j = c.args.job in
     let test = exceeds_store (job_in j) (steps_of c.args.plan) in
     let k = c.loop-k.k in
-    let cap = c.wide.ensures.0
-    ∙ ap (λ (l : List ℕ). get_or l k 0) c.allowed-limits.ensures
+    let cap = c.from.ensures ∙ ap (λ (l : List ℕ). get_or l k 0) c.allowed-limits.ensures
     ∙ allowed_is j k c.loop-k-test.true (omega arith) in
-    let e : test k ≡ true = lt-ltb _ _ (rw (c.used_up.ensures, cap) at c.if-wide-used_up.true) in
+    let e : test k ≡ true = lt-ltb _ _ (rw (c.used_up.ensures, cap) at c.if-from-used_up.true) in
     sym (first_here StoreExceeded _ []
     (rw length_tabulate (below_found j.counts.stores test k c.loop-k-test.true e)))
 
@@ -42,11 +41,10 @@ loop-k-preserved c =
     let j = c.args.job in
     let test = exceeds_store (job_in j) (steps_of c.args.plan) in
     let k = c.loop-k.k in
-    let cap = c.wide.ensures.0
-    ∙ ap (λ (l : List ℕ). get_or l k 0) c.allowed-limits.ensures
+    let cap = c.from.ensures ∙ ap (λ (l : List ℕ). get_or l k 0) c.allowed-limits.ensures
     ∙ allowed_is j k c.loop-k-test.true (omega arith) in
-    let e : test k ≡ false = le-ltb _ _ (rw (c.used_up.ensures, cap) at c.if-wide-used_up.false) in
-    (omega arith, below_more k test ∙ rw (e, c.loop-k.invariant.1))
+    let e : test k ≡ false = le-ltb _ _ (rw (c.used_up.ensures, cap) at c.if-from-used_up.false) in
+    below_more k test ∙ rw (e, c.loop-k.invariant)
 
 pub returns : goal.returns
 unfolding first
@@ -54,5 +52,5 @@ returns c =
     let j = c.args.job in
     let q : c.loop-k.k ≡ j.counts.stores = omega arith in
     let none : any_below (length (job_in j).stores) (exceeds_store (job_in j) (steps_of c.args.plan)) ≡ false =
-    rw length_tabulate (rw q at c.loop-k.invariant.1) in
+    rw length_tabulate (rw q at c.loop-k.invariant) in
     sym (first_next StoreExceeded _ [] none)

@@ -1,5 +1,4 @@
 -- `stores` meets its contract: none of the first k stores is exceeded.
-use Prim.Native.Nat.{◌-◌, ◌≤◌}
 use mathlib.Core.Path.{◌≡◌}
 use mathlib.Core.Bool.{false}
 use Rattle.lists.specs.Lists.{any_below}
@@ -10,7 +9,4 @@ use Rattle.checker.proofs.rules.stores.Given as goal
 
 abbrev pub invariant-loop-k : goal.invariant-loop-k
 invariant-loop-k l =
-    (l.k ≤ l.counts.stores) × (any_below l.k (exceeds_store (job_in l.job) (steps_of l.plan)) ≡ false)
-
-abbrev pub decreases-loop-k : goal.decreases-loop-k
-decreases-loop-k l = l.counts.stores - l.k
+    (any_below l.k (exceeds_store (job_in l.job) (steps_of l.plan)) ≡ false)

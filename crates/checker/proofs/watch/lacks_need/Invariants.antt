@@ -1,5 +1,4 @@
 -- `lacks_need` meets its contract: none of the first i steps lacks a need.
-use Prim.Native.Nat.{◌-◌, ◌≤◌}
 use mathlib.Core.Path.{◌≡◌}
 use mathlib.Core.Bool.{false}
 use Rattle.lists.specs.Lists.{tabulate, any}
@@ -7,8 +6,5 @@ use Rattle.timeline.specs.Value.{step_at}
 use Rattle.checker.specs.Watch.{lacks_at}
 use Rattle.checker.proofs.watch.lacks_need.Given as goal
 
-abbrev pub invariant-loop-i : goal.invariant-loop-i
-invariant-loop-i l = (l.i ≤ l.plan.length) × (any (lacks_at l.clock) (tabulate l.i (step_at l.plan)) ≡ false)
-
-abbrev pub decreases-loop-i : goal.decreases-loop-i
-decreases-loop-i l = l.plan.length - l.i
+abbrev pub invariant-loop-step : goal.invariant-loop-step
+invariant-loop-step l = (any (lacks_at l.clock) (tabulate l.step-index (step_at l.fn.plan)) ≡ false)

@@ -4,4 +4,5 @@ use Rattle.leaf.proofs.bytes.write_step.Goals as goal
 
 pub returns : goal.returns
 returns c =
-    step_written _ _ _ _ _ _ (c.requires) c.write_number.ensures c.write_number-2.ensures
+    step_written _ _ _ _ _ _ (c.requires) (rw c.from.ensures at c.write_number.ensures)
+    (rw c.from-2.ensures at c.write_number-2.ensures)

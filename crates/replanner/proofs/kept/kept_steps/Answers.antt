@@ -8,16 +8,16 @@ use Rattle.replanner.proofs.kept.kept_steps.Goals as goal
 
 pub loop-i-init : goal.loop-i-init
 loop-i-init c =
-    (omega arith, rw c.none-kept.ensures (keeps_none c.args.plan c.args.minute))
+    rw c.none-kept.ensures (keeps_none c.args.plan c.args.minute)
 
 pub with_step-kept-requires : goal.with_step-kept-requires
 with_step-kept-requires c =
-    let few = c.loop-i.invariant.1.few in let most = c.requires.0 in (omega arith, c.requires.1 c.loop-i.i c.loop-i-test.true)
+    let few = c.loop-i.invariant.few in let most = c.requires.0 in (omega arith, c.requires.1 c.loop-i.i c.loop-i-test.true)
 
 pub loop-i-preserved : goal.loop-i-preserved
 loop-i-preserved c =
-    let most = c.requires.0 in let less = c.loop-i-test.true in (omega arith, keeps_next c.args.plan c.args.minute c.loop-i.i c.loop-i.kept c.loop-i.invariant.1 (omega arith) _ c.with_step-kept.ensures.0 c.with_step-kept.ensures.1)
+    let most = c.requires.0 in let less = c.loop-i-test.true in keeps_next c.args.plan c.args.minute c.loop-i.i c.loop-i.kept c.loop-i.invariant (omega arith) _ c.with_step-kept.ensures.0 c.with_step-kept.ensures.1
 
 pub returns : goal.returns
 returns c =
-    let all : c.loop-i.i ≡ c.args.plan.length = omega arith in subst (λ (n : ℕ). Keeps c.args.plan n c.args.minute c.loop-i.kept) all c.loop-i.invariant.1
+    let all : c.loop-i.i ≡ c.args.plan.length = omega arith in subst (λ (n : ℕ). Keeps c.args.plan n c.args.minute c.loop-i.kept) all c.loop-i.invariant
