@@ -30,7 +30,7 @@ use Rattle.jobfile.proofs.Lengths.{file_fits}
 use Rattle.timeline.specs.declared.Day.{Day}
 use Rattle.timeline.specs.Step.{Step, steps_in}
 use Rattle.timeline.specs.Accepted.{plan_rows, run_rows}
-use Rattle.timeline.specs.Day.{day_of}
+use Rattle.timeline.specs.Day.{day_of, told}
 use Rattle.timeline.specs.TrueLengths.{with_lengths}
 use Rattle.timeline.proofs.DayLaws.{few_without_day}
 use Rattle.timeline.proofs.PlanBytes.{few_steps_of_accepted}
@@ -40,19 +40,18 @@ use Rattle.true_day.specs.TrueDay.{true_rows, true_steps, true_day}
 use Rattle.makespan.specs.Makespan.{Makespan, ends_at, no_plan, begun, passes, makespan_from, makespan}
 use Rattle.planner.specs.Plan.{plan_refusals, PlansFor, PlansBy, Plans}
 use Rattle.replanner.specs.Replan.{replan_rows, kept_steps, ReplansWith, ReplansBy, Replans}
-use Rattle.packing.specs.Answer.{ShortFile}
-
-verdict_read : (v : Verdict) (J : Job) → verdict_of (reading_of v J) ≡ v
-verdict_read (Ok _) J = refl
-verdict_read (Err why) J = refl
+use Rattle.packing.specs.Answer.{ShortFile, FewSteps}
 
 -- a file that is accepted passes test 1
-pub accepted_file_is_short : (file : List ℕ) → verdict_of (read_file file) ≡ pass → length file ≤ 4096
+pub accepted_file_is_short : (file : List ℕ) (job : held.Job) → read_file file ≡ Ok job → length file ≤ 4096
 unfolding read_file read_rows file_rows
-accepted_file_is_short file h =
-    let passes = sym (verdict_read (first (read_rows file)) (decoded file)) ∙ h in
-    let size = (first_pass _ _ _ passes).0 in
+accepted_file_is_short file job h =
+    let size = (first_pass _ _ _ (passed_when_read (first (read_rows file)) h)).0 in
     ltb-false 4096 (length file) (or_right (ltb (length file) (4 * entries_in file)) (over 4096 (length file)) size)
+  where
+    passed_when_read : (v : Verdict) → reading_of v (decoded file) ≡ Ok job → v ≡ pass
+    passed_when_read (Ok _) e = refl
+    passed_when_read (Err why) e = cc
 
 length_told : (v : Verdict) (J : Job) (n : ℕ) → written_of v J ≡ Ok n
     → (v ≡ pass) × (length (file_of J) ≡ n)
@@ -76,35 +75,35 @@ same_count_lem (x ∷ P) (n ∷ lengths) = ap suc (same_count_lem P lengths)
 
 -- a plan that is run with true lengths has as many steps as the plan
 pub true_steps_are_few : (J : Job) (bytes lengths : List ℕ) (answer : Result Day Refusal) → answer ≡ true_day J bytes lengths
-    → answer.steps ≤ 32
+    → (told answer).steps ≤ 32
 unfolding true_day true_rows check_rows
-true_steps_are_few J bytes lengths answer told = by_verdict (first (true_rows J bytes lengths)) refl told
+true_steps_are_few J bytes lengths answer same = by_verdict (first (true_rows J bytes lengths)) refl same
   where
     by_verdict : (v : Verdict) → first (true_rows J bytes lengths) ≡ v
-        → answer ≡ day_of v J (true_steps J bytes lengths) → answer.steps ≤ 32
+        → answer ≡ day_of v J (true_steps J bytes lengths) → (told answer).steps ≤ 32
     by_verdict (Ok _) e h =
         let checks = pass_of_append (job_rows J ++ plan_rows J J.goal bytes) _ e in
         let accepted = (pass_of_append (job_rows J) (plan_rows J J.goal bytes) checks.0).1 in
         let few = few_steps_of_accepted J J.goal bytes accepted in
-        let count = ap (λ (d : Result Day Refusal). d.steps) h in
+        let count = ap (λ (d : Result Day Refusal). (told d).steps) h in
         let same = same_count_lem (steps_in J bytes) lengths in
         omega arith
     by_verdict (Err why) e h = few_without_day why answer h
 
 -- a shortest plan that is handed out has at most 32 steps
 few_when_planned : (m : Makespan) (none : Refusal) (J : Job) (goal minute : ℕ) (K : List Step) (slice : List ℕ)
-    (answer : Result Day Refusal) (after : List ℕ) → PlansFor m none J goal minute K slice answer after → answer.steps ≤ 32
+    (answer : Result Day Refusal) (after : List ℕ) → PlansFor m none J goal minute K slice answer after → (told answer).steps ≤ 32
 few_when_planned (ends_at e) none J goal minute K slice answer after p =
-    let count = ap (λ (d : Result Day Refusal). d.steps) p.answers in
+    let count = ap (λ (d : Result Day Refusal). (told d).steps) p.answers in
     let few = few_steps_of_accepted J goal p.bytes p.accepted in
     omega arith
 few_when_planned no_plan none J goal minute K slice answer after p = few_without_day none answer p.answers
 
 pub planned_steps_are_few : (J : Job) (slice : List ℕ) (answer : Result Day Refusal) (after : List ℕ) → Plans J slice answer after
-    → answer.steps ≤ 32
+    → (told answer).steps ≤ 32
 planned_steps_are_few J slice answer after plans = by_verdict (first (plan_refusals J slice)) plans
   where
-    by_verdict : (v : Verdict) → PlansBy v J slice answer after → answer.steps ≤ 32
+    by_verdict : (v : Verdict) → PlansBy v J slice answer after → (told answer).steps ≤ 32
     by_verdict (Ok _) p =
         few_when_planned (makespan J J.goal) NoPlan J J.goal 0 [] slice answer after p
     by_verdict (Err why) p = few_without_day why answer p.answers
@@ -134,16 +133,20 @@ module _ (J : Job) (current : List ℕ) (minute goal : ℕ) (slice : List ℕ) w
 
   -- a shortest plan with the kept steps, and these alone
   pub replanned_steps_are_few : (answer : Result Day Refusal) (after : List ℕ) → Replans J current minute goal slice answer after
-      → answer.steps ≤ 32
+      → (told answer).steps ≤ 32
   replanned_steps_are_few answer after replans = by_verdict (first (replan_rows J current goal slice)) refl replans
     where
       with_kept : (alone : Bool) → length K ≤ 32 → ReplansWith alone J goal minute K slice answer after
-          → answer.steps ≤ 32
-      with_kept true few p = let count = ap (λ (d : Result Day Refusal). d.steps) p.answers in omega arith
+          → (told answer).steps ≤ 32
+      with_kept true few p = let count = ap (λ (d : Result Day Refusal). (told d).steps) p.answers in omega arith
       with_kept false few p =
           few_when_planned (makespan_from J goal minute K) NoPlanWithKept J goal minute K slice answer after p
 
       by_verdict : (v : Verdict) → first (replan_rows J current goal slice) ≡ v
-          → ReplansBy v J goal minute K slice answer after → answer.steps ≤ 32
+          → ReplansBy v J goal minute K slice answer after → (told answer).steps ≤ 32
       by_verdict (Ok _) e p = with_kept (passes J goal K) (kept_steps_are_few e) p
       by_verdict (Err why) e p = few_without_day why answer p.answers
+
+-- what is told of few steps is told of the day
+pub few_steps : (answer : Result Day Refusal) → (told answer).steps ≤ 32 → FewSteps answer
+few_steps answer few day same = subst (λ (d : Result Day Refusal). (told d).steps ≤ 32) same few

@@ -8,23 +8,44 @@ ghost use Rattle.calls.specs.Calls.{price_answer, rates_in, true_day_answer, pea
 ghost use Rattle.calls.specs.Calls.{joined_answer, left_by_joining, peaks_by_joining};
 ghost use Rattle.calls.specs.Calls.{EarliestAnswers, PlanAnswers, ListAnswers, HalvesAnswers, ReplanAnswers};
 ghost use Rattle.calls.specs.Calls.{pool_answer, left_by_pool};
+ghost use Rattle.packing.specs.Answer.{checked_number, planned_number, FewSteps};
 
 use job::Job;
-use job::refusal::Verdict;
+use job::refusal::Refusal;
 use packing::{DONE, day_told, pack, price_told, put_peaks, refused, told, written};
 use price::Rates;
+use timeline::Day;
+
+// A day by its end alone, or why there is none.
+fn checked(day: Result<Day, Refusal>) -> u64
+    ensures { result ≡ checked_number day }
+{
+    match day {
+        Ok(day) => day_told(day.end, 0),
+        Err(why) => refused(why),
+    }
+}
+
+// A day by its end and its number of steps, or why there is none.
+fn planned(day: Result<Day, Refusal>) -> u64
+    requires { FewSteps day }
+    ensures { result ≡ planned_number day }
+{
+    match day {
+        Ok(day) => day_told(day.end, day.steps as u16),
+        Err(why) => refused(why),
+    }
+}
 
 // Whether a job file is accepted: its length, or its first refusal.
 #[unsafe(no_mangle)]
 pub extern "C" fn ruhkevois_read(file: &[u8]) -> u64
     ensures { result ≡ read_answer file.now }
 {
-    let reading = reader::read(file);
-    let verdict = reading.verdict;
-    if let Verdict::Refused(why) = verdict {
-        return refused(why);
+    match reader::read(file) {
+        Ok(_) => pack(DONE, 0, file.len() as u32, 0),
+        Err(why) => refused(why),
     }
-    pack(DONE, 0, file.len() as u32, 0)
 }
 
 // Reads a job file and writes it again to the front of the slice: its length, or the first refusal of the file
@@ -34,12 +55,11 @@ pub extern "C" fn ruhkevois_rewrite(file: &[u8], out: &mut [u8]) -> u64
     ensures value { result ≡ rewrite_answer file.now out.old }
     ensures out_after { out.new ≡ left_by_rewrite file.now out.old }
 {
-    let reading = reader::read(file);
-    let verdict = reading.verdict;
-    if let Verdict::Refused(why) = verdict {
-        return refused(why);
-    }
-    let answer = writer::write(reading.job, out);
+    let job = match reader::read(file) {
+        Ok(job) => job,
+        Err(why) => return refused(why),
+    };
+    let answer = writer::write(job, out);
     written(answer)
 }
 
@@ -51,14 +71,13 @@ pub extern "C" fn ruhkevois_check(file: &[u8], plan: &[u8], peaks: &mut [u32; Jo
     ensures peaks_after { peaks.new ≡
         peaks_by_check file.now plan.now peaks.old }
 {
-    let reading = reader::read(file);
-    let verdict = reading.verdict;
-    if let Verdict::Refused(why) = verdict {
-        return refused(why);
-    }
-    let day = checker::check(reading.job, plan);
+    let job = match reader::read(file) {
+        Ok(job) => job,
+        Err(why) => return refused(why),
+    };
+    let day = checker::check(job, plan);
     put_peaks(peaks, day);
-    day_told(day, 0)
+    checked(day)
 }
 
 // What a plan for the job of a file costs at these rates for pools and stores and this evening percentage: the cents,
@@ -74,17 +93,16 @@ pub extern "C" fn ruhkevois_price(
     ensures { result ≡ price_answer file.now plan.now
         (rates_in pools.now stores.now evening) }
 {
-    let reading = reader::read(file);
-    let verdict = reading.verdict;
-    if let Verdict::Refused(why) = verdict {
-        return refused(why);
-    }
+    let job = match reader::read(file) {
+        Ok(job) => job,
+        Err(why) => return refused(why),
+    };
     let rates = Rates {
         pools: *pools,
         stores: *stores,
         evening,
     };
-    let answer = price::price(reading.job, rates, plan);
+    let answer = price::price(job, rates, plan);
     price_told(answer)
 }
 
@@ -102,14 +120,13 @@ pub extern "C" fn ruhkevois_true_day(
     ensures peaks_after { peaks.new ≡
         peaks_by_true_day file.now plan.now lengths.now peaks.old }
 {
-    let reading = reader::read(file);
-    let verdict = reading.verdict;
-    if let Verdict::Refused(why) = verdict {
-        return refused(why);
-    }
-    let day = true_day::true_day(reading.job, plan, lengths);
+    let job = match reader::read(file) {
+        Ok(job) => job,
+        Err(why) => return refused(why),
+    };
+    let day = true_day::true_day(job, plan, lengths);
     put_peaks(peaks, day);
-    day_told(day, day.steps as u16)
+    planned(day)
 }
 
 // Joins two plans for the job of a file: writes the joined plan to the front of the slice. Its end and number of steps,
@@ -129,14 +146,13 @@ pub extern "C" fn ruhkevois_join(
     ensures peaks_after { peaks.new ≡ peaks_by_joining file.now first.now second.now
         out.old peaks.old }
 {
-    let reading = reader::read(file);
-    let verdict = reading.verdict;
-    if let Verdict::Refused(why) = verdict {
-        return refused(why);
-    }
-    let day = joining::join(reading.job, first, second, out);
+    let job = match reader::read(file) {
+        Ok(job) => job,
+        Err(why) => return refused(why),
+    };
+    let day = joining::join(job, first, second, out);
     put_peaks(peaks, day);
-    day_told(day, day.steps as u16)
+    planned(day)
 }
 
 // The earliest time of a set of facts in the job of a file: the minute, unreachable, or the first refusal of the
@@ -145,12 +161,11 @@ pub extern "C" fn ruhkevois_join(
 pub extern "C" fn ruhkevois_earliest(file: &[u8], set: u64) -> u64
     ensures { EarliestAnswers file.now set result }
 {
-    let reading = reader::read(file);
-    let verdict = reading.verdict;
-    if let Verdict::Refused(why) = verdict {
-        return refused(why);
-    }
-    let answer = earliest::earliest(reading.job, set);
+    let job = match reader::read(file) {
+        Ok(job) => job,
+        Err(why) => return refused(why),
+    };
+    let answer = earliest::earliest(job, set);
     told(answer)
 }
 
@@ -162,14 +177,13 @@ pub extern "C" fn ruhkevois_plan(file: &[u8], out: &mut [u8], peaks: &mut [u32; 
     ensures { PlanAnswers file.now out.old peaks.old result out.new
         peaks.new }
 {
-    let reading = reader::read(file);
-    let verdict = reading.verdict;
-    if let Verdict::Refused(why) = verdict {
-        return refused(why);
-    }
-    let day = planner::plan(reading.job, out);
+    let job = match reader::read(file) {
+        Ok(job) => job,
+        Err(why) => return refused(why),
+    };
+    let day = planner::plan(job, out);
     put_peaks(peaks, day);
-    day_told(day, day.steps as u16)
+    planned(day)
 }
 
 // Writes the plan at a place, counted from 0, of the list of all shortest plans for the job of a file to the front of
@@ -184,14 +198,13 @@ pub extern "C" fn ruhkevois_list(
     ensures { ListAnswers file.now place out.old peaks.old result out.new
         peaks.new }
 {
-    let reading = reader::read(file);
-    let verdict = reading.verdict;
-    if let Verdict::Refused(why) = verdict {
-        return refused(why);
-    }
-    let day = lister::list(reading.job, place, out);
+    let job = match reader::read(file) {
+        Ok(job) => job,
+        Err(why) => return refused(why),
+    };
+    let day = lister::list(job, place, out);
     put_peaks(peaks, day);
-    day_told(day, day.steps as u16)
+    planned(day)
 }
 
 // Plans the day of a file in two halves, the first for the halfway set: writes the joined plan to the front of the slice.
@@ -206,14 +219,13 @@ pub extern "C" fn ruhkevois_halves(
     ensures { HalvesAnswers file.now halfway out.old peaks.old result out.new
         peaks.new }
 {
-    let reading = reader::read(file);
-    let verdict = reading.verdict;
-    if let Verdict::Refused(why) = verdict {
-        return refused(why);
-    }
-    let day = halving::halves(reading.job, halfway, out);
+    let job = match reader::read(file) {
+        Ok(job) => job,
+        Err(why) => return refused(why),
+    };
+    let day = halving::halves(job, halfway, out);
     put_peaks(peaks, day);
-    day_told(day, day.steps as u16)
+    planned(day)
 }
 
 // Replans the day of a file that has begun: writes a shortest plan for the new goal that keeps the steps of the current
@@ -231,14 +243,13 @@ pub extern "C" fn ruhkevois_replan(
     ensures { ReplanAnswers file.now plan.now minute goal out.old
         peaks.old result out.new peaks.new }
 {
-    let reading = reader::read(file);
-    let verdict = reading.verdict;
-    if let Verdict::Refused(why) = verdict {
-        return refused(why);
-    }
-    let day = replanner::replan(reading.job, plan, minute, goal, out);
+    let job = match reader::read(file) {
+        Ok(job) => job,
+        Err(why) => return refused(why),
+    };
+    let day = replanner::replan(job, plan, minute, goal, out);
     put_peaks(peaks, day);
-    day_told(day, day.steps as u16)
+    planned(day)
 }
 
 // Pools the jobs of two files and writes the pooled job's file to the front of the slice: its length, or the first
@@ -250,21 +261,18 @@ pub extern "C" fn ruhkevois_pool(first: &[u8], second: &[u8], out: &mut [u8]) ->
     ensures out_after { out.new ≡
         left_by_pool first.now second.now out.old }
 {
-    let mine = reader::read(first);
-    let mine_read = mine.verdict;
-    if let Verdict::Refused(why) = mine_read {
-        return refused(why);
-    }
-    let other = reader::read(second);
-    let other_read = other.verdict;
-    if let Verdict::Refused(why) = other_read {
-        return refused(why);
-    }
-    let pooled = pooling::pool(mine.job, other.job);
-    let verdict = pooled.verdict;
-    if let Verdict::Refused(why) = verdict {
-        return refused(why);
-    }
-    let answer = writer::write(pooled.job, out);
+    let mine = match reader::read(first) {
+        Ok(job) => job,
+        Err(why) => return refused(why),
+    };
+    let other = match reader::read(second) {
+        Ok(job) => job,
+        Err(why) => return refused(why),
+    };
+    let pooled = match pooling::pool(mine, other) {
+        Ok(job) => job,
+        Err(why) => return refused(why),
+    };
+    let answer = writer::write(pooled, out);
     written(answer)
 }

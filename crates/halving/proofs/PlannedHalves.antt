@@ -86,16 +86,16 @@ module _ (First : FirstOf) (good : FirstAccepted First) (J : Job) (halfway : ℕ
         = subst (λ (R : List Step). Accepted J J.goal (plan_bytes R)) steps plan.0 in
         let back : steps_in J (plan_bytes P) ≡ P
         = subst (λ (R : List Step). steps_in J (plan_bytes R) ≡ R) steps plan.1 in
-        let told : answer ≡ Ok (told_of J P)
+        let answers : answer ≡ Ok (told_of J P)
         = joined.answers ∙ ap (λ (w : Verdict). day_of w J P) (verdict_passes v P joined) in
-        let ends : (told answer).end ≡ end P = ap (λ (d : Result Day Refusal). (told d).end) told in
+        let ends : (told answer).end ≡ end P = ap (λ (d : Result Day Refusal). (told d).end) answers in
         let by = least.2 in
         let last = ap end steps in
         record {
           bytes = plan_bytes P;
           leaves = joined.leaves ∙ ap (λ (w : Verdict). left_by w P slice) (verdict_passes v P joined);
           accepted = ok;
-          checked = accepted_checked (plan_bytes P) ok ∙ ap (λ (R : List Step). Ok (told_of J R)) back ∙ sym told;
+          checked = accepted_checked (plan_bytes P) ok ∙ ap (λ (R : List Step). Ok (told_of J R)) back ∙ sym answers;
           shortest = (least.0, least.1, omega arith);
         }
 

@@ -1,19 +1,12 @@
 -- An answer as one number, packed the same way for every call but a price, which needs more bits.
 -- Assumes nothing.
-use Rattle.std.specs.Prelude.{Result, Ok, Err}
-use Rattle.std.specs.Prelude.{ℕ, ◌+◌, ◌*◌, ◌≤◌, ◌<◌, ◌≡◌, List}
-use Rattle.job.specs.Refusal.{verdict_of, number}
+use Rattle.std.specs.Prelude.{ℕ, ◌+◌, ◌*◌, ◌≤◌, ◌<◌, ◌≡◌, List, Some, None, Result, Ok, Err}
+use Rattle.job.specs.Refusal.{number}
 use Rattle.job.specs.declared.refusal.Refusal.{Refusal}
-use Rattle.job.specs.Refusal.{Verdict}
-use Rattle.std.specs.Prelude.{Ok, Err}
-use Rattle.job.specs.Refusal.{pass}
 use Rattle.jobfile.specs.Answers.{Written}
-use Rattle.std.specs.Prelude.{Ok, Err}
 use Rattle.timeline.specs.declared.Day.{Day}
-use Rattle.price.specs.declared.Priced.{Priced}
-use Rattle.std.specs.Prelude.{Ok, Err}
+use Rattle.price.specs.Price.{Priced}
 use Rattle.earliest.specs.Answer.{EarliestTime}
-use Rattle.earliest.specs.declared.EarliestTime.TheVariants as time
 
 -- the kind in bits 0 to 7, the refusal's number in 8 to 15, the end in 16 to 47, the number of steps in 48 to 63
 unfoldable pub packed : ℕ → ℕ → ℕ → ℕ → ℕ
@@ -36,23 +29,20 @@ abbrev pub written_number : Written → ℕ
 written_number (Ok n) = done n 0
 written_number (Err why) = refusal why
 
--- a day with so many steps told
-abbrev pub day_number : Verdict → ℕ → ℕ → ℕ
-day_number (Ok _) end steps = done end steps
-day_number (Err why) end steps = refusal why
-
 -- "the checker returns the end"
 abbrev pub checked_number : Result Day Refusal → ℕ
-checked_number day = day_number (verdict_of day) day.end 0
+checked_number (Ok day) = done day.end 0
+checked_number (Err why) = refusal why
 
 -- "the planner returns the end and number of steps"
 abbrev pub planned_number : Result Day Refusal → ℕ
-planned_number day = day_number (verdict_of day) day.end day.steps
+planned_number (Ok day) = done day.end day.steps
+planned_number (Err why) = refusal why
 
 -- the peaks of a day in a lent array; beside a refusal it is as it was
-abbrev pub peaks_by : Verdict → List ℕ → List ℕ → List ℕ
-peaks_by (Ok _) told before = told
-peaks_by (Err why) told before = before
+abbrev pub peaks_by : Result Day Refusal → List ℕ → List ℕ
+peaks_by (Ok day) before = day.peaks
+peaks_by (Err why) before = before
 
 -- kind 0 of a price: the cents in bits 8 to 63. A refusal is the same number as in every call
 unfoldable pub cost : ℕ → ℕ
@@ -65,8 +55,8 @@ priced_number (Err why) = refusal why
 
 -- "a time is a number or 'unreachable'"
 abbrev pub time_number : EarliestTime → ℕ
-time_number (time.At x) = done x 0
-time_number time.Unreachable = unreachable
+time_number (Ok (Some x)) = done x 0
+time_number (Ok None) = unreachable
 time_number (Err why) = refusal why
 
 -- ---- what inner functions ask: the numbers fit their bits
@@ -78,3 +68,7 @@ ShortFile answer = (n : ℕ) → answer ≡ Ok n → n ≤ 4096
 -- a price has at most 56 bits
 abbrev pub SmallPrice : Priced → Type 0
 SmallPrice answer = (cents : ℕ) → answer ≡ Ok cents → cents < 72057594037927936
+
+-- a day has at most 32 steps
+abbrev pub FewSteps : Result Day Refusal → Type 0
+FewSteps answer = (day : Day) → answer ≡ Ok day → day.steps ≤ 32

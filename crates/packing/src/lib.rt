@@ -3,14 +3,14 @@
 #![tactic(auto)]
 
 ghost use Rattle.std.specs.Prelude.{◌≡◌, ◌<◌};
-ghost use Rattle.packing.specs.Answer.{packed, refusal, day_number, time_number, written_number, ShortFile, peaks_by};
-ghost use Rattle.packing.specs.Answer.{cost, priced_number, SmallPrice};
 
-use earliest::EarliestTime;
+
+
+ghost use Rattle.packing.specs.Answer.{packed, done, refusal, written_number, ShortFile};
+ghost use Rattle.packing.specs.Answer.{peaks_by, cost, priced_number, SmallPrice, time_number};
+
 use job::Job;
-use job::refusal::{Refusal, Verdict, number};
-use jobfile::Written;
-use price::Priced;
+use job::refusal::Refusal;
 use timeline::Day;
 
 // The kinds of answers.
@@ -39,38 +39,33 @@ pub fn pack(kind: u8, refusal: u8, end: u32, steps: u16) -> u64
 pub fn refused(why: Refusal) -> u64
     ensures { result ≡ refusal why }
 {
-    pack(REFUSED, number(why), 0, 0)
+    pack(REFUSED, u8::from(why), 0, 0)
 }
 
 // The writer's answer: the file's length.
-pub fn written(answer: Written) -> u64
+pub fn written(answer: Result<usize, Refusal>) -> u64
     requires { ShortFile answer }
     ensures { result ≡ written_number answer }
 {
     match answer {
-        Written::Length(length) => pack(DONE, 0, length as u32, 0),
-        Written::Refused(why) => refused(why),
+        Ok(length) => pack(DONE, 0, length as u32, 0),
+        Err(why) => refused(why),
     }
 }
 
-// A day with so many steps told: the plan's end, or why there is none.
-pub fn day_told(day: Day, steps: u16) -> u64
-    ensures { result ≡ day_number day.verdict day.end steps }
+// A day with so many steps told: the plan's end.
+pub fn day_told(end: u32, steps: u16) -> u64
+    ensures { result ≡ done end steps }
 {
-    let verdict = day.verdict;
-    match verdict {
-        Verdict::Pass => pack(DONE, 0, day.end, steps),
-        Verdict::Refused(why) => refused(why),
-    }
+    pack(DONE, 0, end, steps)
 }
 
 // Puts the peaks of a day into the array, and leaves it as it was where there is no day.
-pub fn put_peaks(peaks: &mut [u32; Job::POOLS], day: Day)
-    ensures { peaks.new ≡ peaks_by day.verdict day.peaks peaks.old }
+pub fn put_peaks(peaks: &mut [u32; Job::POOLS], day: Result<Day, Refusal>)
+    ensures { peaks.new ≡ peaks_by day peaks.old }
 {
-    let verdict = day.verdict;
-    let told = day.peaks;
-    if let Verdict::Pass = verdict {
+    if let Ok(day) = day {
+        let told = day.peaks;
         *peaks = told;
     }
 }
@@ -84,23 +79,23 @@ fn pack_price(cents: u64) -> u64
 }
 
 // What a plan costs, or why it has no price.
-pub fn price_told(answer: Priced) -> u64
+pub fn price_told(answer: Result<u64, Refusal>) -> u64
     requires { SmallPrice answer }
     ensures { result ≡ priced_number answer }
 {
     match answer {
-        Priced::Cents(cents) => pack_price(cents),
-        Priced::Refused(why) => refused(why),
+        Ok(cents) => pack_price(cents),
+        Err(why) => refused(why),
     }
 }
 
 // An earliest time: the minute, or the kind for unreachable.
-pub fn told(answer: EarliestTime) -> u64
+pub fn told(answer: Result<Option<u32>, Refusal>) -> u64
     ensures { result ≡ time_number answer }
 {
     match answer {
-        EarliestTime::At(minute) => pack(DONE, 0, minute, 0),
-        EarliestTime::Unreachable => pack(UNREACHABLE, 0, 0, 0),
-        EarliestTime::Refused(why) => refused(why),
+        Ok(Some(minute)) => pack(DONE, 0, minute, 0),
+        Ok(None) => pack(UNREACHABLE, 0, 0, 0),
+        Err(why) => refused(why),
     }
 }

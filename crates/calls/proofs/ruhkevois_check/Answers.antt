@@ -1,23 +1,20 @@
 -- `ruhkevois_check` meets its contract: the file is refused, or the checker has answered.
+use Rattle.std.proofs.Common.{List, ℕ, Result, refl, sym, ap, ◌∙◌}
 use Rattle.job.specs.declared.refusal.Refusal.{Refusal}
-use Rattle.std.specs.Prelude.{Result, Ok, Err}
-use mathlib.Core.Path.{◌∙◌}
-use Rattle.job.specs.Job.{Job}
 use Rattle.timeline.specs.declared.Day.{Day}
-use Rattle.checker.specs.Check.{check_plan}
-use Rattle.packing.specs.Answer.{checked_number}
-use Rattle.calls.proofs.CallLaws.{file_refused, peaks_kept, number_accepted, peaks_told}
+use Rattle.packing.specs.Answer.{checked_number, peaks_by}
 use Rattle.calls.proofs.ruhkevois_check.Goals as goal
 
-pub returns-in-Refused : goal.returns-in-Refused
-returns-in-Refused c =
-    let read = c.read-reading.ensures.answers in
-    let why = c.in-Refused.is in
-    record { value = c.refused.ensures ∙ file_refused _ _ read _ why _; peaks_after = peaks_kept _ _ read _ why _ _ }
+pub returns-in-Err : goal.returns-in-Err
+returns-in-Err c =
+    let read = sym c.read.ensures.answers ∙ c.in-Err.is in
+    record { value = rw read c.refused.ensures; peaks_after = rw read refl }
 
-pub returns : goal.returns
-returns c =
-    let read = c.read-reading.ensures.answers in
-    let pass = c.in_default.is in
+pub returns-in-Ok : goal.returns-in-Ok
+returns-in-Ok c =
+    let read = sym c.read.ensures.answers ∙ c.in-Ok.is in
     let told = c.check-day.ensures.answers in
-    let said : Job → Result Day Refusal = λ J. check_plan J c.args.plan.now in record { value = c.day_told.ensures ∙ number_accepted _ _ read pass said checked_number _ told; peaks_after = peaks_told _ _ read pass said _ _ _ told c.put_peaks.ensures }
+    record {
+      value = rw read (c.checked.ensures ∙ ap checked_number told);
+      peaks_after = rw read (c.put_peaks.ensures ∙ ap (λ (d : Result Day Refusal). peaks_by d c.args.peaks.now) told);
+    }

@@ -1,12 +1,10 @@
 -- `ruhkevois_earliest` meets its contract: the file is refused, or the time is told.
-use Rattle.calls.proofs.CallLaws.{earliest_refused, earliest_accepted}
+use Rattle.std.proofs.Common.{sym, ◌∙◌}
 use Rattle.calls.proofs.ruhkevois_earliest.Goals as goal
 
-pub returns-in-Refused : goal.returns-in-Refused
-returns-in-Refused c =
-    earliest_refused _ _ c.read-reading.ensures.answers _ c.in-Refused.is _ _ c.refused.ensures
+pub returns-in-Err : goal.returns-in-Err
+returns-in-Err c = rw (sym c.read.ensures.answers ∙ c.in-Err.is) c.refused.ensures
 
-pub returns : goal.returns
-returns c =
-    earliest_accepted _ _ c.read-reading.ensures.answers c.in_default.is _ _ _
-    c.earliest-answer.ensures c.told.ensures
+pub returns-in-Ok : goal.returns-in-Ok
+returns-in-Ok c =
+    rw (sym c.read.ensures.answers ∙ c.in-Ok.is) (c.earliest-answer.result, c.earliest-answer.ensures, c.told.ensures)

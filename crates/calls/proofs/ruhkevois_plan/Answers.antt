@@ -1,21 +1,17 @@
--- `ruhkevois_plan` meets its contract: the file is refused, or the planner has answered.
-use Rattle.job.specs.Job.{job_in}
+-- `ruhkevois_plan` meets its contract: the file is refused, or the call has answered.
+use Rattle.std.proofs.Common.{Result, ◌≡◌, refl, sym, ap, ◌∙◌}
 use Rattle.calls.proofs.Fitting.{planned_steps_are_few}
-use Rattle.calls.proofs.CallLaws.{day_refused, plan_accepted}
-use native.Mathlib.Omega.{arith}
+use Rattle.job.specs.Job.{job_in}
+use Rattle.calls.proofs.Fitting.{few_steps}
 use Rattle.calls.proofs.ruhkevois_plan.Goals as goal
 
-pub returns-in-Refused : goal.returns-in-Refused
-returns-in-Refused c =
-    day_refused _ _ c.read-reading.ensures.answers _ c.in-Refused.is _ _ _ _ c.refused.ensures
+pub returns-in-Err : goal.returns-in-Err
+returns-in-Err c = rw (sym c.read.ensures.answers ∙ c.in-Err.is) (c.refused.ensures, refl, refl)
 
-pub overflow_cast-day : goal.overflow_cast-day
-overflow_cast-day c =
-    let few = planned_steps_are_few (job_in c.read-reading.result.job) c.args.out.now c.plan-day.result _
-    c.plan-day.ensures in
-    record { fits = omega arith }
+pub planned-requires : goal.planned-requires
+planned-requires c = few_steps _ (planned_steps_are_few (job_in c.in-Ok.job) c.args.out.now c.plan-day.result _ c.plan-day.ensures)
 
-pub returns : goal.returns
-returns c =
-    plan_accepted _ _ c.read-reading.ensures.answers c.in_default.is c.args.out.now _ c.args.peaks.now _
-    c.plan-day.result _ c.plan-day.ensures c.day_told.ensures c.put_peaks.ensures
+pub returns-in-Ok : goal.returns-in-Ok
+returns-in-Ok c =
+    rw (sym c.read.ensures.answers ∙ c.in-Ok.is)
+    (c.plan-day.result, c.plan-day.ensures, c.planned.ensures, c.put_peaks.ensures)

@@ -1,31 +1,27 @@
 -- `ruhkevois_true_day` meets its contract: the file is refused, or the true day is told.
+use Rattle.std.proofs.Common.{List, ℕ, Result, refl, sym, ap, ◌∙◌}
+use Rattle.job.specs.Job.{job_in}
 use Rattle.job.specs.declared.refusal.Refusal.{Refusal}
-use Rattle.std.specs.Prelude.{Result, Ok, Err}
-use mathlib.Core.Path.{◌∙◌}
-use Rattle.job.specs.Job.{Job, job_in}
 use Rattle.timeline.specs.declared.Day.{Day}
-use Rattle.true_day.specs.TrueDay.{true_day}
-use Rattle.packing.specs.Answer.{planned_number}
-use Rattle.calls.proofs.Fitting.{true_steps_are_few}
-use Rattle.calls.proofs.CallLaws.{file_refused, peaks_kept, number_accepted, peaks_told}
-use native.Mathlib.Omega.{arith}
+use Rattle.packing.specs.Answer.{planned_number, peaks_by}
+use Rattle.calls.proofs.Fitting.{true_steps_are_few, few_steps}
 use Rattle.calls.proofs.ruhkevois_true_day.Goals as goal
 
-pub returns-in-Refused : goal.returns-in-Refused
-returns-in-Refused c =
-    let read = c.read-reading.ensures.answers in
-    let why = c.in-Refused.is in
-    record { value = c.refused.ensures ∙ file_refused _ _ read _ why _; peaks_after = peaks_kept _ _ read _ why _ _ }
+pub returns-in-Err : goal.returns-in-Err
+returns-in-Err c =
+    let read = sym c.read.ensures.answers ∙ c.in-Err.is in
+    record { value = rw read c.refused.ensures; peaks_after = rw read refl }
 
-pub overflow_cast-day : goal.overflow_cast-day
-overflow_cast-day c =
-    let few = true_steps_are_few (job_in c.read-reading.result.job) c.args.plan.now c.args.lengths.now
-    c.true_day-day.result c.true_day-day.ensures.answers in
-    record { fits = omega arith }
+pub planned-requires : goal.planned-requires
+planned-requires c =
+    few_steps _ (true_steps_are_few (job_in c.in-Ok.job) c.args.plan.now c.args.lengths.now
+    c.true_day-day.result c.true_day-day.ensures.answers)
 
-pub returns : goal.returns
-returns c =
-    let read = c.read-reading.ensures.answers in
-    let pass = c.in_default.is in
+pub returns-in-Ok : goal.returns-in-Ok
+returns-in-Ok c =
+    let read = sym c.read.ensures.answers ∙ c.in-Ok.is in
     let told = c.true_day-day.ensures.answers in
-    let said : Job → Result Day Refusal = λ J. true_day J c.args.plan.now c.args.lengths.now in record { value = c.day_told.ensures ∙ number_accepted _ _ read pass said planned_number _ told; peaks_after = peaks_told _ _ read pass said _ _ _ told c.put_peaks.ensures }
+    record {
+      value = rw read (c.planned.ensures ∙ ap planned_number told);
+      peaks_after = rw read (c.put_peaks.ensures ∙ ap (λ (d : Result Day Refusal). peaks_by d c.args.peaks.now) told);
+    }

@@ -5,8 +5,8 @@ use Rattle.job.proofs.Table.{value_given, no_value_given}
 use Rattle.job.specs.Job.{job_in}
 use Rattle.halving.specs.Halves.{FirstListed}
 use Rattle.halving.proofs.WaysOut.{halves_refused, halves_foreign, halves_short_slice}
-use Rattle.halving.proofs.Planning.{no_first, first_few, first_inside, first_whole, first_accepted, no_second}
-use Rattle.halving.proofs.Planning.{second_few, second_inside, second_whole, both_joined}
+use Rattle.halving.proofs.Planning.{no_first, first_few, first_whole, first_accepted, no_second}
+use Rattle.halving.proofs.Planning.{second_few, second_whole, both_joined}
 use native.Mathlib.Omega.{arith}
 use Rattle.halving.proofs.halves.Goals as goal
 
@@ -43,8 +43,8 @@ returns-in_err-first c =
     no_first (job_in c.args.job) c.args.halfway c.args.out.now valid own c.first_half.result
     c.first_half.ensures c.if-out-lt-BYTES.false (sym c.flatten.ensures ∙ none.0) _ (e ∙ ap Err (sym none.1))
 
-pub overflow_mul-end : goal.overflow_mul-end
-overflow_mul-end c =
+pub overflow_mul-morning : goal.overflow_mul-morning
+overflow_mul-morning c =
     let valid = sym c.validate.ensures ∙ c.in_ok-validate.was in
     let own = sym c.foreign.ensures.0 ∙ c.if-foreign.false in
     let first = sym c.flatten.ensures ∙ value_given c.flatten.result NoPlan _ (sym c.ok_or.ensures.value ∙ c.in_ok-first.was) in
@@ -54,14 +54,6 @@ overflow_mul-end c =
 
 pub slice_bounds-morning-end : goal.slice_bounds-morning-end
 slice_bounds-morning-end c =
-    let valid = sym c.validate.ensures ∙ c.in_ok-validate.was in
-    let own = sym c.foreign.ensures.0 ∙ c.if-foreign.false in
-    let first = sym c.flatten.ensures ∙ value_given c.flatten.result NoPlan _ (sym c.ok_or.ensures.value ∙ c.in_ok-first.was) in
-    first_inside (job_in c.args.job) c.args.halfway c.args.out.now valid own c.first_half.result
-    c.first_half.ensures _ first
-
-pub slice_bounds-second_half-end : goal.slice_bounds-second_half-end
-slice_bounds-second_half-end c =
     let valid = sym c.validate.ensures ∙ c.in_ok-validate.was in
     let own = sym c.foreign.ensures.0 ∙ c.if-foreign.false in
     let first = sym c.flatten.ensures ∙ value_given c.flatten.result NoPlan _ (sym c.ok_or.ensures.value ∙ c.in_ok-first.was) in
@@ -87,8 +79,8 @@ returns-in_err-second c =
     c.first_half.ensures _ first c.if-out-lt-BYTES.false
     c.second_half.result c.second_half.ensures (sym c.flatten-2.ensures ∙ none.0) _ (e ∙ ap Err (sym none.1))
 
-pub overflow_mul-later-end : goal.overflow_mul-later-end
-overflow_mul-later-end c =
+pub overflow_mul-later : goal.overflow_mul-later
+overflow_mul-later c =
     let valid = sym c.validate.ensures ∙ c.in_ok-validate.was in
     let own = sym c.foreign.ensures.0 ∙ c.if-foreign.false in
     let first = sym c.flatten.ensures ∙ value_given c.flatten.result NoPlan _ (sym c.ok_or.ensures.value ∙ c.in_ok-first.was) in
@@ -100,24 +92,6 @@ overflow_mul-later-end c =
 
 pub slice_bounds-later-end : goal.slice_bounds-later-end
 slice_bounds-later-end c =
-    let valid = sym c.validate.ensures ∙ c.in_ok-validate.was in
-    let own = sym c.foreign.ensures.0 ∙ c.if-foreign.false in
-    let first = sym c.flatten.ensures ∙ value_given c.flatten.result NoPlan _ (sym c.ok_or.ensures.value ∙ c.in_ok-first.was) in
-    let second = sym c.flatten-2.ensures ∙ value_given c.flatten-2.result NoPlan _ (sym c.ok_or-2.ensures.value ∙ c.in_ok-second.was) in
-    second_inside (job_in c.args.job) c.args.halfway c.args.out.now valid own c.first_half.result
-    c.first_half.ensures _ first c.if-out-lt-BYTES.false
-    c.second_half.result c.second_half.ensures _ second
-
-pub slice_bounds-join-end : goal.slice_bounds-join-end
-slice_bounds-join-end c =
-    let valid = sym c.validate.ensures ∙ c.in_ok-validate.was in
-    let own = sym c.foreign.ensures.0 ∙ c.if-foreign.false in
-    let first = sym c.flatten.ensures ∙ value_given c.flatten.result NoPlan _ (sym c.ok_or.ensures.value ∙ c.in_ok-first.was) in
-    sym (first_whole (job_in c.args.job) c.args.halfway c.args.out.now valid own c.first_half.result
-    c.first_half.ensures _ first)
-
-pub slice_bounds-join-end-2 : goal.slice_bounds-join-end-2
-slice_bounds-join-end-2 c =
     let valid = sym c.validate.ensures ∙ c.in_ok-validate.was in
     let own = sym c.foreign.ensures.0 ∙ c.if-foreign.false in
     let first = sym c.flatten.ensures ∙ value_given c.flatten.result NoPlan _ (sym c.ok_or.ensures.value ∙ c.in_ok-first.was) in

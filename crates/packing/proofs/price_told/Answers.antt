@@ -4,10 +4,10 @@ use Rattle.packing.specs.Answer.{priced_number}
 use Rattle.packing.proofs.price_told.Goals as goal
 
 pub pack_price-requires : goal.pack_price-requires
-pack_price-requires c = c.requires _ c.in-Cents.is
+pack_price-requires c = c.requires _ c.in-Ok.is
 
-pub returns-in-Cents : goal.returns-in-Cents
-returns-in-Cents c = c.pack_price.ensures ∙ sym (ap priced_number c.in-Cents.is)
+pub returns-in-Ok : goal.returns-in-Ok
+returns-in-Ok c = c.pack_price.ensures ∙ sym (ap priced_number c.in-Ok.is)
 
-pub returns-in-Refused : goal.returns-in-Refused
-returns-in-Refused c = c.refused.ensures ∙ sym (ap priced_number c.in-Refused.is)
+pub returns-in-Err : goal.returns-in-Err
+returns-in-Err c = c.refused.ensures ∙ sym (ap priced_number c.in-Err.is)

@@ -1,8 +1,7 @@
 -- `refused` meets its contract.
-use Prim.Native.Nat.{ℕ}
-use mathlib.Core.Path.{ap, ◌∙◌}
+use Rattle.std.proofs.Common.{ℕ, ap, ◌∙◌}
 use Rattle.packing.specs.Answer.{packed}
 use Rattle.packing.proofs.refused.Goals as goal
 
 pub returns : goal.returns
-returns c = c.pack.ensures ∙ ap (λ (n : ℕ). packed 1 n 0 0) c.number.ensures
+returns c = c.pack.ensures ∙ ap (λ (n : ℕ). packed 1 n 0 0) c.from.ensures

@@ -6,11 +6,11 @@ use Rattle.packing.proofs.written.Goals as goal
 
 pub overflow_cast-length : goal.overflow_cast-length
 overflow_cast-length c =
-    let short = c.requires _ c.in-Length.is in
+    let short = c.requires _ c.in-Ok.is in
     record { fits = omega arith }
 
-pub returns-in-Length : goal.returns-in-Length
-returns-in-Length c = c.pack.ensures ∙ sym (ap written_number c.in-Length.is)
+pub returns-in-Ok : goal.returns-in-Ok
+returns-in-Ok c = c.pack.ensures ∙ sym (ap written_number c.in-Ok.is)
 
-pub returns-in-Refused : goal.returns-in-Refused
-returns-in-Refused c = c.refused.ensures ∙ sym (ap written_number c.in-Refused.is)
+pub returns-in-Err : goal.returns-in-Err
+returns-in-Err c = c.refused.ensures ∙ sym (ap written_number c.in-Err.is)
