@@ -8,7 +8,7 @@ use std::io;
 use timeline::Day;
 
 // Why there is no end that both say.
-#[derive(Clone, Copy)]
+#[derive(Clone, Copy, PartialEq, Eq)]
 pub enum NoEnd {
     Refused(Refusal), // by both
     TooLarge, // for the second planner
@@ -34,7 +34,13 @@ pub fn unless_differs(same: bool, told: Outcome) -> Outcome {
 
 // What the second planner tells, if a call answers the same: a day for the goal that ends then, in the slice, or that
 // refusal.
-pub fn beside_call(told: Outcome, job: Job, goal: u64, slice: &[u8], day: Day) -> Outcome {
+pub fn beside_call(
+    told: Outcome,
+    job: Job,
+    goal: u64,
+    slice: &[u8],
+    day: Result<Day, Refusal>,
+) -> Outcome {
     let same = match told {
         Ok(end) => lent::handed_out(job, goal, slice, day, end),
         Err(NoEnd::Refused(why)) => lent::refused(slice, day, why),

@@ -2,7 +2,7 @@
 #![tactic(auto)]
 
 use job::Job;
-use job::refusal::{Refusal, Verdict, number};
+use job::refusal::Refusal;
 use timeline::{Day, Plan};
 
 // What a byte of the slice holds before.
@@ -31,33 +31,37 @@ pub fn kept(slice: &[u8], from: usize) -> bool {
 
 // Whether the checker accepts the plan for the goal, with the end, the steps and the peaks that are told of it.
 fn accepted(job: Job, goal: u64, plan: &[u8], told: Day) -> bool {
-    let day = checker::check_for(job, goal, plan);
-    match day.verdict {
-        Verdict::Pass => {
-            day.end == told.end && day.steps == told.steps && day.peaks == told.peaks
-        }
-        Verdict::Refused(_) => false,
+    match checker::check_for(job, goal, plan) {
+        Ok(day) => day.end == told.end && day.steps == told.steps && day.peaks == told.peaks,
+        Err(_) => false,
+    }
+}
+
+// The plan that a call left at the front of the slice, no steps beside a refusal.
+pub fn plan_of(slice: &[u8], day: Result<Day, Refusal>) -> &[u8] {
+    match day {
+        Ok(day) => first_steps(slice, day.steps),
+        Err(_) => &[],
     }
 }
 
 // Whether the day ends at this minute, its steps stand at the front of the slice and are accepted for the goal as told,
 // and the rest is as before.
-pub fn handed_out(job: Job, goal: u64, slice: &[u8], day: Day, end: u32) -> bool {
-    let plan = first_steps(slice, day.steps);
-    match day.verdict {
-        Verdict::Pass => {
-            day.end == end && accepted(job, goal, plan, day) && kept(slice, plan.len())
-        }
-        Verdict::Refused(_) => false,
+pub fn handed_out(
+    job: Job,
+    goal: u64,
+    slice: &[u8],
+    day: Result<Day, Refusal>,
+    end: u32,
+) -> bool {
+    let plan = plan_of(slice, day);
+    match day {
+        Ok(day) => day.end == end && accepted(job, goal, plan, day) && kept(slice, plan.len()),
+        Err(_) => false,
     }
 }
 
 // Whether the day is refused so, and the whole slice is as before.
-pub fn refused(slice: &[u8], day: Day, by: Refusal) -> bool {
-    match day.verdict {
-        Verdict::Pass => false,
-        Verdict::Refused(why) => {
-            number(why) == number(by) && day.peaks == Day::refused(why).peaks && kept(slice, 0)
-        }
-    }
+pub fn refused(slice: &[u8], day: Result<Day, Refusal>, by: Refusal) -> bool {
+    day.err() == Some(by) && kept(slice, 0)
 }

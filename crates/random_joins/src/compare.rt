@@ -1,7 +1,7 @@
 // Three plans joined both ways: the first with the second and then the third, and the first with what the other two give.
 use job::Job;
-use job::refusal::{Refusal, Verdict, number};
-use lent::{FILL, first_steps, kept};
+use job::refusal::Refusal;
+use lent::{FILL, first_steps, kept, plan_of};
 use timeline::{Day, Plan};
 
 // More bytes than a plan has.
@@ -10,8 +10,8 @@ const SLICE: usize = 100;
 // The answers of the two joins, one after the other. Where the first is refused the last has its refusal.
 #[derive(Clone, Copy)]
 pub struct Way {
-    pub first: Day,
-    pub last: Day,
+    pub first: Result<Day, Refusal>,
+    pub last: Result<Day, Refusal>,
 }
 
 // What came of both ways, and whether the two are the same.
@@ -22,62 +22,35 @@ pub struct Compared {
     pub same: bool,
 }
 
-pub fn refusal(day: Day) -> Option<Refusal> {
-    match day.verdict {
-        Verdict::Pass => None,
-        Verdict::Refused(why) => Some(why),
-    }
-}
-
-// The plan of a first call joined by a second one, unless the first was refused.
-fn both_joins<F: FnOnce(&[u8], &mut [u8]) -> Day>(
-    first: Day,
-    plan: &[u8; Plan::BYTES],
-    second: F,
-    out: &mut [u8],
-) -> Way
-    requires { F.IsAlwaysCallable second }
-{
-    let last = match refusal(first) {
-        Some(_) => first,
-        None => second(first_steps(plan, first.steps), out),
-    };
-    Way { first, last }
-}
-
 fn from_the_left(job: Job, [a, b, c]: [&[u8]; 3], out: &mut [u8]) -> Way {
     let mut both = [FILL; Plan::BYTES];
     let first = joining::join(job, a, b, &mut both);
-    both_joins(
+    Way {
         first,
-        &both,
-        |plan, out| joining::join(job, plan, c, out),
-        out,
-    )
+        last: first.and_then(|day| joining::join(job, first_steps(&both, day.steps), c, out)),
+    }
 }
 
 fn from_the_right(job: Job, [a, b, c]: [&[u8]; 3], out: &mut [u8]) -> Way {
     let mut both = [FILL; Plan::BYTES];
     let first = joining::join(job, b, c, &mut both);
-    both_joins(
+    Way {
         first,
-        &both,
-        |plan, out| joining::join(job, a, plan, out),
-        out,
-    )
+        last: first.and_then(|day| joining::join(job, a, first_steps(&both, day.steps), out)),
+    }
 }
 
 // Whether two answers are the same.
-fn same_day(a: Day, b: Day) -> bool {
-    refusal(a).map(number) == refusal(b).map(number)
-        && a.end == b.end
-        && a.steps == b.steps
-        && a.peaks == b.peaks
+fn same_day(a: Result<Day, Refusal>, b: Result<Day, Refusal>) -> bool {
+    match (a, b) {
+        (Ok(a), Ok(b)) => a.end == b.end && a.steps == b.steps && a.peaks == b.peaks,
+        _ => a.err() == b.err(),
+    }
 }
 
 // Whether the bytes behind the plan of an answer are as before; after a refusal, all of them.
-fn rest_kept(slice: &[u8], day: Day) -> bool {
-    kept(slice, first_steps(slice, day.steps).len())
+fn rest_kept(slice: &[u8], day: Result<Day, Refusal>) -> bool {
+    kept(slice, plan_of(slice, day).len())
 }
 
 // Both ways, in slices with a few bytes more than a plan has.
@@ -101,6 +74,6 @@ pub fn empty_changes_nothing(job: Job, plan: &[u8]) -> bool {
     let behind = joining::join(job, plan, &[], &mut other);
     slice == other
         && same_day(before, behind)
-        && first_steps(&slice, before.steps) == plan
+        && plan_of(&slice, before) == plan
         && rest_kept(&slice, before)
 }

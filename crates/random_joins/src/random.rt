@@ -1,5 +1,5 @@
 // Many triples: how many are joined, how many are refused and where, and how often the two ways differ.
-use crate::compare::{Compared, both_ways, empty_changes_nothing, refusal};
+use crate::compare::{Compared, both_ways, empty_changes_nothing};
 use crate::draw;
 use compared::{one_more, over_seeds};
 use job::Job;
@@ -23,24 +23,28 @@ struct Counts {
 }
 
 // Whether a join is refused by 34.
-fn is_too_long(day: Day) -> bool {
-    matches!(refusal(day), Some(Refusal::JoinedTooLong))
+fn is_too_long(day: Result<Day, Refusal>) -> bool {
+    day.err() == Some(Refusal::JoinedTooLong)
 }
 
 impl Counts {
-    // With a triple more.
-    fn add(&mut self, job: &Job, found: &Compared) {
-        let day = found.left.last;
-        match refusal(day) {
-            None => one_more(&mut self.days),
-            Some(Refusal::JoinedTooLong) => one_more(&mut self.refused),
-            Some(_) => one_more(&mut self.other),
-        }
+    // With a joined day more.
+    fn add_day(&mut self, job: &Job, day: Day) {
+        one_more(&mut self.days);
         if day.steps == Plan::STEPS {
             one_more(&mut self.full);
         }
         if day.end == u32::from(job.deadline) {
             one_more(&mut self.late);
+        }
+    }
+
+    // With a triple more.
+    fn add(&mut self, job: &Job, found: &Compared) {
+        match found.left.last {
+            Ok(day) => self.add_day(job, day),
+            Err(Refusal::JoinedTooLong) => one_more(&mut self.refused),
+            Err(_) => one_more(&mut self.other),
         }
         match (
             is_too_long(found.left.first),
@@ -65,7 +69,8 @@ impl Counts {
         let third = draw::plan(&job, part(seed, 3), &mut bytes);
         let plans = [first, second, third];
         let whole = both_ways(job, plans);
-        job.deadline = draw::deadline(seed, whole.left.last.end);
+        let end = whole.left.last.map_or(0, |day| day.end);
+        job.deadline = draw::deadline(seed, end);
         let found = both_ways(job, plans);
         if !(whole.same && found.same && empty_changes_nothing(job, first)) {
             one_more(&mut self.differences);

@@ -1,5 +1,4 @@
 // Pairs of very small jobs, so that the second planner can try every plan of the pooled job.
-use job::refusal::Verdict;
 use job::{Form, Job};
 use made_jobs::parts::{with_counts, with_handovers, with_reserve};
 use random_jobs::{draw, random_job};
@@ -49,11 +48,7 @@ fn small(seed: u64) -> Job {
 
 fn has_plan(job: Job) -> bool {
     let mut slice = [0u8; Plan::BYTES];
-    let day = planner::plan(job, &mut slice);
-    match day.verdict {
-        Verdict::Pass => true,
-        Verdict::Refused(_) => false,
-    }
+    planner::plan(job, &mut slice).is_ok()
 }
 
 // The first of some small jobs that has a plan, or another where none has.

@@ -2,8 +2,8 @@
 // bytes that it leaves.
 use compared::{NoEnd, Outcome, beside_call, unless_differs};
 use job::Job;
-use job::refusal::{Refusal, Verdict};
-use lent::{first_steps, front};
+use job::refusal::Refusal;
+use lent::{first_steps, plan_of};
 use second::NoMakespan;
 use timeline::Plan;
 
@@ -33,11 +33,7 @@ pub fn steps_before(plan: &[u8], minute: u16) -> &[u8] {
 impl Begun {
     // Whether the steps alone are accepted for the goal.
     pub fn suffice(&self, steps: &[u8]) -> bool {
-        let day = checker::check_for(self.job, self.goal, steps);
-        match day.verdict {
-            Verdict::Pass => true,
-            Verdict::Refused(_) => false,
-        }
+        checker::check_for(self.job, self.goal, steps).is_ok()
     }
 
     // Whether the plan keeps these steps: no other of its steps starts before the minute, and none is added where these
@@ -67,7 +63,7 @@ impl Begun {
         let day = replanner::replan(self.job, current, minute, self.goal, &mut slice);
         let outcome = beside_call(self.told(current), self.job, self.goal, &slice, day);
         match outcome {
-            Ok(_) => unless_differs(self.keeps(kept, first_steps(&slice, day.steps)), outcome),
+            Ok(_) => unless_differs(self.keeps(kept, plan_of(&slice, day)), outcome),
             Err(_) => outcome,
         }
     }

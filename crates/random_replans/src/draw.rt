@@ -21,8 +21,8 @@ pub fn new_goal(seed: u64, job: &Job) -> u64 {
 // the current plan. An accepted plan without its last steps still passes 12 to 19.
 pub fn current_steps(seed: u64, mut job: Job, slice: &mut [u8]) -> usize {
     job.goal = other_goal(draw::part(seed, OLD_GOAL), &job);
-    let day = planner::plan(job, slice);
-    day.steps.min(1 + usize::from(draw::number(seed, STEPS, 4)))
+    let most = 1 + usize::from(draw::number(seed, STEPS, 4));
+    planner::plan(job, slice).map_or(0, |day| day.steps.min(most))
 }
 
 // Minutes 0 to 10, the early ones more often, since most plans are short. No deadline is after 9.

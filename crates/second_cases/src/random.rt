@@ -1,7 +1,7 @@
 // Random small jobs: how many have a plan, the sum of their least ends, and how many are refused by 26.
 use compared::{NoEnd, Totals, one_more, over_seeds};
 use job::Job;
-use job::refusal::{Refusal, Verdict};
+use job::refusal::Refusal;
 use job::validate::validate;
 use std::io;
 
@@ -13,10 +13,7 @@ struct Counts {
 }
 
 fn is_invalid(job: Job) -> bool {
-    match validate(job) {
-        Verdict::Pass => false,
-        Verdict::Refused(why) => !matches!(why, Refusal::UseBeyond),
-    }
+    validate(job).is_err_and(|why| why != Refusal::UseBeyond)
 }
 
 impl Counts {
