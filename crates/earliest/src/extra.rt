@@ -6,7 +6,7 @@ ghost use Rattle.earliest.specs.Sweep.{IsAction};
 use job::{Action, Job};
 use timeline::Plan;
 
-// The first `count` of these actions. Their pools and stores are those of the job.
+// The first `count` of these actions. Their pools and stores are those of the job. An array with a count: no heap.
 #[derive(Clone, Copy)]
 pub struct Extra {
     pub count: usize,

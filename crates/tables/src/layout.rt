@@ -1,4 +1,5 @@
-// Where the search's tables have what: a row for each action first, then a place for each fact and kind of number.
+// Where the search's tables have what: a row for each action first, then a place for each fact and kind of number. The
+// two have other columns; a trait of both would be used by no function.
 use job::Job;
 
 // The table of sets.

@@ -67,7 +67,7 @@ impl Frame {
     }
 }
 
-// The chosen steps, in the order in which they were chosen: each an action and its start.
+// The chosen steps, in the order in which they were chosen: each an action and its start. Arrays with a count: no heap.
 #[derive(Clone, Copy)]
 pub struct Steps {
     pub count: usize,
