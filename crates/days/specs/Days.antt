@@ -9,7 +9,7 @@ use Rattle.job.specs.declared.Form.TheVariants.{Four, Five, Six}
 use Rattle.job.specs.declared.StoreRule.{StoreRule}
 use Rattle.job.specs.declared.StoreRule.TheVariants.{PerStep, PerHour}
 use Rattle.job.specs.declared.refusal.Refusal.TheVariants.{NoPlan}
-use Rattle.timeline.specs.declared.Day.{Day}
+use Rattle.timeline.specs.declared.Day as told
 use Rattle.checker.specs.Check.{check_plan}
 use Rattle.times.specs.Time.{Time, at}
 use Rattle.times.specs.Earliest.{Table, time_of, Solves}
@@ -143,7 +143,7 @@ abbrev pub step : ℕ → ℕ → List ℕ
 step action start = to_bytes 1 action ++ to_bytes 2 start
 
 -- an accepted plan of a job without pools: its end and its number of steps, and no peaks
-abbrev pub accepted : ℕ → ℕ → Reply Day
+abbrev pub accepted : ℕ → ℕ → Reply told.Day
 accepted end steps = returned (record { end = end; steps = steps; peaks = replicate 4 0 })
 
 -- ── the list ──
@@ -155,7 +155,7 @@ pub data Day : Type 0 where
   -- the earliest time of a set of facts, by the one table that solves the equations
   earliest : Job → ℕ → Time → Day
   -- the checker's reply to a plan
-  checked : Job → List ℕ → Reply Day → Day
+  checked : Job → List ℕ → Reply told.Day → Day
 
 -- the least end, or the refusal for "no plan that passes 12 to 20"
 abbrev pub end_reply : Makespan → Reply ℕ
