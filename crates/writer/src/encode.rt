@@ -121,22 +121,6 @@ fn minutes(out: &mut [u8], at: usize, xs: &[u8], n: usize)
     }
 }
 
-// The first n handovers, from place `at` on.
-fn handovers(out: &mut [u8], at: usize, xs: [u8; Job::POOLS], n: usize)
-    requires { (n ≤ 4) × (at + n ≤ length out.old) }
-    ensures { out.new ≡ overwrite out.old at (minute_bytes (firsts n 0 xs)) }
-{
-    minutes(out, at, &xs, n);
-}
-
-// The first n shortest lengths, from place `at` on.
-fn shortest(out: &mut [u8], at: usize, xs: [u8; Job::ACTIONS], n: usize)
-    requires { (n ≤ 64) × (at + n ≤ length out.old) }
-    ensures { out.new ≡ overwrite out.old at (minute_bytes (firsts n 0 xs)) }
-{
-    minutes(out, at, &xs, n);
-}
-
 // One action of a job with these counts, from place `at` on.
 fn action(out: &mut [u8], at: usize, counts: Counts, a: Action)
     requires { Fits counts × (at + action_size counts.pools counts.stores ≤ length out.old) }
@@ -175,8 +159,6 @@ pub fn file(out: &mut [u8], job: Job, layout: Layout, at: Places)
     let counts = job.counts;
     let pools = job.pools;
     let stores = job.stores;
-    let waits = job.handovers;
-    let least = job.shortest;
     let size = Layout::action_size(counts.pools, counts.stores);
     let entries = numbers(layout, at);
     contents(out, entries, ENTRY_NUMBERS * form.entries());
@@ -184,6 +166,6 @@ pub fn file(out: &mut [u8], job: Job, layout: Layout, at: Places)
     amounts(out, at.pools, pools, counts.pools);
     amounts(out, at.stores, stores, counts.stores);
     actions(out, at.actions, size, job);
-    handovers(out, at.handovers, waits, layout.handovers);
-    shortest(out, at.shortest, least, layout.shortest);
+    minutes(out, at.handovers, &job.handovers, layout.handovers);
+    minutes(out, at.shortest, &job.shortest, layout.shortest);
 }

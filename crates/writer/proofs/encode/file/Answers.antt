@@ -1,6 +1,8 @@
 -- `file` meets its contract: seven writes one after the other.
 use Prim.Native.Nat.{ℕ, ◌*◌}
-use mathlib.Core.Path.{ap, ◌∙◌}
+use mathlib.Core.Path.{◌≡◌, ap, ◌∙◌}
+use lib.ListN.{length}
+use Rattle.std.proofs.Common.{rules}
 use Rattle.lists.specs.Lists.{firsts}
 use Rattle.job.specs.Job.{entries}
 use Rattle.jobfile.proofs.Lengths.{most_entries}
@@ -40,20 +42,22 @@ actions-requires c =
     let r = room_for_parts c.args.job _ _ _ c.requires.0 c.requires.1 in
     (c.requires.0, c.action_size-size.ensures, rw c.action_size-size.ensures (omega arith))
 
-pub handovers-requires : goal.handovers-requires
-handovers-requires c =
+pub minutes-requires : goal.minutes-requires
+minutes-requires c =
     let r = room_for_parts c.args.job _ _ _ c.requires.0 c.requires.1 in
+    let places : length c.args.job.handovers ≡ 4 = search rules in
     (omega arith, omega arith)
 
-pub shortest-requires : goal.shortest-requires
-shortest-requires c =
+pub minutes-requires-2 : goal.minutes-requires-2
+minutes-requires-2 c =
+    let places : length c.args.job.shortest ≡ 64 = search rules in
     let r = room_for_parts c.args.job _ _ _ c.requires.0 c.requires.1 in
     let kept0 = c.contents.auto.out in
     let kept1 = c.head.auto.out in
     let kept2 = c.amounts.auto.out in
     let kept3 = c.amounts-2.auto.out in
     let kept4 = c.actions.auto.out in
-    let kept5 = c.handovers.auto.out in
+    let kept5 = c.minutes.auto.out in
     (omega arith, omega arith)
 
 pub returns : goal.returns
@@ -65,8 +69,8 @@ returns c =
     ∙ ap (firsts (2 * entries a.job.form) 0) c.numbers-entries.ensures
     ∙ numbers_are a.job a.layout a.at a.out.now room in
     rw (
-      c.shortest.ensures,
-      c.handovers.ensures,
+      c.minutes-2.ensures,
+      c.minutes.ensures,
       c.actions.ensures,
       c.amounts-2.ensures,
       c.amounts.ensures,
