@@ -158,10 +158,9 @@ module _ (at : ℕ → Step) where
       ]
 
 -- ── a loop over the first steps of a plan, as a slice ──
-pub front_step : (plan : Plan) (i : ℕ) → i < length (take plan.length plan.steps)
-    → get_or (take plan.length plan.steps) i beyond_step ≡ get_or plan.steps i beyond_step
-front_step plan i here =
-    get_or-take plan.length plan.steps i beyond_step (omega (arith, length-take plan.length plan.steps))
+pub front_step : (plan : Plan) (n i : ℕ) → i < length (take n plan.steps)
+    → get_or (take n plan.steps) i beyond_step ≡ get_or plan.steps i beyond_step
+front_step plan n i here = get_or-take n plan.steps i beyond_step (omega (arith, length-take n plan.steps))
 
 -- ── the steps of a plan by value, with one step more ──
 pub one_more_step : (plan : Plan) (n : Counts) → plan.counts ≡ n → (charge : Step → ℕ) (i sum r : ℕ)

@@ -47,6 +47,7 @@ pub fn step(job: Job, number: u8, start: u32) -> Step
         number,
         action,
         start,
+        // A cast: the proof knows the range of the field, and not that of what `u32::from` gives of it.
         stop: start + action.duration as u32,
     }
 }

@@ -67,9 +67,8 @@ fn clashes_earlier(plan: Plan, i: usize) -> bool
     ensures { result ≡ any (λ x. clashing x (step_at plan i)) (tabulate i (step_at plan)) }
 {
     let step = plan.steps[i];
-    for j in 0..i {
-        let other = plan.steps[j];
-        if clashing(other, step) {
+    for other in &plan.steps[..i] {
+        if clashing(*other, step) {
             return true;
         }
     }

@@ -19,10 +19,10 @@ loop-step-preserved c =
     let t = c.args.minute in
     let l = c.loop-step in (
       c.union-deletes.ensures.0
-          ∙ rw (l.invariant.0, rw (front_step c.args.plan _ c.loop-step-test.true) at (c.if_stops.ensures p.counts))
+          ∙ rw (l.invariant.0, rw (front_step c.args.plan _ _ c.loop-step-test.true) at (c.if_stops.ensures p.counts))
           (sym (union_more (step_at p) (λ x. if_stops t x.action.deletes x) l.step-index)),
       c.union-adds.ensures.0
-          ∙ rw (l.invariant.1, rw (front_step c.args.plan _ c.loop-step-test.true) at (c.if_stops-in-loop-step.ensures p.counts))
+          ∙ rw (l.invariant.1, rw (front_step c.args.plan _ _ c.loop-step-test.true) at (c.if_stops-in-loop-step.ensures p.counts))
           (sym (union_more (step_at p) (λ x. if_stops t x.action.adds x) l.step-index)),
     )
 

@@ -30,7 +30,7 @@ loop-step-preserved c =
     let s = c.share-sum.ensures.small in (
       omega arith,
       λ J e.
-          rw (l.invariant.1 J e, rw (front_step c.args.plan _ c.loop-step-test.true) at (c.share-sum.ensures.counts J p.counts e c.requires.2))
+          rw (l.invariant.1 J e, rw (front_step c.args.plan _ _ c.loop-step-test.true) at (c.share-sum.ensures.counts J p.counts e c.requires.2))
           (sym (total_more (step_at p) (λ x. cond (has_share J a.pool a.minute x)
           (get_or x.action.pools a.pool 0) 0)
           l.step-index)),

@@ -17,7 +17,7 @@ loop-step-init c = λ J e. refl
 
 pub loop-step-preserved : goal.loop-step-preserved
 loop-step-preserved c = λ J e.
-    c.max-most.ensures ∙ ap₂ max (c.loop-step.invariant J e) (rw (front_step c.args.plan _ c.loop-step-test.true) at (c.in_use.ensures J e))
+    c.max-most.ensures ∙ ap₂ max (c.loop-step.invariant J e) (rw (front_step c.args.plan _ _ c.loop-step-test.true) at (c.in_use.ensures J e))
     ∙ sym (largest_more (step_at c.args.plan) (used_at J c.args.plan c.args.pool) c.loop-step.step-index)
 
 pub returns : goal.returns

@@ -6,5 +6,5 @@ use Rattle.timeline.specs.Accepted.{clashing}
 use Rattle.timeline.specs.Value.{step_at}
 use Rattle.checker.proofs.rules.clashes_earlier.Given as goal
 
-abbrev pub invariant-loop-j : goal.invariant-loop-j
-invariant-loop-j l = (any (λ x. clashing x (step_at l.plan l.i)) (tabulate l.j (step_at l.plan)) ≡ false)
+abbrev pub invariant-loop-other : goal.invariant-loop-other
+invariant-loop-other l = (any (λ x. clashing x (step_at l.fn.plan l.i)) (tabulate l.other-index (step_at l.fn.plan)) ≡ false)

@@ -24,11 +24,11 @@ returns-then-from-step c =
     let inside : i < p.length = grind (arith, common_steps) in
     sym (first_here AfterDeadline _ []
     (any_found (λ x. over c.args.limit x.stop) (step_at p) i p.length inside
-    (rw (c.from.ensures, front_step p i c.loop-step-test.true) at (lt-ltb _ _ c.if-from-step.true))))
+    (rw (c.from.ensures, front_step p _ i c.loop-step-test.true) at (lt-ltb _ _ c.if-from-step.true))))
 
 pub loop-step-preserved : goal.loop-step-preserved
 loop-step-preserved c = any_more (λ x. over c.args.limit x.stop) (step_at c.args.plan) c.loop-step.step-index c.loop-step.invariant
-    (rw (c.from.ensures, front_step c.args.plan _ c.loop-step-test.true) at (le-ltb _ _ c.if-from-step.false))
+    (rw (c.from.ensures, front_step c.args.plan _ _ c.loop-step-test.true) at (le-ltb _ _ c.if-from-step.false))
 
 pub returns : goal.returns
 unfolding first

@@ -14,7 +14,7 @@ loop-step-init c = refl
 pub loop-step-preserved : goal.loop-step-preserved
 loop-step-preserved c =
     let l = c.loop-step in
-    (rw (front_step c.args.plan l.step-index c.loop-step-test.true) at c.max-latest.ensures)
+    (rw (front_step c.args.plan _ l.step-index c.loop-step-test.true) at c.max-latest.ensures)
     ∙ rw l.invariant (sym (largest_more (step_at c.args.plan) (λ x. x.stop) l.step-index))
 
 pub returns : goal.returns

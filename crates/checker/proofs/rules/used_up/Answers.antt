@@ -30,7 +30,7 @@ loop-step-preserved c =
     let a = c.args in
     let small = (c.charged-amounts.ensures.1 a.store).0 in
     let x = get_or a.plan.steps c.loop-step.step-index beyond_step in
-    let amount = ap (λ (l : List ℕ). get_or l a.store 0) (rw (front_step c.args.plan _ c.loop-step-test.true) at c.charged-amounts.ensures.0)
+    let amount = ap (λ (l : List ℕ). get_or l a.store 0) (rw (front_step c.args.plan _ _ c.loop-step-test.true) at c.charged-amounts.ensures.0)
     ∙ charged_is a.job x.action a.store c.requires.3 (omega arith) in (omega arith, one_more_step a.plan _ c.requires.1 (store_use (job_in a.job) a.store) c.loop-step.step-index _ _ c.loop-step.invariant.1 amount)
 
 pub returns : goal.returns

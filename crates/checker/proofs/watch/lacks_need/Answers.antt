@@ -17,11 +17,11 @@ returns-then-step-clock c =
     let p = c.args.plan in
     let inside : c.loop-step.step-index < p.length = grind (arith, common_steps) in
     sym (any_found (lacks_at c.args.clock) (step_at p) c.loop-step.step-index p.length inside
-    (rw (c.subset.ensures.0, front_step c.args.plan _ c.loop-step-test.true) at c.if-step-clock.true))
+    (rw (c.subset.ensures.0, front_step c.args.plan _ _ c.loop-step-test.true) at c.if-step-clock.true))
 
 pub loop-step-preserved : goal.loop-step-preserved
 loop-step-preserved c = any_more (lacks_at c.args.clock) (step_at c.args.plan) c.loop-step.step-index c.loop-step.invariant
-    (rw (c.subset.ensures.0, front_step c.args.plan _ c.loop-step-test.true) at c.if-step-clock.false)
+    (rw (c.subset.ensures.0, front_step c.args.plan _ _ c.loop-step-test.true) at c.if-step-clock.false)
 
 pub returns : goal.returns
 returns c =
