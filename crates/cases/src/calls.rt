@@ -2,18 +2,14 @@
 use crate::call::Call;
 use crate::lending::ROOM;
 use crate::{Record, days, lending, peaks, pools, rates, replans, true_days};
-use earliest::EarliestTime;
 use job::Job;
-use job::refusal::{Refusal, Verdict, number};
-use jobfile::Written;
+use job::refusal::Refusal;
 use lent::{FILL, front, front_mut};
-use made_jobs::parts::same_everywhere;
-use price::Priced;
 use std::io;
 use timeline::Day;
 
 pub fn refused(rt: &impl Print, why: Refusal) -> io::Result<()> {
-    print!(rt; "refused {}", number(why))
+    print!(rt; "refused {}", u8::from(why))
 }
 
 // Says what is wrong, where something is.
@@ -21,23 +17,15 @@ pub fn unless(rt: &impl Print, holds: bool, wrong: &str) -> io::Result<()> {
     if holds { Ok(()) } else { print!(rt; "{wrong}") }
 }
 
-// The answer to a record. Each call begins with the reader: a file that it refuses leaves a job of zeros.
+// The answer to a record. Each call begins with the reader.
 pub fn answer(rt: &impl Print, record: Record, file: &[u8], plan: &[u8]) -> io::Result<()> {
-    let reading = reader::read(file);
-    let job = reading.job;
-    match reading.verdict {
-        Verdict::Pass => match Call::try_from(record.letter) {
+    match reader::read(file) {
+        Ok(job) => match Call::try_from(record.letter) {
             Ok(call) => answer_for(rt, job, call, record, file, plan),
             Err(why) => print!(rt; "{why}"),
         },
-        Verdict::Refused(why) => print_no_job(rt, why, job),
+        Err(why) => refused(rt, why),
     }
-}
-
-// A refusal, beside which the job is all zero.
-pub fn print_no_job(rt: &impl Print, why: Refusal, job: Job) -> io::Result<()> {
-    refused(rt, why)?;
-    unless(rt, same_everywhere(job, Job::zero()), ", job not zero")
 }
 
 // The answer to a record whose file holds this job.
@@ -71,7 +59,7 @@ fn answer_for(
 fn print_rewritten(rt: &impl Print, job: Job, file: &[u8], length: usize) -> io::Result<()> {
     let mut slice = [FILL; ROOM];
     match writer::write(job, front_mut(&mut slice, length)) {
-        Written::Length(size) => {
+        Ok(size) => {
             let same = front(&slice, size) == file;
             let kept = lent::kept(&slice, size);
             print!(rt;
@@ -80,7 +68,7 @@ fn print_rewritten(rt: &impl Print, job: Job, file: &[u8], length: usize) -> io:
                 if kept { "kept" } else { "changed" }
             )
         }
-        Written::Refused(why) => {
+        Err(why) => {
             let kept = lent::kept(&slice, 0);
             refused(rt, why)?;
             print!(rt; ", slice {}", if kept { "kept" } else { "changed" })
@@ -91,7 +79,7 @@ fn print_rewritten(rt: &impl Print, job: Job, file: &[u8], length: usize) -> io:
 // The bytes that the writer makes, from one place up to another, in hexadecimal digits.
 fn print_bytes(rt: &impl Print, job: Job, from: usize, to: usize) -> io::Result<()> {
     let mut slice = [FILL; ROOM];
-    writer::write(job, &mut slice);
+    let _ = writer::write(job, &mut slice);
     for (at, byte) in lending::rest(front(&slice, to), from).iter().enumerate() {
         if 0 < at {
             print!(rt; " ")?;
@@ -101,24 +89,18 @@ fn print_bytes(rt: &impl Print, job: Job, from: usize, to: usize) -> io::Result<
     Ok(())
 }
 
-// A refusal, beside which the peaks are all zero.
-fn print_no_day(rt: &impl Print, why: Refusal, day: Day) -> io::Result<()> {
-    refused(rt, why)?;
-    unless(rt, day.peaks == Day::refused(why).peaks, ", peaks not zero")
-}
-
-fn print_checked(rt: &impl Print, job: Job, day: Day) -> io::Result<()> {
-    match day.verdict {
-        Verdict::Pass => {
+fn print_checked(rt: &impl Print, job: Job, day: Result<Day, Refusal>) -> io::Result<()> {
+    match day {
+        Ok(day) => {
             print!(rt; "ends {}", day.end)?;
             peaks::print(rt, job, day)
         }
-        Verdict::Refused(why) => print_no_day(rt, why, day),
+        Err(why) => refused(rt, why),
     }
 }
 
 // The price of a plan, before which its rates stand.
-fn priced(job: Job, given: &[u8]) -> Priced {
+fn priced(job: Job, given: &[u8]) -> Result<u64, Refusal> {
     price::price(
         job,
         rates::rates_in(given),
@@ -126,18 +108,18 @@ fn priced(job: Job, given: &[u8]) -> Priced {
     )
 }
 
-fn print_price(rt: &impl Print, price: Priced) -> io::Result<()> {
+fn print_price(rt: &impl Print, price: Result<u64, Refusal>) -> io::Result<()> {
     match price {
-        Priced::Cents(cents) => print!(rt; "{cents} cents"),
-        Priced::Refused(why) => refused(rt, why),
+        Ok(cents) => print!(rt; "{cents} cents"),
+        Err(why) => refused(rt, why),
     }
 }
 
-fn print_time(rt: &impl Print, time: EarliestTime) -> io::Result<()> {
+fn print_time(rt: &impl Print, time: Result<Option<u32>, Refusal>) -> io::Result<()> {
     match time {
-        EarliestTime::At(minute) => print!(rt; "{minute}"),
-        EarliestTime::Unreachable => print!(rt; "unreachable"),
-        EarliestTime::Refused(why) => refused(rt, why),
+        Ok(Some(minute)) => print!(rt; "{minute}"),
+        Ok(None) => print!(rt; "unreachable"),
+        Err(why) => refused(rt, why),
     }
 }
 
@@ -149,11 +131,17 @@ pub fn print_plan(rt: &impl Print, job: Job, length: usize) -> io::Result<()> {
 }
 
 // What is handed out for the goal, or the refusal, after which the slice is as before.
-pub fn print_day(rt: &impl Print, job: Job, goal: u64, slice: &[u8], day: Day) -> io::Result<()> {
-    match day.verdict {
-        Verdict::Pass => print_handed_out(rt, job, goal, slice, day),
-        Verdict::Refused(why) => {
-            print_no_day(rt, why, day)?;
+pub fn print_day(
+    rt: &impl Print,
+    job: Job,
+    goal: u64,
+    slice: &[u8],
+    day: Result<Day, Refusal>,
+) -> io::Result<()> {
+    match day {
+        Ok(day) => print_handed_out(rt, job, goal, slice, day),
+        Err(why) => {
+            refused(rt, why)?;
             unless(rt, lent::kept(slice, 0), ", wrong bytes")
         }
     }
@@ -166,10 +154,10 @@ fn print_told(rt: &impl Print, job: Job, day: Day) -> io::Result<()> {
 }
 
 // A day of which nothing is handed out.
-pub fn print_run(rt: &impl Print, job: Job, day: Day) -> io::Result<()> {
-    match day.verdict {
-        Verdict::Pass => print_told(rt, job, day),
-        Verdict::Refused(why) => print_no_day(rt, why, day),
+pub fn print_run(rt: &impl Print, job: Job, day: Result<Day, Refusal>) -> io::Result<()> {
+    match day {
+        Ok(day) => print_told(rt, job, day),
+        Err(why) => refused(rt, why),
     }
 }
 
@@ -181,6 +169,6 @@ fn print_handed_out(
     day: Day,
 ) -> io::Result<()> {
     print_told(rt, job, day)?;
-    let right = lent::handed_out(job, goal, slice, day, day.end);
+    let right = lent::handed_out(job, goal, slice, Ok(day), day.end);
     unless(rt, right, ", wrong bytes")
 }

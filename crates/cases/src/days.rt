@@ -3,8 +3,8 @@ use crate::Record;
 use crate::calls::{print_day, print_run, unless};
 use crate::lending::{ROOM, leading_number, rest};
 use job::Job;
-use job::refusal::Verdict;
-use lent::{FILL, first_steps, front, front_mut};
+use job::refusal::Refusal;
+use lent::{FILL, front, front_mut, plan_of};
 use std::io;
 use timeline::{Day, Plan};
 
@@ -23,7 +23,7 @@ pub fn print_joined(rt: &impl Print, job: Job, record: Record, given: &[u8]) -> 
     let second = rest(behind, length);
     let day = joining::join(job, first, second, front_mut(&mut slice, record.room));
     print_run(rt, job, day)?;
-    let steps = first_steps(&slice, day.steps);
+    let steps = plan_of(&slice, day);
     unless(rt, lent::kept(&slice, steps.len()), ", wrong bytes")?;
     print_steps(rt, &slice, day)
 }
@@ -46,18 +46,16 @@ pub fn print_listed(rt: &impl Print, job: Job, record: Record, given: &[u8]) -> 
 }
 
 // The steps of the day at the front of the slice, where there is a day.
-fn print_steps(rt: &impl Print, slice: &[u8], day: Day) -> io::Result<()> {
-    if let Verdict::Refused(_) = day.verdict {
+fn print_steps(rt: &impl Print, slice: &[u8], day: Result<Day, Refusal>) -> io::Result<()> {
+    if day.is_err() {
         return Ok(());
     }
     print!(rt; ":")?;
-    if day.steps == 0 {
+    let steps = plan_of(slice, day).as_chunks::<{ Plan::STEP }>().0;
+    if steps.is_empty() {
         print!(rt; " no steps")?;
     }
-    for [action, low, high] in first_steps(slice, day.steps)
-        .as_chunks::<{ Plan::STEP }>()
-        .0
-    {
+    for [action, low, high] in steps {
         print!(rt; " {action}@{}", u16::from_le_bytes([*low, *high]))?;
     }
     Ok(())

@@ -1,19 +1,17 @@
 // Two jobs pooled to one: that of the record's file, and that of the next file.
 use crate::Record;
 use crate::call::Call;
-use crate::calls::{print_no_job, print_plan, refused, unless};
+use crate::calls::{print_plan, refused, unless};
 use crate::lending::{ROOM, leading_number, rest};
 use job::Job;
-use job::refusal::Verdict;
-use jobfile::Written;
 use lent::{FILL, front, front_mut};
 use made_jobs::parts::same_everywhere;
-use pooling::Pooled;
 use std::io;
 
 // The bytes of the next file's length, which stands before it; the file of the pooled job stands behind it.
 const LENGTH: usize = 2;
 
+// The pooled job is planned, or written into a slice of so many bytes.
 pub fn print(
     rt: &impl Print,
     first: Job,
@@ -23,42 +21,23 @@ pub fn print(
 ) -> io::Result<()> {
     let length = leading_number(given, LENGTH) as usize;
     let behind = rest(given, LENGTH);
-    let reading = reader::read(front(behind, length));
-    let second = reading.job;
-    match reading.verdict {
-        Verdict::Pass => {
-            let answer = pooling::pool(first, second);
-            print_answer(rt, answer, call, record, rest(behind, length))
-        }
-        Verdict::Refused(why) => print_no_job(rt, why, second),
-    }
-}
-
-// The pooled job is planned, or written into a slice of so many bytes.
-fn print_answer(
-    rt: &impl Print,
-    answer: Pooled,
-    call: Call,
-    record: Record,
-    expected: &[u8],
-) -> io::Result<()> {
-    let job = answer.job;
-    match answer.verdict {
-        Verdict::Pass if call == Call::PlanPooled => print_plan(rt, job, record.room),
-        Verdict::Pass => print_written(rt, job, record.room, expected),
-        Verdict::Refused(why) => print_no_job(rt, why, job),
+    let second = reader::read(front(behind, length));
+    match second.and_then(|second| pooling::pool(first, second)) {
+        Ok(job) if call == Call::PlanPooled => print_plan(rt, job, record.room),
+        Ok(job) => print_written(rt, job, record.room, rest(behind, length)),
+        Err(why) => refused(rt, why),
     }
 }
 
 fn print_written(rt: &impl Print, job: Job, room: usize, expected: &[u8]) -> io::Result<()> {
     let mut slice = [FILL; ROOM];
     match writer::write(job, front_mut(&mut slice, room)) {
-        Written::Length(size) => {
+        Ok(size) => {
             print!(rt; "{size} bytes")?;
             unless(rt, is_file(&slice, size, expected), ", wrong bytes")?;
             unless(rt, is_job(job, expected), ", job different")
         }
-        Written::Refused(why) => {
+        Err(why) => {
             refused(rt, why)?;
             unless(rt, lent::kept(&slice, 0), ", wrong bytes")
         }
@@ -72,6 +51,5 @@ fn is_file(slice: &[u8], size: usize, expected: &[u8]) -> bool {
 
 // Whether the job is in every place the one of the expected file.
 fn is_job(job: Job, expected: &[u8]) -> bool {
-    let reading = reader::read(expected);
-    same_everywhere(job, reading.job)
+    reader::read(expected).is_ok_and(|read| same_everywhere(job, read))
 }

@@ -3,10 +3,9 @@ use crate::Record;
 use crate::calls::{print_day, unless};
 use crate::lending::{ROOM, leading_number, rest};
 use job::Job;
-use job::refusal::Verdict;
 use lent::{FILL, first_steps, front_mut};
 use std::io;
-use timeline::{Day, Plan};
+use timeline::Plan;
 
 // The bytes of the minute that stands before the current plan.
 const MINUTE: usize = 4;
@@ -19,20 +18,14 @@ pub fn print(rt: &impl Print, job: Job, record: Record, given: &[u8]) -> io::Res
     let room = front_mut(&mut slice, record.room);
     let day = replanner::replan(job, current, minute, record.set, room);
     print_day(rt, job, record.set, &slice, day)?;
-    print_kept(rt, current, minute, first_steps(&slice, day.steps), day)
+    match day {
+        Ok(day) => print_kept(rt, current, minute, first_steps(&slice, day.steps)),
+        Err(_) => Ok(()),
+    }
 }
 
-// How many steps are kept, where there is a day: the same in both plans.
-fn print_kept(
-    rt: &impl Print,
-    current: &[u8],
-    minute: u32,
-    plan: &[u8],
-    day: Day,
-) -> io::Result<()> {
-    if let Verdict::Refused(_) = day.verdict {
-        return Ok(());
-    }
+// How many steps are kept: the same in both plans.
+fn print_kept(rt: &impl Print, current: &[u8], minute: u32, plan: &[u8]) -> io::Result<()> {
     let kept = begun(plan, minute);
     print!(rt; ", {} kept", kept.len())?;
     unless(rt, begun(current, minute) == kept, ", wrong bytes")

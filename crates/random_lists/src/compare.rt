@@ -3,7 +3,7 @@
 use compared::{NoEnd, Outcome, unless_differs};
 use job::Job;
 use job::refusal::Refusal;
-use lent::first_steps;
+use lent::plan_of;
 use second::list::Listed;
 use second::{NoMakespan, list};
 use timeline::Plan;
@@ -23,7 +23,7 @@ pub struct Compared {
 fn same_plan(job: Job, place: u32, plan: &[u8], end: u32) -> bool {
     let mut slice = [lent::FILL; Plan::BYTES];
     let day = lister::list(job, place, &mut slice);
-    lent::handed_out(job, job.goal, &slice, day, end) && first_steps(&slice, day.steps) == plan
+    lent::handed_out(job, job.goal, &slice, day, end) && plan_of(&slice, day) == plan
 }
 
 // Whether the lister refuses the place so.
