@@ -18,13 +18,11 @@ use Rattle.job.specs.declared.Job as held
 use Rattle.job.specs.declared.refusal.Refusal.{Refusal}
 use Rattle.job.specs.declared.refusal.Refusal.TheVariants.{NoPlan, NoPlanWithKept}
 use Rattle.job.specs.Refusal.{Verdict}
-use Rattle.std.specs.Prelude.{Ok, Err}
 use Rattle.job.specs.Refusal.{pass}
 use Rattle.job.proofs.Passed.{passed}
 use Rattle.job.proofs.Table.{first_pass, pass_of_append}
 use Rattle.job.proofs.Values.{job_in_shape}
 use Rattle.jobfile.specs.Answers.{Written}
-use Rattle.std.specs.Prelude.{Ok, Err}
 use Rattle.jobfile.specs.File.{file_of, entries_in, decoded, file_rows}
 use Rattle.jobfile.specs.Answers.{read_rows, reading_of, read_file, write_rows, written_of, write_file}
 use Rattle.jobfile.proofs.Lengths.{file_fits}

@@ -9,7 +9,6 @@ use Rattle.job.specs.Job.{Job, job_in}
 use Rattle.job.specs.Refusal.{reply_of, Row, ◌when◌, first, reply_by}
 use Rattle.job.specs.Valid.{limit_rows, job_rows}
 use Rattle.job.specs.declared.refusal.Refusal.TheVariants.{ForeignAskedFact}
-use Rattle.std.specs.Prelude.{Ok, Err}
 use Rattle.job.specs.Refusal.{pass}
 use Rattle.timeline.specs.declared.Day.{Day}
 use Rattle.timeline.specs.declared.Plan.{Plan}
@@ -18,7 +17,6 @@ use Rattle.timeline.specs.Timeline.{peak}
 use Rattle.timeline.specs.Accepted.{shape_rows, plan_rows}
 use Rattle.timeline.specs.Day.{told_of, day_of}
 use Rattle.timeline.specs.Value.{steps_of}
-use Rattle.std.specs.Prelude.{Ok, Err}
 use Rattle.checker.specs.declared.CheckedPlan.{CheckedPlan}
 
 -- the tests of the job, then 12 to 20 of the plan with the job's goal

@@ -22,7 +22,7 @@ use Rattle.times.specs.Numbers.{table_in}
 use Rattle.times.proofs.Monotone.{durations_of_passed}
 use Rattle.times.proofs.Unique.{one_solution_of_sets}
 use Rattle.earliest.specs.Answer.{EarliestTime}
-use Rattle.std.specs.Prelude.{Option, Some, None, Ok, Err}
+use Rattle.std.specs.Prelude.{Option, Some, None}
 use Rattle.earliest.specs.Answer.{earliest_rows, answer_of, time_reply, AnswersBy, Answers}
 use Rattle.earliest.specs.Numbers.{set_number, SameTime}
 use Rattle.earliest.specs.Sweep.{Filled}

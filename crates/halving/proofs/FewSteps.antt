@@ -12,7 +12,6 @@ use Rattle.job.specs.Job.{Job}
 use Rattle.job.specs.Refusal.{◌when◌, first}
 use Rattle.job.specs.declared.refusal.Refusal.TheVariants.{JoinedTooLong}
 use Rattle.job.specs.Refusal.{Verdict}
-use Rattle.std.specs.Prelude.{Ok, Err}
 use Rattle.job.specs.Refusal.{pass}
 use Rattle.job.proofs.Table.{first_pass}
 use Rattle.timeline.specs.declared.Day.{Day}

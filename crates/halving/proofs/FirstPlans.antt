@@ -10,8 +10,6 @@ use Rattle.walker.specs.Walk.{Tells}
 use mathlib.Core.Path.{ap, refl, ◌≡◌}
 use mathlib.Core.List.{List}
 use Prim.Native.Nat.{ℕ}
-use Prim.Native.Nat.{ℕ}
-use mathlib.Core.Path.{◌≡◌}
 use mathlib.Core.Bool.{true}
 use mathlib.Core.Logic.{⊎_elim}
 use mathlib.Core.List.{[]}

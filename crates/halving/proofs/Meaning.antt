@@ -12,7 +12,6 @@ use Rattle.job.specs.Job.{Job}
 use Rattle.job.specs.Refusal.{reply_of, verdict_of, ◌when◌, first, refused}
 use Rattle.job.specs.declared.refusal.Refusal.TheVariants.{JoinedTooLong}
 use Rattle.job.specs.Refusal.{Verdict}
-use Rattle.std.specs.Prelude.{Ok, Err}
 use Rattle.job.specs.Refusal.{pass}
 use Rattle.timeline.specs.Step.{Step, plan_bytes}
 use Rattle.timeline.specs.Accepted.{Accepted}

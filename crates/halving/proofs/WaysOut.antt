@@ -15,7 +15,6 @@ use Rattle.job.specs.Valid.{job_rows}
 use Rattle.job.specs.declared.refusal.Refusal.{Refusal}
 use Rattle.job.specs.declared.refusal.Refusal.TheVariants.{ForeignAskedFact, PlanSlice, NoPlan}
 use Rattle.job.specs.Refusal.{Verdict}
-use Rattle.std.specs.Prelude.{Ok, Err}
 use Rattle.job.specs.Refusal.{pass}
 use Rattle.job.proofs.Table.{first_here, first_next, first_append_pass, first_append_refused, first_none}
 use Rattle.timeline.specs.Step.{Step}

@@ -9,7 +9,6 @@ use Rattle.job.specs.Refusal.{reply_of, Row, ◌when◌, first, reply_by}
 use Rattle.job.specs.Valid.{job_rows}
 use Rattle.job.specs.declared.refusal.Refusal.TheVariants.{ForeignAskedFact, PlanSlice, NoPlan, JoinedTooLong}
 use Rattle.job.specs.Refusal.{Verdict}
-use Rattle.std.specs.Prelude.{Ok, Err}
 use Rattle.job.specs.Refusal.{pass}
 use Rattle.timeline.specs.Step.{Step}
 use Rattle.timeline.specs.Day.{told_of, day_of}

@@ -14,7 +14,6 @@ use Rattle.job.specs.Valid.{job_rows}
 use Rattle.job.specs.declared.refusal.Refusal.{Refusal}
 use Rattle.job.specs.declared.refusal.Refusal.TheVariants.{JoinedTooLong}
 use Rattle.job.specs.Refusal.{Verdict}
-use Rattle.std.specs.Prelude.{Ok, Err}
 use Rattle.job.specs.Refusal.{pass}
 use Rattle.timeline.specs.Step.{steps_in}
 use Rattle.timeline.specs.Accepted.{shape_rows}

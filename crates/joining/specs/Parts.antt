@@ -5,7 +5,6 @@ use Rattle.std.specs.Prelude.{Result, Ok, Err}
 use Rattle.std.specs.Prelude.{ℕ, ◌*◌, true, false, List, take}
 use Rattle.job.specs.Job.{Job}
 use Rattle.job.specs.Refusal.{verdict_of, Verdict}
-use Rattle.std.specs.Prelude.{Ok, Err}
 use Rattle.timeline.specs.Step.{Step}
 use Rattle.timeline.specs.declared.Day.{Day}
 use Rattle.timeline.specs.Day.{told}

@@ -14,7 +14,6 @@ use Rattle.encoding.specs.Bytes.{overwrite}
 use Rattle.job.specs.declared.refusal.Refusal.{Refusal}
 use Rattle.job.specs.declared.refusal.Refusal.TheVariants.{PlanSlice, NoPlan, ListEnded}
 use Rattle.job.specs.Refusal.{reply_of, Verdict}
-use Rattle.std.specs.Prelude.{Ok, Err}
 use Rattle.job.specs.Refusal.{pass}
 use Rattle.job.specs.Job.{Job}
 use Rattle.job.specs.Refusal.{first}

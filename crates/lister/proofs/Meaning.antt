@@ -19,7 +19,6 @@ use Rattle.job.proofs.Table.{pass_of_append}
 use Rattle.job.specs.declared.refusal.Refusal.{Refusal}
 use Rattle.job.specs.declared.refusal.Refusal.TheVariants.{NoPlan, ListEnded}
 use Rattle.job.specs.Refusal.{Verdict}
-use Rattle.std.specs.Prelude.{Ok, Err}
 use Rattle.job.specs.Refusal.{pass}
 use Rattle.timeline.specs.Step.{Step, steps_in, plan_bytes}
 use Rattle.timeline.specs.Timeline.{end}

@@ -8,7 +8,6 @@ use Rattle.job.specs.Job.{Job}
 use Rattle.job.specs.Refusal.{reply_of, first, returned}
 use Rattle.job.specs.declared.refusal.Refusal.TheVariants.{NoPlan, ListEnded}
 use Rattle.job.specs.Refusal.{Verdict}
-use Rattle.std.specs.Prelude.{Ok, Err}
 use Rattle.job.specs.Refusal.{pass}
 use Rattle.timeline.specs.Step.{Step, plan_bytes}
 use Rattle.timeline.specs.Day.{told_of}

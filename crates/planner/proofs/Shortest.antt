@@ -14,7 +14,6 @@ use Rattle.lists.proofs.Bools.{or_left, or_right}
 use Rattle.job.specs.declared.refusal.Refusal.{Refusal}
 use Rattle.job.specs.declared.refusal.Refusal.TheVariants.{NoPlan}
 use Rattle.job.specs.Refusal.{verdict_of, Verdict}
-use Rattle.std.specs.Prelude.{Ok, Err}
 use Rattle.job.specs.Refusal.{pass}
 use Rattle.job.specs.Job.{Job}
 use Rattle.job.specs.Refusal.{Row, ◌when◌, number, first}
@@ -25,7 +24,6 @@ use Rattle.job.proofs.Table.{pass_of_append}
 use Rattle.timeline.specs.Step.{Step}
 use Rattle.timeline.specs.declared.Day.{Day}
 use Rattle.timeline.specs.Accepted.{Accepted}
-use Rattle.timeline.specs.declared.Day.{Day}
 use Rattle.timeline.proofs.DayLaws.{refused_not_passed}
 use Rattle.timeline.proofs.Tests.{not_both}
 use Rattle.timeline.proofs.PlanBytes.{few_steps_of_accepted}

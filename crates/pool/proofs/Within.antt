@@ -15,7 +15,6 @@ use Rattle.std.specs.Prelude.{Ok, Err, IfOk}
 use Rattle.job.specs.Refusal.{pass}
 use Rattle.job.proofs.Table.{first_pass, pass_of_append}
 use Rattle.jobfile.specs.Answers.{Written}
-use Rattle.std.specs.Prelude.{Ok, Err}
 use Rattle.jobfile.specs.File.{file_of}
 use Rattle.jobfile.specs.Answers.{write_rows, written_of, write_file, left_of, left_by_write}
 use Rattle.writer.specs.Wrote.{Wrote}

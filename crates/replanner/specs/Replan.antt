@@ -10,7 +10,6 @@ use Rattle.job.specs.Refusal.{reply_of, Row, ◌when◌, first, returned}
 use Rattle.job.specs.Valid.{job_rows}
 use Rattle.job.specs.declared.refusal.Refusal.TheVariants.{ForeignAskedFact, PlanSlice, NoPlanWithKept}
 use Rattle.job.specs.Refusal.{Verdict}
-use Rattle.std.specs.Prelude.{Ok, Err}
 use Rattle.timeline.specs.Step.{Step, steps_in, plan_bytes}
 use Rattle.timeline.specs.Accepted.{run_rows}
 use Rattle.timeline.specs.Day.{told_of}

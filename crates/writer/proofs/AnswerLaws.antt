@@ -15,7 +15,6 @@ use Rattle.job.specs.Job.{Job}
 use Rattle.job.specs.Refusal.{first, reply_of, reply_by}
 use Rattle.job.specs.Valid.{job_rows}
 use Rattle.job.proofs.Table.{first_here, first_next, first_append_pass, first_append_refused}
-use Rattle.std.specs.Prelude.{Ok, Err}
 use Rattle.jobfile.specs.File.{file_of}
 use Rattle.writer.specs.Wrote.{Wrote}
 use Rattle.jobfile.specs.Answers.{write_rows, written_of, write_file, left_of, left_by_write}

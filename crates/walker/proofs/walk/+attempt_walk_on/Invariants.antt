@@ -4,7 +4,7 @@ use Prim.Native.Nat.{◌≤◌, ◌-◌}
 use mathlib.Core.Path.{◌≡◌}
 use mathlib.Core.Bool.{false}
 use Rattle.walker.proofs.Attempts.{MetFrom}
-use Prim.Native.Nat.{◌+◌, ◌-◌, ◌*◌}
+use Prim.Native.Nat.{◌+◌, ◌*◌}
 use Rattle.walker.proofs.walk.+attempt_walk_on.Given as goal
 
 abbrev pub decreases-attempt : goal.decreases-attempt
