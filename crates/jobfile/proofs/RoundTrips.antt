@@ -21,7 +21,6 @@ use Rattle.std.specs.Prelude.{Ok, Err}
 use Rattle.job.specs.Refusal.{pass}
 use Rattle.job.proofs.Table.{first_next, first_append_pass, pass_of_append}
 use Rattle.job.proofs.Values.{Shape, job_in_shape}
-use Rattle.jobfile.specs.Answers.{Reading}
 use Rattle.jobfile.specs.File.{file_of, body_in, action_size, action_of, job_of, decoded}
 use Rattle.jobfile.specs.Answers.{read_rows, reading_of, read_file, write_rows, written_of, write_file, left_of}
 use Rattle.jobfile.specs.Answers.{left_by_write}
