@@ -25,8 +25,8 @@ pub fn kept_steps(plan: Plan, minute: u32) -> Steps
     ensures { Keeps plan plan.length minute result }
 {
     let mut kept = Steps::none();
-    for i in 0..plan.length {
-        kept = with_step(kept, plan.steps[i], minute);
+    for step in &plan.steps[..plan.length] {
+        kept = with_step(kept, *step, minute);
     }
     kept
 }

@@ -2,5 +2,5 @@
 use Rattle.replanner.specs.Kept.{Keeps}
 use Rattle.replanner.proofs.kept.kept_steps.Given as goal
 
-abbrev pub invariant-loop-i : goal.invariant-loop-i
-invariant-loop-i l = Keeps l.plan l.i l.minute l.kept
+abbrev pub invariant-loop-step : goal.invariant-loop-step
+invariant-loop-step l = Keeps l.fn.plan l.step-index l.minute l.kept
