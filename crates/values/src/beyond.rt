@@ -1,12 +1,11 @@
 // Other numbers beyond the counts of a job.
 use crate::calls::ROOM;
 use crate::jobs;
-use earliest::EarliestTime;
 use job::Job;
-use job::refusal::{Verdict, number};
+use job::refusal::Refusal;
 use job::same::same;
 use made_jobs::parts;
-use price::{Priced, Rates};
+use price::Rates;
 use std::io;
 use timeline::{Day, Plan};
 
@@ -44,34 +43,34 @@ pub fn day_with_action() -> Job {
     parts::with_counts(three, 1, 1, 2)
 }
 
-// What a call that returns a day answers, with the peaks in all four places.
-pub fn show_day(rt: &impl Print, call: &str, day: Day) -> io::Result<()> {
-    match day.verdict {
-        Verdict::Pass => print!(rt; "{call} ends {}", day.end),
-        Verdict::Refused(why) => print!(rt; "{call} refused {}", number(why)),
+// What a call that returns a day answers, with the peaks in all four places, 0 beside a refusal.
+pub fn show_day(rt: &impl Print, call: &str, day: Result<Day, Refusal>) -> io::Result<()> {
+    match day {
+        Ok(day) => print!(rt; "{call} ends {}", day.end),
+        Err(why) => print!(rt; "{call} refused {}", u8::from(why)),
     }?;
-    let [first, second, third, fourth] = day.peaks;
+    let [first, second, third, fourth] = day.map_or([0; Job::POOLS], |day| day.peaks);
     print!(rt; ", peaks {first} {second} {third} {fourth}")
 }
 
-fn planned(job: Job) -> Day {
+fn planned(job: Job) -> Result<Day, Refusal> {
     let mut slice = [0u8; ROOM];
     planner::plan(job, &mut slice)
 }
 
 // The plan's first step joined with the others.
-fn joined(job: Job, plan: &[u8]) -> Day {
+fn joined(job: Job, plan: &[u8]) -> Result<Day, Refusal> {
     let mut slice = [0u8; ROOM];
     let (first, others) = plan.split_at(Plan::STEP.min(plan.len()));
     joining::join(job, first, others, &mut slice)
 }
 
-fn halved(job: Job, halfway: u64) -> Day {
+fn halved(job: Job, halfway: u64) -> Result<Day, Refusal> {
     let mut slice = [0u8; ROOM];
     halving::halves(job, halfway, &mut slice)
 }
 
-fn listed(job: Job, place: u32) -> Day {
+fn listed(job: Job, place: u32) -> Result<Day, Refusal> {
     let mut slice = [0u8; ROOM];
     lister::list(job, place, &mut slice)
 }
@@ -85,18 +84,18 @@ fn rates() -> Rates {
     }
 }
 
-fn priced(rt: &impl Print, answer: Priced) -> io::Result<()> {
+fn priced(rt: &impl Print, answer: Result<u64, Refusal>) -> io::Result<()> {
     match answer {
-        Priced::Cents(cents) => print!(rt; ", price {cents}"),
-        Priced::Refused(why) => print!(rt; ", price refused {}", number(why)),
+        Ok(cents) => print!(rt; ", price {cents}"),
+        Err(why) => print!(rt; ", price refused {}", u8::from(why)),
     }
 }
 
-fn timed(rt: &impl Print, answer: EarliestTime) -> io::Result<()> {
+fn timed(rt: &impl Print, answer: Result<Option<u32>, Refusal>) -> io::Result<()> {
     match answer {
-        EarliestTime::At(minute) => print!(rt; ", earliest {minute}"),
-        EarliestTime::Unreachable => print!(rt; ", unreachable"),
-        EarliestTime::Refused(why) => print!(rt; ", earliest refused {}", number(why)),
+        Ok(Some(minute)) => print!(rt; ", earliest {minute}"),
+        Ok(None) => print!(rt; ", unreachable"),
+        Err(why) => print!(rt; ", earliest refused {}", u8::from(why)),
     }
 }
 

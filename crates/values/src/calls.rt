@@ -1,11 +1,8 @@
 // What the calls answer to a job value.
-use earliest::EarliestTime;
-use job::refusal::{Verdict, number};
+use job::refusal::Refusal;
 use job::{Job, StoreRule};
-use jobfile::Written;
 use made_jobs::parts;
-use pooling::Pooled;
-use price::{Priced, Rates};
+use price::Rates;
 use std::io;
 use timeline::Day;
 
@@ -13,33 +10,8 @@ use timeline::Day;
 pub const ROOM: usize = 4_200;
 
 // The number of a refusal, 0 for none.
-fn written(answer: Written) -> u8 {
-    match answer {
-        Written::Length(_) => 0,
-        Written::Refused(why) => number(why),
-    }
-}
-
-fn judged(verdict: Verdict) -> u8 {
-    match verdict {
-        Verdict::Pass => 0,
-        Verdict::Refused(why) => number(why),
-    }
-}
-
-fn timed(answer: EarliestTime) -> u8 {
-    match answer {
-        EarliestTime::At(_) => 0,
-        EarliestTime::Unreachable => 0,
-        EarliestTime::Refused(why) => number(why),
-    }
-}
-
-fn priced(answer: Priced) -> u8 {
-    match answer {
-        Priced::Cents(_) => 0,
-        Priced::Refused(why) => number(why),
-    }
+fn number<T: Copy>(answer: Result<T, Refusal>) -> u8 {
+    answer.err().map_or(0, u8::from)
 }
 
 // Rates that 25 refuses.
@@ -59,7 +31,7 @@ fn lend_planners(rt: &impl Print, job: Job, slice: &mut [u8]) -> io::Result<()> 
 
 // The writer too.
 fn lend_alone(rt: &impl Print, job: Job, slice: &mut [u8]) -> io::Result<()> {
-    show(rt, "write ", written(writer::write(job, slice)))?;
+    show(rt, "write ", writer::write(job, slice))?;
     lend_planners(rt, job, slice)
 }
 
@@ -89,14 +61,15 @@ fn lend_filled(rt: &impl Print, job: Job, length: usize, plan: &[u8], set: u64) 
     print!(rt; ", slice {}", if kept { "kept" } else { "changed" })
 }
 
-fn show(rt: &impl Print, call: &str, number: u8) -> io::Result<()> {
-    print!(rt; "{call}{number}")
+fn show<T: Copy>(rt: &impl Print, call: &str, answer: Result<T, Refusal>) -> io::Result<()> {
+    print!(rt; "{call}{}", number(answer))
 }
 
-// The refusal of a day, beside which the peaks are all zero.
-fn show_day(rt: &impl Print, call: &str, day: Day) -> io::Result<()> {
-    show(rt, call, judged(day.verdict))?;
-    if day.peaks != [0; Job::POOLS] {
+// The refusal of a day, or 0 and whether a pool is in use.
+fn show_day(rt: &impl Print, call: &str, day: Result<Day, Refusal>) -> io::Result<()> {
+    show(rt, call, day)?;
+    let peaks = day.map_or([0; Job::POOLS], |day| day.peaks);
+    if peaks != [0; Job::POOLS] {
         print!(rt; " with peaks")?;
     }
     Ok(())
@@ -107,10 +80,10 @@ fn partner() -> Job {
     parts::with_reserve(parts::empty(64, 0, 0, 0), StoreRule::PerHour, 50)
 }
 
-// The refusal of a pooling, beside which the job is all zero.
-pub fn show_pooled(rt: &impl Print, call: &str, answer: Pooled) -> io::Result<()> {
-    show(rt, call, judged(answer.verdict))?;
-    if !parts::same_everywhere(answer.job, Job::zero()) {
+// The refusal of a pooling, or 0 and a job.
+fn show_pooled(rt: &impl Print, call: &str, answer: Result<Job, Refusal>) -> io::Result<()> {
+    show(rt, call, answer)?;
+    if answer.is_ok() {
         print!(rt; " with a job")?;
     }
     Ok(())
@@ -129,13 +102,9 @@ pub fn refusals(
     lend_filled(rt, job, length, plan, set)?;
     show_day(rt, ", check ", checker::check(job, plan))?;
     show_day(rt, ", check for ", checker::check_for(job, set, plan))?;
-    show(
-        rt,
-        ", price ",
-        priced(price::price(job, rates_over(), plan)),
-    )?;
+    show(rt, ", price ", price::price(job, rates_over(), plan))?;
     show_day(rt, ", true day ", true_day::true_day(job, plan, &[0]))?;
-    show(rt, ", earliest ", timed(earliest::earliest(job, set)))?;
+    show(rt, ", earliest ", earliest::earliest(job, set))?;
     show_pooled(rt, ", pool first ", pooling::pool(job, partner()))?;
     show_pooled(rt, ", pool second ", pooling::pool(partner(), job))?;
     println!(rt; "")

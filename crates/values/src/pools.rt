@@ -1,10 +1,8 @@
 // Two jobs pooled to one. What their values hold beyond their counts, forms and rules is ignored.
 use crate::beyond::{day, day_with, day_with_action};
-use crate::calls::show_pooled;
 use crate::crews::{crew, crew_and_day, day_and_crew, two_days};
 use crate::filled::filled;
 use crate::{forms, jobs, ranges, season, trips};
-use job::refusal::Verdict;
 use job::{Form, Job};
 use made_jobs::parts;
 use made_jobs::parts::{with_handovers, with_shortest};
@@ -13,13 +11,9 @@ use std::io;
 // The refusal, or whether the pooled job is the expected one in every place.
 fn pooled(rt: &impl Print, case: &str, first: Job, second: Job, expected: Job) -> io::Result<()> {
     output::name(rt, case)?;
-    let answer = pooling::pool(first, second);
-    match answer.verdict {
-        Verdict::Pass => print!(rt;
-            "{}",
-            trips::same(parts::same_everywhere(answer.job, expected))
-        ),
-        Verdict::Refused(_) => show_pooled(rt, "refused ", answer),
+    match pooling::pool(first, second) {
+        Ok(job) => print!(rt; "{}", trips::same(parts::same_everywhere(job, expected))),
+        Err(why) => print!(rt; "refused {}", u8::from(why)),
     }?;
     println!(rt; "")
 }

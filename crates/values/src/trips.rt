@@ -3,32 +3,22 @@ use crate::calls::ROOM;
 use crate::filled::filled;
 use crate::jobs;
 use job::Job;
-use jobfile::Written;
 use lent::front;
 use made_jobs::days;
 use made_jobs::parts::same_everywhere;
 use std::io;
 
-// The length of the file that is written; 0 where the writer refuses.
-fn write(job: Job, out: &mut [u8]) -> usize {
-    match writer::write(job, out) {
-        Written::Length(length) => length,
-        Written::Refused(_) => 0,
-    }
-}
-
 pub fn same(is_same: bool) -> &'static str {
     if is_same { "same" } else { "different" }
 }
 
-// What is read is `clean`: the same job, with zeros beyond its counts.
+// What is read is `clean`: the same job, with zeros beyond its counts. A file that is not written has no bytes.
 fn trip(rt: &impl Print, job: Job, clean: Job) -> io::Result<()> {
     let mut file = [0u8; ROOM];
-    let length = write(job, &mut file);
-    let reading = reader::read(front(&file, length));
-    let back = reading.job;
+    let length = writer::write(job, &mut file).unwrap_or(0);
+    let back = reader::read(front(&file, length)).unwrap_or(Job::zero());
     let mut again = [0u8; ROOM];
-    let length_again = write(back, &mut again);
+    let length_again = writer::write(back, &mut again).unwrap_or(0);
     let same_file = front(&file, length) == front(&again, length_again);
     println!(rt;
         "{length} bytes, job {}, file {}",
