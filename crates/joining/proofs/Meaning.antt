@@ -33,7 +33,7 @@ parts_of r s after then e = (ap (λ (call : Called). call.answer) e, ap (λ (cal
 -- on with the plan of a call, and not on from a refusal
 went_on : (call : Called) (next : List ℕ → Called) (slice : List ℕ) → verdict_of call.answer ≡ pass
     → then_call call next slice ≡ next (plan_in call)
-went_on call next slice pass = ap (λ (v : Verdict). go_on v call next slice) pass
+went_on call next slice passes = ap (λ (v : Verdict). go_on v call next slice) passes
 
 stopped : (call : Called) (next : List ℕ → Called) (slice : List ℕ) (why : Refusal)
     → verdict_of call.answer ≡ Err why → then_call call next slice ≡ record { answer = Err why; after = slice }

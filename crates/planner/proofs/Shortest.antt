@@ -90,9 +90,9 @@ module _ (J : Job) (goal minute : ℕ) (K : List Step) (slice : List ℕ) (answe
   module _ (within : Passed J) (none : Refusal) where
     pub shortest_by_makespan : BegunSteps J minute K → verdict_of answer ≡ pass → (m : Makespan)
         → makespan_from J goal minute K ≡ m → PlansFor m none J goal minute K slice answer after → Shortest
-    shortest_by_makespan kept pass (ends_at e) q p =
+    shortest_by_makespan kept passes (ends_at e) q p =
         shortest_handed_out e (least_end_of_makespan J goal minute K within kept e q) p
-    shortest_by_makespan kept pass no_plan q p = absurd (refused_not_passed answer none p.answers pass)
+    shortest_by_makespan kept passes no_plan q p = absurd (refused_not_passed answer none p.answers passes)
 
     pub none_by_makespan : (m : Makespan) → makespan_from J goal minute K ≡ m
         → PlansFor m none J goal minute K slice answer after → verdict_of answer ≡ Err none
