@@ -26,7 +26,13 @@ fn holds_both(slice: &[u8], first: &[u8], steps: usize, second: &[u8], minutes: 
 }
 
 // Both halves are planned. The joined day is that of the plans' bytes, and is accepted, or 34.
-fn joined(asked: &Asked, first: &[u8], second: &[u8], slice: &[u8], day: Day) -> Halved {
+fn joined(
+    asked: &Asked,
+    first: &[u8],
+    second: &[u8],
+    slice: &[u8],
+    day: Result<Day, Refusal>,
+) -> Halved {
     let job = asked.job;
     let morning = join::extent_of(job, first);
     let whole = join::joined(job, morning, join::extent_of(job, second));
