@@ -12,8 +12,8 @@ ghost use Rattle.landmarks.specs.Marked.{WithinLimits};
 ghost use Rattle.cliques.specs.Cliques.{Remaining, CliqueMinutes};
 ghost use Rattle.cliques.specs.Marked.{MarkedTables};
 
-use job::Job;
 use facts::members::Members;
+use job::Job;
 use tables::Frame;
 use tables::layout::{NumberTable, SetTable};
 use tables::longer::longer;

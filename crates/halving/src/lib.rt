@@ -13,7 +13,6 @@ ghost use Rattle.timeline.specs.Step.{steps_in};
 ghost use Rattle.timeline.specs.Accepted.{Accepted};
 ghost use Rattle.timeline.specs.Timeline.{end};
 ghost use Rattle.timeline.specs.Value.{steps_of};
-
 ghost use Rattle.halving.specs.Afternoon as rest;
 ghost use Rattle.halving.specs.Halves.{FirstListed, Halves};
 ghost use Rattle.halving.specs.Inner.{StoresSuffice, LeftInStores, LeavesTask};
@@ -24,10 +23,10 @@ use job::refusal::Refusal;
 use job::resources::allowed;
 use job::validate::validate;
 use job::{Job, resumed};
+use leaf::Answer;
 use solver::Task;
 use tables::Steps;
 use timeline::{Day, Plan};
-use leaf::Answer;
 use walker::page;
 
 // What the plan leaves of the allowed total of each store.
@@ -96,7 +95,9 @@ pub fn halves(job: Job, halfway: u64, out: &mut [u8]) -> Result<Day, Refusal>
     }
     let first = first_half(job, halfway).flatten().ok_or(Refusal::NoPlan)?;
     let morning = &first.plan[..Plan::STEP * first.count];
-    let second = second_half(job, halfway, morning).flatten().ok_or(Refusal::NoPlan)?;
+    let second = second_half(job, halfway, morning)
+        .flatten()
+        .ok_or(Refusal::NoPlan)?;
     let later = &second.plan[..Plan::STEP * second.count];
     joining::join(job, morning, later, out)
 }

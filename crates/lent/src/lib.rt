@@ -47,13 +47,7 @@ pub fn plan_of(slice: &[u8], day: Result<Day, Refusal>) -> &[u8] {
 
 // Whether the day ends at this minute, its steps stand at the front of the slice and are accepted for the goal as told,
 // and the rest is as before.
-pub fn handed_out(
-    job: Job,
-    goal: u64,
-    slice: &[u8],
-    day: Result<Day, Refusal>,
-    end: u32,
-) -> bool {
+pub fn handed_out(job: Job, goal: u64, slice: &[u8], day: Result<Day, Refusal>, end: u32) -> bool {
     let plan = plan_of(slice, day);
     match day {
         Ok(day) => day.end == end && accepted(job, goal, plan, day) && kept(slice, plan.len()),

@@ -3,9 +3,6 @@
 #![tactic(auto)]
 
 ghost use Rattle.std.specs.Prelude.{◌≡◌, ◌<◌};
-
-
-
 ghost use Rattle.packing.specs.Answer.{packed, done, refusal, written_number, ShortFile};
 ghost use Rattle.packing.specs.Answer.{peaks_by, cost, priced_number, SmallPrice, time_number};
 

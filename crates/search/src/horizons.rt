@@ -18,7 +18,13 @@ pub fn until(frame: Frame, horizon: u16) -> Frame
 
 // A plan that ends by the frame's horizon. With no free minute left there are the kept steps; this second call of
 // `finish` also keeps its large frame out of the recursion, where a function called once would be inlined.
-pub fn solve(sets: &[u64], numbers: &[u32], times: &[u32], file: &[u8], frame: Frame) -> Option<Answer>
+pub fn solve(
+    sets: &[u64],
+    numbers: &[u32],
+    times: &[u32],
+    file: &[u8],
+    frame: Frame,
+) -> Option<Answer>
     requires { Whole sets.now numbers.now times.now frame }
     ensures { Solves file.now sets.now numbers.now times.now
         frame result }
@@ -68,7 +74,14 @@ fn longer(stride: u16) -> u16
 }
 
 // From the minute `low` upwards with doubling strides, until a plan is found or the frame's horizon has none.
-fn ascend(sets: &[u64], numbers: &[u32], times: &[u32], file: &[u8], frame: Frame, low: u16) -> Option<Rise>
+fn ascend(
+    sets: &[u64],
+    numbers: &[u32],
+    times: &[u32],
+    file: &[u8],
+    frame: Frame,
+    low: u16,
+) -> Option<Rise>
     requires { Whole sets.now numbers.now times.now frame × (low ≤ frame.horizon) }
     ensures { Rises file.now sets.now numbers.now times.now
         frame low result }
@@ -170,7 +183,13 @@ fn earlier(a: u16, b: u16) -> u16
 
 // The shortest plan by the frame's horizon. By the first free minute there are the kept steps alone; a longer plan is
 // sought from the least bound on its end upwards.
-pub fn shortest(sets: &[u64], numbers: &[u32], times: &[u32], file: &[u8], frame: Frame) -> Option<Answer>
+pub fn shortest(
+    sets: &[u64],
+    numbers: &[u32],
+    times: &[u32],
+    file: &[u8],
+    frame: Frame,
+) -> Option<Answer>
     requires { Whole sets.now numbers.now times.now frame }
     ensures { Shortest file.now sets.now numbers.now times.now
         frame result }

@@ -6,7 +6,6 @@ ghost use Rattle.job.specs.Job.{action_in};
 ghost use Rattle.job.specs.declared.Counts.{Counts};
 ghost use Rattle.timeline.specs.Timeline.{hinders};
 
-
 use job::{Action, Counts, Job};
 
 // A step of a plan, with its action: it runs from `start` up to, and without, `stop`.

@@ -64,9 +64,11 @@ pub second_half-requires : goal.second_half-requires
 second_half-requires c =
     let valid = sym c.validate.ensures ∙ c.in_ok-validate.was in
     let own = sym c.foreign.ensures.0 ∙ c.if-foreign.false in
-    let first = sym c.flatten.ensures ∙ value_given c.flatten.result NoPlan _ (sym c.ok_or.ensures.value ∙ c.in_ok-first.was) in
-    (valid, first_accepted (job_in c.args.job) c.args.halfway c.args.out.now valid own c.first_half.result
-    c.first_half.ensures _ first)
+    let first = sym c.flatten.ensures ∙ value_given c.flatten.result NoPlan _ (sym c.ok_or.ensures.value ∙ c.in_ok-first.was) in (
+      valid,
+      first_accepted (job_in c.args.job) c.args.halfway c.args.out.now valid own c.first_half.result
+          c.first_half.ensures _ first,
+    )
 
 pub returns-in_err-second : goal.returns-in_err-second
 returns-in_err-second c =

@@ -42,8 +42,7 @@ loop-k-preserved c =
     let J = job_in c.args.job in
     let cap = c.wide.ensures.0
     ∙ ap (λ (l : List ℕ). get_or l k 0) c.allowed-limits.ensures
-    ∙ allowed_is c.args.job k (omega arith) (omega arith) in
-    (
+    ∙ allowed_is c.args.job k (omega arith) (omega arith) in (
       simp length-set c.loop-k.invariant.0,
       one_more (λ (n : ℕ). n) (left_of J (steps_of c.args.plan)) 0 c.loop-k.out k _ (omega arith) c.loop-k.invariant.1
           (ap₂ ◌-◌ cap c.used_up.ensures),

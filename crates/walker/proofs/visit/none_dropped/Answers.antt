@@ -35,14 +35,14 @@ returns-then-is_some c =
 pub loop-i-preserved : goal.loop-i-preserved
 loop-i-preserved c =
     λ J asked kept k m.
-        ⊎_elim
-        (λ e.
-        let z : k ≡ c.loop-i.i = omega arith in
-        rw z
-        (dropped_none J _ c.args.frame asked c.args.steps kept c.loop-i.i (omega arith)
-        c.without.result c.without.ensures c.finish.result c.finish.ensures (sym c.is_some.ensures ∙ c.if-is_some.false)))
-        (λ less. c.loop-i.invariant J asked kept k (omega arith))
-        (eq-or-lt_of_le m)
+    ⊎_elim
+    (λ e.
+    let z : k ≡ c.loop-i.i = omega arith in
+    rw z
+    (dropped_none J _ c.args.frame asked c.args.steps kept c.loop-i.i (omega arith)
+    c.without.result c.without.ensures c.finish.result c.finish.ensures (sym c.is_some.ensures ∙ c.if-is_some.false)))
+    (λ less. c.loop-i.invariant J asked kept k (omega arith))
+    (eq-or-lt_of_le m)
 
 pub returns : goal.returns
 returns c =
