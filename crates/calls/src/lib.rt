@@ -20,10 +20,7 @@ use timeline::Day;
 fn checked(day: Result<Day, Refusal>) -> u64
     ensures { result ≡ checked_number day }
 {
-    match day {
-        Ok(day) => day_told(day.end, 0),
-        Err(why) => refused(why),
-    }
+    day_told(day, 0)
 }
 
 // A day by its end and its number of steps, or why there is none.
@@ -32,7 +29,7 @@ fn planned(day: Result<Day, Refusal>) -> u64
     ensures { result ≡ planned_number day }
 {
     match day {
-        Ok(day) => day_told(day.end, day.steps as u16),
+        Ok(told) => day_told(day, told.steps as u16),
         Err(why) => refused(why),
     }
 }

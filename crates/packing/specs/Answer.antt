@@ -29,10 +29,14 @@ abbrev pub written_number : Written → ℕ
 written_number (Ok n) = done n 0
 written_number (Err why) = refusal why
 
+-- a day with so many steps told
+abbrev pub day_number : Result Day Refusal → ℕ → ℕ
+day_number (Ok day) steps = done day.end steps
+day_number (Err why) steps = refusal why
+
 -- "the checker returns the end"
 abbrev pub checked_number : Result Day Refusal → ℕ
-checked_number (Ok day) = done day.end 0
-checked_number (Err why) = refusal why
+checked_number day = day_number day 0
 
 -- "the planner returns the end and number of steps"
 abbrev pub planned_number : Result Day Refusal → ℕ

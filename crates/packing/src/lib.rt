@@ -3,7 +3,7 @@
 #![tactic(auto)]
 
 ghost use Rattle.std.specs.Prelude.{◌≡◌, ◌<◌};
-ghost use Rattle.packing.specs.Answer.{packed, done, refusal, written_number, ShortFile};
+ghost use Rattle.packing.specs.Answer.{packed, refusal, written_number, ShortFile, day_number};
 ghost use Rattle.packing.specs.Answer.{peaks_by, cost, priced_number, SmallPrice, time_number};
 
 use job::Job;
@@ -50,11 +50,14 @@ pub fn written(answer: Result<usize, Refusal>) -> u64
     }
 }
 
-// A day with so many steps told: the plan's end.
-pub fn day_told(end: u32, steps: u16) -> u64
-    ensures { result ≡ done end steps }
+// A day with so many steps told: the plan's end, or why there is none.
+pub fn day_told(day: Result<Day, Refusal>, steps: u16) -> u64
+    ensures { result ≡ day_number day steps }
 {
-    pack(DONE, 0, end, steps)
+    match day {
+        Ok(day) => pack(DONE, 0, day.end, steps),
+        Err(why) => refused(why),
+    }
 }
 
 // Puts the peaks of a day into the array, and leaves it as it was where there is no day.
