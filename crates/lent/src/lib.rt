@@ -55,7 +55,7 @@ pub fn handed_out(job: Job, goal: u64, slice: &[u8], day: Result<Day, Refusal>, 
     }
 }
 
-// Whether the day is refused so, and the whole slice is as before.
-pub fn refused(slice: &[u8], day: Result<Day, Refusal>, by: Refusal) -> bool {
-    day.err() == Some(by) && kept(slice, 0)
+// Whether the day is refused by this number, or by the refusal that has it, and the whole slice is as before.
+pub fn refused(slice: &[u8], day: Result<Day, Refusal>, by: impl Into<u8>) -> bool {
+    day.err().map(u8::from) == Some(by.into()) && kept(slice, 0)
 }
