@@ -26,7 +26,8 @@ fn more_entries(a: Form, b: Form) -> Form
     a
 }
 
-// The job that two jobs become.
+// The job that two jobs become. Not inlined: so its copies of both jobs take no stack where it is not running.
+#[inline(never)]
 fn pooled_job(first: Job, second: Job) -> Job
     requires { Poolable first second }
     ensures { result ≡ job_value (pooled (job_in first) (job_in second)) }

@@ -81,9 +81,10 @@ pub fn event(steps: Steps, frame: Frame, t: u16) -> u16
     requires { (steps.count ≤ 32) × (frame.first < t) × (frame.pools ≤ 4) }
     ensures { (frame.first ≤ result) × (result < t) × NoEventBetween frame.handovers frame.pools steps result t }
 {
+    let handovers = frame.handovers; // a slice of the frame's own has all of the frame copied
     let mut m = last_start(steps, 0, frame.first, t);
-    for handover in &frame.handovers[..frame.pools] {
-        m = later_event(steps, *handover, m, t);
+    for k in 0..frame.pools {
+        m = later_event(steps, handovers[k], m, t);
     }
     m
 }
@@ -109,7 +110,8 @@ pub fn gone(sets: &[u64], numbers: &[u32], actions: usize, steps: Steps, s: u32,
     union::over(steps, |i, start| gone_of(sets, numbers, i, start, s, t))
 }
 
-// The state at minute s, the event before.
+// The state at minute s, the event before. Not inlined: so it takes no stack in the levels of the search.
+#[inline(never)]
 pub fn back(sets: &[u64], numbers: &[u32], frame: Frame, st: State, s: u16) -> State
     requires { Lent sets.now numbers.now frame.actions × Known frame.actions st.steps }
     ensures { Back sets.now numbers.now frame s st result }

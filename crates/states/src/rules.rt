@@ -141,7 +141,8 @@ fn with_candidate(sets: &[u64], numbers: &[u32], frame: Frame, st: State, k: u8,
     facts::union(facts::single(k), set)
 }
 
-// Those of the undecided actions that may stop at the state's minute.
+// Those of the undecided actions that may stop at the state's minute. Not inlined, as `moves::back`.
+#[inline(never)]
 pub fn candidates(sets: &[u64], numbers: &[u32], frame: Frame, st: State, undecided: u64) -> u64
     requires { Safe sets.now numbers.now frame st × (0 < st.minute) }
     ensures { Candidates sets.now numbers.now frame st undecided 64 result }

@@ -1,14 +1,11 @@
 -- `event` meets its contract: no start lies between, nor one less the handover of the pools gone over.
-use Prim.Native.Nat.{◌+◌}
-use mathlib.Core.Path.{◌∙◌, ap, sym}
 use borrow.Author.Count.{below_more}
 use native.Mathlib.Omega.{arith}
-use Rattle.std.proofs.lemmas.List.{get_or-take}
 use Rattle.states.proofs.moves.event.Goals as goal
 
-pub loop-handover-preserved : goal.loop-handover-preserved
-loop-handover-preserved c =
-    let inv = c.loop-handover.invariant in
+pub loop-k-preserved : goal.loop-k-preserved
+loop-k-preserved c =
+    let inv = c.loop-k.invariant in
     let i0 = inv.0 in
     let r = c.later_event-m.ensures in
     let r0 = r.0 in (
@@ -20,12 +17,5 @@ loop-handover-preserved c =
 
 pub returns : goal.returns
 returns c =
-    let inv = c.loop-handover.invariant in
-    let few = c.requires.2 in (
-      inv.0,
-      inv.1,
-      record {
-        starts = inv.2;
-        put_off = λ pool l k m s a b e. inv.3 pool (omega arith) k m s a b (e ∙ ap (λ h. s + h) (sym (get_or-take _ _ _ _ l)));
-      },
-    )
+    let inv = c.loop-k.invariant in
+    (inv.0, inv.1, record { starts = inv.2; put_off = λ pool l k m s a b e. inv.3 pool (omega arith) k m s a b e })

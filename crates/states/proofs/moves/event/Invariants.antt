@@ -4,7 +4,7 @@ use lib.ListN.{get_or}
 use Rattle.states.specs.Moves.{NoStartBetween}
 use Rattle.states.proofs.moves.event.Given as goal
 
-abbrev pub invariant-loop-handover : goal.invariant-loop-handover
-invariant-loop-handover l =
+abbrev pub invariant-loop-k : goal.invariant-loop-k
+invariant-loop-k l =
     (l.fn.frame.first ≤ l.m) × (l.m < l.t) × NoStartBetween 0 l.steps l.m l.t
-    × ((pool : ℕ) → pool < l.handover-index → NoStartBetween (get_or l.handover-items pool 0) l.steps l.m l.t)
+    × ((pool : ℕ) → pool < l.k → NoStartBetween (get_or l.handovers pool 0) l.steps l.m l.t)
