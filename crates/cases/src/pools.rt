@@ -49,7 +49,7 @@ fn is_file(slice: &[u8], size: usize, expected: &[u8]) -> bool {
     front(slice, size) == expected && lent::kept(slice, size)
 }
 
-// Whether the job is in every place the one of the expected file.
+// Whether the job is in every place the one of the expected file, or the job of zeros where that is refused.
 fn is_job(job: Job, expected: &[u8]) -> bool {
-    reader::read(expected).is_ok_and(|read| same_everywhere(job, read))
+    same_everywhere(job, reader::read(expected).unwrap_or(Job::zero()))
 }
