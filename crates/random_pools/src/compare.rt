@@ -17,9 +17,17 @@ const UNLIKE: Outcome = Err(NoEnd::Refused(Refusal::PoolUnlike));
 
 const TOO_LARGE: Outcome = Err(NoEnd::TooLarge);
 
-// What both planners say of the job that two become. Jobs as small as these are refused by 26 or 33 alone.
+// What a refused pair says: jobs as small as these are refused by 26 or 33 alone.
+fn refused(why: Refusal) -> NoEnd {
+    match why {
+        Refusal::UseBeyond | Refusal::PoolUnlike => NoEnd::Refused(why),
+        _ => NoEnd::Differs,
+    }
+}
+
+// What both planners say of the job that two become.
 fn together(first: Job, second: Job) -> Outcome {
-    let pooled = pooling::pool(first, second).map_err(NoEnd::Refused)?;
+    let pooled = pooling::pool(first, second).map_err(refused)?;
     two_planners::compare(pooled)
 }
 
