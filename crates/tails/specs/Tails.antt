@@ -28,3 +28,8 @@ pub record TailTable (sets numbers : List ℕ) (actions goal : ℕ) (tails : Lis
   pub size : length tails ≡ 64
   pub of_goal : EachAtMost tails goal 0
   pub of_needs : (i : ℕ) → i < actions → ClosedAt sets numbers tails i
+
+-- each of 64 entries is so much
+pub record AllAre (tails : List ℕ) (minutes : ℕ) : Type 0 where
+  pub size : length tails ≡ 64
+  pub each : (p : ℕ) → p < 64 → get_or tails p 0 ≡ minutes
